@@ -1,0 +1,1 @@
+// No code: what the product is accepted by.

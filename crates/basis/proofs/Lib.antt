@@ -1,0 +1,4 @@
+pub mod Digits
+pub mod Rules
+pub mod Tests
+pub mod Unique

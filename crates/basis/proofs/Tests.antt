@@ -1,0 +1,25 @@
+-- Laws of tests: the two halves of a conjunction, and one computed test as a rule at every number below its bound.
+use mathlib.Core.Path.{_≡_, refl, sym, _∙_, ap, subst}
+use mathlib.Core.Bool.{Bool, true, false, _&&_, false≢true}
+use mathlib.Core.Logic.{_≢_}
+use Prim.Native.Nat.{ℕ, zero, suc, _<_, _≤_}
+use native.Mathlib.Omega.{arith}
+use native.Mathlib.Decide.{ℕ-discrete}
+use Rattle.basis.specs.Tests.{allBelow}
+
+pub and-left : (a b : Bool) → a && b ≡ true → a ≡ true
+and-left true b e = refl
+and-left false b e = absurd (false≢true e)
+
+pub and-right : (a b : Bool) → a && b ≡ true → b ≡ true
+and-right true b e = e
+and-right false b e = absurd (false≢true e)
+
+pub below : (f : ℕ → Bool) (n : ℕ) → allBelow f n ≡ true → (k : ℕ) → k < n → f k ≡ true
+unfolding allBelow
+below f zero e k h = absurd (omega arith)
+below f (suc n) e k h = by-place (ℕ-discrete k n) (below f n (and-right (f n) (allBelow f n) e) k)
+  where
+    by-place : Dec (k ≡ n) → (k < n → f k ≡ true) → f k ≡ true
+    by-place (yes same) rest = ap f same ∙ and-left (f n) (allBelow f n) e
+    by-place (no other) rest = rest (omega arith)

@@ -1,0 +1,48 @@
+-- `ip_options::calculate_ipv6_length` meets its contract.
+use Rattle.ip_options.proofs.Laws.{payload-size, v6-no-payload, v6-tcp, v6-fragment, v6-one-byte, v6-eights}
+use native.Mathlib.Omega.{arith}
+use mathlib.Core.Path.{sym, _∙_}
+use borrow.Author.Needs.{needs}
+use Rattle.ip_options.proofs.calculate_ipv6_length.Statement.{statement}
+use Rattle.ip_options.proofs.calculate_ipv6_length.Tie as tie
+
+payload-size-requires : tie.Need-payload-size-requires
+payload-size-requires c κs = search needs
+
+returns : tie.Need-returns
+returns c = sym (v6-no-payload _ (sym (c .before .payload-size .ensures) ∙ c .if1 .taken))
+
+shared-slice-read-next-header : tie.Need-shared-slice-read-next-header
+shared-slice-read-next-header c = omega (arith, payload-size (c .before .before .before .before .args .packet .now))
+
+returns-2 : tie.Need-returns-2
+returns-2 c = sym (v6-tcp _ (c .if2 .taken))
+
+returns-3 : tie.Need-returns-3
+returns-3 c = sym (v6-fragment _ (c .before .if2 .left) (λ e. c .before .before .before .if1 .left (c .before .before .before .before .payload-size .ensures ∙ e)) (c .if3 .taken))
+
+returns-4 : tie.Need-returns-4
+returns-4 c = sym (v6-one-byte _ (c .before .before .if2 .left) (λ e. c .before .before .before .before .if1 .left (c .before .before .before .before .before .payload-size .ensures ∙ e)) (c .before .if3 .left) (omega (arith, c .before .before .before .before .before .payload-size .ensures)))
+
+shared-slice-read-eights : tie.Need-shared-slice-read-eights
+shared-slice-read-eights c = omega (arith, payload-size (c .before .before .before .before .before .before .before .before .args .packet .now))
+
+eights-requires : tie.Need-eights-requires
+eights-requires c κs = search needs
+
+returns-5 : tie.Need-returns-5
+returns-5 c = c .eights .ensures ∙ sym (v6-eights _ (c .before .before .before .before .if2 .left) (λ e. c .before .before .before .before .before .before .if1 .left (c .before .before .before .before .before .before .before .payload-size .ensures ∙ e)) (c .before .before .before .if3 .left) (omega (arith, c .before .before .before .before .before .before .before .payload-size .ensures)))
+
+pub calculate-ipv6-length-spec : {M : Type 1} → statement M
+calculate-ipv6-length-spec =
+    tie.close
+    (tie.spec
+    payload-size-requires
+    returns
+    shared-slice-read-next-header
+    returns-2
+    returns-3
+    returns-4
+    shared-slice-read-eights
+    eights-requires
+    returns-5)

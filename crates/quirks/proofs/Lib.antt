@@ -1,0 +1,5 @@
+pub mod Laws
+pub mod Named
+pub mod Places
+pub mod Subset
+pub mod Unique

@@ -1,0 +1,3 @@
+pub mod Rfc791
+pub mod Rfc8200
+pub mod Rfc9293

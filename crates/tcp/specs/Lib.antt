@@ -1,0 +1,1 @@
+-- The types of this crate are its source's; it defines nothing more.

@@ -1,0 +1,71 @@
+-- The row that the code holds gives the multiplier of the twelve.
+use mathlib.Core.Path.{_≡_, refl, sym}
+use mathlib.Core.Bool.{Bool, true, false, cond, not, _&&_, false≢true}
+use mathlib.Core.List.{List, [], _∷_, map}
+use Prim.Native.Nat.{ℕ, zero, suc, _+_, _<_, _≤_}
+use native.Mathlib.Omega.{arith}
+use native.Mathlib.Numerals.{add-one}
+use lib.Dec.{eqb}
+use lib.ListN.{length, getD, drop, drop-of-length-le}
+use lib.Seq.{drop-cons}
+use borrow.Author.Tests.{ne-eqb}
+use Rattle.window_size.specs.declared.Divisor.{Divisor}
+use Rattle.window_size.specs.declared.Multiplier.{Multiplier}
+use Rattle.window_size.specs.declared.Multiplier.the-variants.{Absent, Present}
+use Rattle.window_size.specs.Divisors.{Candidate, divides}
+use Rattle.window_size.specs.Multiplier.{quotient, firstMultiple}
+use Rattle.window_size.specs.Held.{held, firstHeld}
+
+-- A divisor of the peer's MSS needs no test of the peer: it is 0 where the peer is.
+pub of-peer : (peer n : ℕ) → (peer ≡ 0 → n ≡ 0) → cond (not (eqb peer 0)) n 0 ≡ n
+of-peer zero n h = sym (h refl)
+of-peer (suc peer) n h = rw (ne-eqb (suc peer) 0 (omega arith))
+
+pub divides-nonzero : (size window : ℕ) → divides size window ≡ true → size ≡ 0 → ⊥
+unfolding divides
+divides-nonzero zero window e z = false≢true e
+divides-nonzero (suc size) window e z = omega arith
+
+-- ---- 0 stands for a divisor that does not apply
+
+one-held
+    : (window : ℕ) (c : Candidate) (rest : Multiplier)
+    → cond (divides (held c .size) window) (Present (quotient window (held c .size) (c .ofMtu))) rest
+    ≡ cond (c .applies && divides (c .size) window) (Present (quotient window (c .size) (c .ofMtu))) rest
+unfolding divides
+one-held window c rest = by-applies (c .applies)
+  where
+    by-applies
+        : (a : Bool)
+        → cond (divides (cond a (c .size) 0) window) (Present (quotient window (cond a (c .size) 0) (c .ofMtu))) rest
+        ≡ cond (a && divides (c .size) window) (Present (quotient window (c .size) (c .ofMtu))) rest
+    by-applies true = refl
+    by-applies false = refl
+
+pub first-held : (window : ℕ) (cs : List Candidate) → firstHeld window (map held cs) ≡ firstMultiple window cs
+unfolding firstHeld firstMultiple
+first-held window [] = refl
+first-held window (c ∷ cs) = rw (first-held window cs) (one-held window c (firstMultiple window cs))
+
+-- ---- one turn of the loop, and its end
+
+-- The divisor at a place; past the end, none.
+abbrev pub divisorAt : List Divisor → ℕ → Divisor
+divisorAt ds i = getD ds i (record { size = 0; «of_mtu» = false })
+
+module _ (window : ℕ) (ds : List Divisor) (i : ℕ) (inside : i < length ds) where
+  pub turn-hit
+      : divides (divisorAt ds i .size) window ≡ true
+      → firstHeld window (drop i ds) ≡ Present (quotient window (divisorAt ds i .size) (divisorAt ds i .«of_mtu»))
+  unfolding firstHeld
+  turn-hit e = rw (drop-cons ds i (record { size = 0; «of_mtu» = false }) inside, e)
+
+  pub turn-miss
+      : divides (divisorAt ds i .size) window ≡ false
+      → firstHeld window (drop (i + 1) ds) ≡ firstHeld window (drop i ds)
+  unfolding firstHeld
+  turn-miss e = rw (drop-cons ds i (record { size = 0; «of_mtu» = false }) inside, e, add-one)
+
+pub turns-end : (window : ℕ) (ds : List Divisor) (i : ℕ) → length ds ≤ i → firstHeld window (drop i ds) ≡ Absent
+unfolding firstHeld
+turns-end window ds i h = rw (drop-of-length-le ds h)
