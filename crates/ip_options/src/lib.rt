@@ -1,9 +1,11 @@
 // ip_options.rs: the length of IPv4 options and of IPv6 extension headers. The original takes pnet's views of a packet; here a
 // packet is lent as bytes, and the views' rules are those of document 01.
 ghost use mathlib.Core.Path.{_≡_};
-ghost use Prim.Native.Nat.{_+_, _*_, _%_, min};
+ghost use Prim.Native.Nat.{_+_, _*_, _%_};
 ghost use lib.ListN.{length};
 ghost use Rattle.rfc.specs.Rfc8200.{payload};
+use numbers::be16;
+use numbers::least;
 ghost use Rattle.ip_options.specs.IpOptions.{ipv4OptionLength, ipv6ExtensionLength};
 
 // Protocol numbers.
@@ -53,20 +55,10 @@ fn payload_size(packet: &[u8]) -> usize
     if packet.len() <= IPV6_HEADER {
         return 0;
     }
-    least(number(packet[4], packet[5]), packet.len() - IPV6_HEADER)
-}
-
-// A two-byte number, its high byte first.
-fn number(high: u8, low: u8) -> usize
-    ensures { λ r. ⌜ r ≡ high * 256 + low ⌝ }
-{
-    (high as usize) * 256 + (low as usize)
-}
-
-fn least(a: usize, b: usize) -> usize
-    ensures { λ r. ⌜ r ≡ min a b ⌝ }
-{
-    if a <= b { a } else { b }
+    least(
+        be16(packet[4], packet[5]) as usize,
+        packet.len() - IPV6_HEADER,
+    )
 }
 
 // A length in units of eight bytes, the first of which is not counted, cut to a byte.

@@ -1,7 +1,7 @@
 -- Quirks and sets of quirks (document 01, module 1; the places are those of p0f's QUIRK_*).
 use mathlib.Core.Path.{_≡_}
 use Prim.Native.Nat.{ℕ, _-_, _^_, _<_}
-use mathlib.Core.Bool.{Bool, true}
+use mathlib.Core.Bool.{Bool, true, cond}
 use lib.Dec.{eqb}
 use lib.Bits.{bitAnd, bitOr}
 use Rattle.basis.specs.Digits.{digit}
@@ -55,6 +55,10 @@ isEmpty s = eqb (bitsOf s) 0
 -- Bit by bit: one quirk more; in the first and not in the second; in either; in both.
 unfoldable pub with : QuirkSet → Quirk → QuirkSet
 with s q = setOf (bitOr (bitsOf s) (bitOf q))
+
+-- One quirk more where a test holds.
+unfoldable pub addIf : Bool → Quirk → QuirkSet → QuirkSet
+addIf t q s = cond t (with s q) s
 
 unfoldable pub difference : QuirkSet → QuirkSet → QuirkSet
 difference a b = setOf (bitAnd (bitsOf a) (2 ^ 32 - 1 - bitsOf b))

@@ -1,7 +1,7 @@
 // quirks.rs: quirks of IP and TCP headers, and sets of them as the bits of p0f's QUIRK_*.
 ghost use mathlib.Core.Path.{_≡_};
 ghost use Prim.Native.Nat.{ℕ};
-ghost use Rattle.quirks.specs.Quirks.{bitOf, setOf, bitsOf, isEmpty, contains, with, difference, union, intersection};
+ghost use Rattle.quirks.specs.Quirks.{bitOf, setOf, bitsOf, isEmpty, contains, with, addIf, difference, union, intersection};
 ghost use Rattle.quirks.specs.Named.{namedSets};
 
 // A quirk, in the order of p0f's text form (the names are the original's, its spelling included).
@@ -120,6 +120,13 @@ impl QuirkSet {
         ensures { λ r. ⌜ r ≡ with self quirk ⌝ }
     {
         self.with(quirk)
+    }
+
+    // The set with one quirk more where a test holds: the original's `if test { quirks.insert(quirk) }`.
+    pub fn add_if(self, test: bool, quirk: Quirk) -> Self
+        ensures { λ r. ⌜ r ≡ addIf test quirk self ⌝ }
+    {
+        if test { self.with(quirk) } else { self }
     }
 
     // The quirks of this set that the other lacks.

@@ -2,14 +2,14 @@
 use Prim.Native.Nat.{ℕ, _+_, _*_, _/_, _%_, _-_, min, max}
 use mathlib.Core.List.{List}
 use lib.ListN.{length}
-use Rattle.basis.specs.Bytes.{byteAt, be16, part}
+use Rattle.basis.specs.Bytes.{byteAt, be16, be32, part}
 
--- Sequence Number and Acknowledgment Number, as their four bytes.
-abbrev pub sequence : List ℕ → List ℕ
-sequence t = part 4 8 t
+-- Sequence Number and Acknowledgment Number.
+abbrev pub sequence : List ℕ → ℕ
+sequence t = be32 t 4
 
-abbrev pub acknowledgment : List ℕ → List ℕ
-acknowledgment t = part 8 12 t
+abbrev pub acknowledgment : List ℕ → ℕ
+acknowledgment t = be32 t 8
 
 -- Data Offset, in words of four bytes.
 abbrev pub dataOffset : List ℕ → ℕ
@@ -22,9 +22,8 @@ control t = byteAt t 13
 abbrev pub window : List ℕ → ℕ
 window t = be16 t 14
 
--- Urgent Pointer, as its two bytes.
-abbrev pub urgentPointer : List ℕ → List ℕ
-urgentPointer t = part 18 20 t
+abbrev pub urgentPointer : List ℕ → ℕ
+urgentPointer t = be16 t 18
 
 -- Document 01, "Headers and options": "TCP options run from 20 to 4 x data offset, clipped to the part; a data offset under 5 gives none."
 abbrev pub optionsEnd : List ℕ → ℕ

@@ -24,3 +24,11 @@ pub enum PayloadSize {
     Zero,
     NonZero,
 }
+
+// The options of a segment in their order: `Vec<TcpOption>`. An entry is an option's kind and, for kind 0, the bytes left after
+// it, else 0; entries from `count` on are 0.
+pub struct Layout {
+    pub kinds: [u8; 40],
+    pub bytes: [u8; 40],
+    pub count: usize,
+}

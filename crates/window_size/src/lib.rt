@@ -2,10 +2,11 @@
 ghost use mathlib.Core.Path.{_≡_};
 ghost use mathlib.Core.Bool.{cond};
 ghost use mathlib.Core.List.{map};
-ghost use Prim.Native.Nat.{_+_, _-_};
-ghost use Rattle.window_size.specs.Divisors.{divides, isV6, peerSize, twelve, upTo65535};
+ghost use Rattle.window_size.specs.Divisors.{divides, isV6, peerSize, twelve};
 ghost use Rattle.window_size.specs.Held.{held, firstHeld};
 ghost use Rattle.window_size.specs.Multiplier.{multiplierOf};
+use numbers::saturating_add;
+use numbers::saturating_sub;
 use tcp::IpVersion;
 use tcp::Mss;
 
@@ -38,18 +39,6 @@ const ETH_MTU: u16 = 1500;
 const TS_SIZE: u16 = 12;
 // Below this an MSS says nothing of the window.
 const MIN_USEFUL_MSS: u16 = 100;
-
-fn saturating_sub(a: u16, b: u16) -> u16
-    ensures { λ r. ⌜ r ≡ a - b ⌝ }
-{
-    if b <= a { a - b } else { 0 }
-}
-
-fn saturating_add(a: u16, b: u16) -> u16
-    ensures { λ r. ⌜ r ≡ upTo65535 (a + b) ⌝ }
-{
-    if a <= 65535 - b { a + b } else { 65535 }
-}
 
 fn only_if(applies: bool, divisor: u16) -> u16
     ensures { λ r. ⌜ r ≡ cond applies divisor 0 ⌝ }

@@ -9,14 +9,17 @@ use Rattle.ip_options.proofs.payload_size.Tie as tie
 returns : tie.Need-returns
 returns c = rw payload-size (omega arith)
 
-shared-slice-read-number : tie.Need-shared-slice-read-number
-shared-slice-read-number c = search needs
+shared-slice-read-be16 : tie.Need-shared-slice-read-be16
+shared-slice-read-be16 c = search needs
 
-shared-slice-read-number-2 : tie.Need-shared-slice-read-number-2
-shared-slice-read-number-2 c = search needs
+shared-slice-read-be16-2 : tie.Need-shared-slice-read-be16-2
+shared-slice-read-be16-2 c = search needs
 
-number-requires : tie.Need-number-requires
-number-requires c κs = search needs
+be16-requires : tie.Need-be16-requires
+be16-requires c κs = search needs
+
+cast-least : tie.Need-cast-least
+cast-least c = search needs
 
 sub-least : tie.Need-sub-least
 sub-least c = search needs
@@ -33,9 +36,10 @@ payload-size-spec =
     tie.close
     (tie.spec
     returns
-    shared-slice-read-number
-    shared-slice-read-number-2
-    number-requires
+    shared-slice-read-be16
+    shared-slice-read-be16-2
+    be16-requires
+    cast-least
     sub-least
     least-requires
     returns-2)

@@ -1,0 +1,15 @@
+-- `flow::is_fragment` meets its contract.
+use Rattle.flow.proofs.Flags.{fragment-high, fragment-low}
+use mathlib.Core.Path.{sym}
+use borrow.Author.Needs.{needs}
+use Rattle.flow.proofs.is_fragment.Statement.{statement}
+use Rattle.flow.proofs.is_fragment.Tie as tie
+
+returns : tie.Need-returns
+returns c = sym (fragment-high _ _ (c .if1 .taken))
+
+returns-2 : tie.Need-returns-2
+returns-2 c = sym (fragment-low _ _ (search needs) (c .if1 .left))
+
+pub is-fragment-spec : {M : Type 1} → statement M
+is-fragment-spec = tie.close (tie.spec returns returns-2)

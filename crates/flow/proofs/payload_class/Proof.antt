@@ -1,0 +1,44 @@
+-- `flow::payload_class` meets its contract.
+use Rattle.rfc.specs.Rfc9293.{payloadSize}
+use native.Mathlib.Omega.{arith}
+use borrow.Author.Tests.{eq-eqb, ne-eqb}
+use Rattle.flow.specs.Tcp.{payloadClass}
+use borrow.Author.Needs.{needs}
+use Rattle.flow.proofs.payload_class.Statement.{statement}
+use Rattle.flow.proofs.payload_class.Tie as tie
+
+shared-slice-read-wide : tie.Need-shared-slice-read-wide
+shared-slice-read-wide c = search needs
+
+wide-requires : tie.Need-wide-requires
+wide-requires c κs = search needs
+
+cast-header : tie.Need-cast-header
+cast-header c = search needs
+
+mul-header : tie.Need-mul-header
+mul-header c = search needs
+
+returns : tie.Need-returns
+unfolding payloadClass
+returns c = rw (eq-eqb (payloadSize (c .before .before .before .before .args .tcp .now)) 0 (omega arith))
+
+returns-2 : tie.Need-returns-2
+unfolding payloadClass
+returns-2 c = rw (eq-eqb (payloadSize (c .before .before .before .before .before .args .tcp .now)) 0 (omega arith))
+
+returns-3 : tie.Need-returns-3
+unfolding payloadClass
+returns-3 c = rw (ne-eqb (payloadSize (c .before .before .before .before .before .args .tcp .now)) 0 (omega arith))
+
+pub payload-class-spec : {M : Type 1} → statement M
+payload-class-spec =
+    tie.close
+    (tie.spec
+    shared-slice-read-wide
+    wide-requires
+    cast-header
+    mul-header
+    returns
+    returns-2
+    returns-3)

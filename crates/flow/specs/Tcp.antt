@@ -1,0 +1,77 @@
+-- The TCP stage: from the facts of the IP header, the TCP part and the peer's MSS to an observation, "nothing", or refusal 7.
+use Prim.Native.Nat.{ℕ, _+_, _*_, min}
+use mathlib.Core.Bool.{Bool, true, false, cond, not, _&&_, _||_}
+use mathlib.Core.List.{List}
+use lib.Dec.{eqb}
+use Rattle.quirks.specs.declared.Quirk.the-variants as quirk
+use Rattle.quirks.specs.declared.QuirkSet.{QuirkSet}
+use Rattle.quirks.specs.Quirks.{addIf}
+use Rattle.rfc.specs.Rfc9293 as tcp
+use Rattle.tcp.specs.declared.Mss.{Mss}
+use Rattle.tcp.specs.declared.Mss.the-variants as mss
+use Rattle.tcp.specs.declared.PayloadSize.{PayloadSize}
+use Rattle.tcp.specs.declared.PayloadSize.the-variants as payload
+use Rattle.observable.specs.declared.TcpObservation.{TcpObservation}
+use Rattle.observable.specs.Observation.{emptyObservation}
+use Rattle.syn_options.specs.declared.Walked.{Walked}
+use Rattle.syn_options.specs.Walk.{walkOf}
+use Rattle.flow.specs.declared.IpFacts.{IpFacts}
+use Rattle.flow.specs.declared.Answer.the-variants as answer
+use Rattle.flow.specs.declared.Reading.{Reading}
+use Rattle.flow.specs.declared.Refusal.the-variants as refusal
+use Rattle.flow.specs.Flags.{isSet, flagsInvalid, isSynType, isSynAckType}
+
+-- The quirks of a TCP header, added to those of the IP header, by its flags, sequence number, acknowledgment number and urgent
+-- pointer: ecn; seq- (sequence number 0); ack- (ACK with number 0) and ack+ (a number without ACK or RST); urgf+ (URG) and
+-- uptr+ (a pointer without URG); pushf+ (PSH).
+unfoldable pub headerQuirks : ℕ → ℕ → ℕ → ℕ → QuirkSet → QuirkSet
+headerQuirks flags sequence acknowledgment urgent q =
+    addIf (isSet (tcp.psh flags)) quirk.Push
+    (addIf (not (isSet (tcp.urg flags)) && not (eqb urgent 0)) quirk.NonZeroURG
+    (addIf (isSet (tcp.urg flags)) quirk.Urg
+    (addIf (not (isSet (tcp.ack flags)) && not (eqb acknowledgment 0) && not (isSet (tcp.rst flags))) quirk.AckNumNonZero
+    (addIf (isSet (tcp.ack flags) && eqb acknowledgment 0) quirk.AckNumZero
+    (addIf (eqb sequence 0) quirk.SeqNumZero
+    (addIf (isSet (tcp.ece flags) || isSet (tcp.cwr flags)) quirk.Ecn
+    q))))))
+
+-- The quirks that both headers of a packet show.
+unfoldable pub shownQuirks : List ℕ → QuirkSet → QuirkSet
+shownQuirks t q = headerQuirks (tcp.control t) (tcp.sequence t) (tcp.acknowledgment t) (tcp.urgentPointer t) q
+
+-- "its class says only whether it is empty"
+unfoldable pub payloadClass : List ℕ → PayloadSize
+payloadClass t = cond (eqb (tcp.payloadSize t) 0) payload.Zero payload.NonZero
+
+-- The observation: the IP facts, the walk over the options, the window, and the peer's MSS.
+unfoldable pub observationOf : IpFacts → List ℕ → Walked → Mss → TcpObservation
+observationOf f t w peer =
+    record {
+      version = f .version;
+      ittl = f .ittl;
+      olen = f .olen;
+      mss = w .seen .mss;
+      wsize = tcp.window t;
+      «tot_hdr» = min (f .«header_bytes» + 4 * tcp.dataOffset t) 65535;
+      wscale = w .seen .wscale;
+      olayout = w .olayout;
+      quirks = w .seen .quirks;
+      pclass = payloadClass t;
+      «peer_mss» = peer;
+      tos = f .tos;
+    }
+
+-- The walk goes on after clipping (`stop` is false); only a SYN shows the peer's timestamp.
+unfoldable pub observed : IpFacts → List ℕ → Bool → Mss → TcpObservation
+observed f t syn peer = observationOf f t (walkOf false syn (shownQuirks t (f .quirks)) (tcp.options t)) peer
+
+-- "only a SYN+ACK's observation takes [the peer's MSS]; a SYN's has none"
+unfoldable pub readTcp : IpFacts → List ℕ → Mss → Reading
+readTcp f t peer =
+    cond (flagsInvalid (tcp.control t))
+    (record { answer = answer.Refused (refusal.InvalidTcpFlags (tcp.control t)); observation = emptyObservation })
+    (cond (isSynType (tcp.control t))
+    (record { answer = answer.Syn; observation = observed f t true mss.Absent })
+    (cond (isSynAckType (tcp.control t))
+    (record { answer = answer.SynAck; observation = observed f t false peer })
+    (record { answer = answer.Nothing; observation = emptyObservation })))

@@ -1,0 +1,24 @@
+-- Exactly one result meets each function's own contract.
+use Prim.Native.Nat.{ℕ, _+_, _*_, _-_, min}
+use Rattle.basis.specs.Unique.{ExactlyOne}
+use Rattle.basis.proofs.Unique.{equation}
+use Rattle.numbers.proofs.be16.Reads as be16'
+use Rattle.numbers.proofs.be32.Reads as be32'
+use Rattle.numbers.proofs.least.Reads as least'
+use Rattle.numbers.proofs.saturating_sub.Reads as saturating-sub'
+use Rattle.numbers.proofs.saturating_add.Reads as saturating-add'
+
+pub be16-one : (high low : ℕ) → ExactlyOne ℕ (λ (r : ℕ). be16'.Post tt (high, (low, tt)) r (high, (low, tt)))
+be16-one high low = equation (high * 256 + low)
+
+pub be32-one : (high low : ℕ) → ExactlyOne ℕ (λ (r : ℕ). be32'.Post tt (high, (low, tt)) r (high, (low, tt)))
+be32-one high low = equation (high * 65536 + low)
+
+pub least-one : (a b : ℕ) → ExactlyOne ℕ (λ (r : ℕ). least'.Post tt (a, (b, tt)) r (a, (b, tt)))
+least-one a b = equation (min a b)
+
+pub saturating-sub-one : (a b : ℕ) → ExactlyOne ℕ (λ (r : ℕ). saturating-sub'.Post tt (a, (b, tt)) r (a, (b, tt)))
+saturating-sub-one a b = equation (a - b)
+
+pub saturating-add-one : (a b : ℕ) → ExactlyOne ℕ (λ (r : ℕ). saturating-add'.Post tt (a, (b, tt)) r (a, (b, tt)))
+saturating-add-one a b = equation (min (a + b) 65535)

@@ -1,0 +1,1 @@
+-- The promises of this crate are written in the arithmetic of natural numbers; it defines nothing more.

@@ -1,0 +1,20 @@
+-- `syn_options::entry_byte` meets its contract.
+use Rattle.syn_options.specs.Walk.{entryByte}
+use Rattle.basis.proofs.Rules.{cases}
+use borrow.Author.Needs.{needs}
+use Rattle.syn_options.proofs.entry_byte.Statement.{statement}
+use Rattle.syn_options.proofs.entry_byte.Tie as tie
+
+cast-result : tie.Need-cast-result
+cast-result c = search needs
+
+returns : tie.Need-returns
+unfolding entryByte
+returns c = search cases
+
+returns-2 : tie.Need-returns-2
+unfolding entryByte
+returns-2 c = search cases
+
+pub entry-byte-spec : {M : Type 1} → statement M
+entry-byte-spec = tie.close (tie.spec cast-result returns returns-2)

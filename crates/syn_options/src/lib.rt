@@ -1,0 +1,308 @@
+// syn_options.rs, and the option walk of flow.rs: one walk, which stops before an option that runs past the end or goes on
+// after clipping it.
+ghost use mathlib.Core.Path.{_≡_};
+ghost use mathlib.Core.Bool.{_&&_};
+ghost use Prim.Native.Nat.{_≤_};
+ghost use lib.Dec.{ltb};
+ghost use lib.ListN.{length};
+ghost use Rattle.basis.specs.Bytes.{anyNonzero};
+ghost use Rattle.syn_options.specs.Options.{asked, optionsOf};
+ghost use Rattle.quirks.specs.Named.{empty};
+ghost use Rattle.syn_options.specs.Walk.{entryByte, seeOption, startWalk, walkFrom, walkOf, parsedOf, parseOptionsRaw};
+use numbers::be16;
+use numbers::be32;
+use numbers::least;
+use quirks::Quirk;
+use quirks::QuirkSet;
+use tcp::Layout;
+use tcp::Mss;
+use tcp::Wscale;
+
+// The option kinds that are read.
+const EOL: u8 = 0;
+
+const NOP: u8 = 1;
+
+const MSS: u8 = 2;
+
+const WSCALE: u8 = 3;
+
+const TIMESTAMPS: u8 = 8;
+
+// The most bytes that options take: a data offset of 15 words, less the header's five.
+const MOST_OPTIONS: usize = 40;
+
+// What the options have said so far, the layout apart.
+pub struct Seen {
+    pub mss: Mss,
+    pub wscale: Wscale,
+    pub quirks: QuirkSet,
+}
+
+// What a walk gives.
+pub struct Walked {
+    pub olayout: Layout,
+    pub seen: Seen,
+    // It stopped before an option that runs past the end.
+    pub malformed: bool,
+}
+
+// What parse_options_raw gives.
+pub struct ParsedTcpOptions {
+    pub olayout: Layout,
+    pub mss: Mss,
+    pub wscale: Wscale,
+    pub malformed: bool,
+}
+
+// An option string is parsed, or refused (number 8) with empty options beside.
+pub enum OptionsAnswer {
+    Parsed,
+    Refused,
+}
+
+pub struct OptionsRead {
+    pub answer: OptionsAnswer,
+    pub options: ParsedTcpOptions,
+}
+
+// ---- one option
+
+// The bytes that an option asks for after its kind, of those that are left.
+fn asked_bytes(kind: u8, rest: &[u8]) -> usize
+    ensures { λ r. ⌜ r ≡ asked kind (now (rest .entry)) ⌝ }
+{
+    if kind == EOL {
+        return rest.len();
+    }
+    if kind == NOP {
+        return 0;
+    }
+    if rest.len() == 0 {
+        return 1;
+    }
+    let length = rest[0] as usize;
+    if length < 2 {
+        return 1;
+    }
+    length - 1
+}
+
+fn entry_byte(kind: u8, left: usize) -> u8
+    requires { ⌜ left ≤ 40 ⌝ }
+    ensures { λ r. ⌜ r ≡ entryByte kind left ⌝ }
+{
+    if kind == EOL { left as u8 } else { 0 }
+}
+
+// Some byte is not 0.
+fn any_nonzero(s: &[u8]) -> bool
+    ensures { λ r. ⌜ r ≡ anyNonzero (now (s .entry)) ⌝ }
+{
+    let mut i = 0;
+    while i < s.len() {
+        if s[i] != 0 {
+            return true;
+        }
+        i += 1;
+    }
+    false
+}
+
+fn see_end(own: &[u8], syn: bool, seen: Seen) -> Seen
+    ensures { λ r. ⌜ r ≡ seeOption syn seen (record { kind = 0; own = now (own .entry) }) ⌝ }
+{
+    let mss = seen.mss;
+    let wscale = seen.wscale;
+    let quirks = seen.quirks;
+    Seen {
+        mss,
+        wscale,
+        quirks: quirks.add_if(any_nonzero(own), Quirk::TrailinigNonZero),
+    }
+}
+
+fn see_mss(own: &[u8], syn: bool, seen: Seen) -> Seen
+    ensures { λ r. ⌜ r ≡ seeOption syn seen (record { kind = 2; own = now (own .entry) }) ⌝ }
+{
+    if own.len() < 3 {
+        return seen;
+    }
+    let wscale = seen.wscale;
+    let quirks = seen.quirks;
+    Seen {
+        mss: Mss::Present(be16(own[1], own[2])),
+        wscale,
+        quirks,
+    }
+}
+
+fn see_scale(own: &[u8], syn: bool, seen: Seen) -> Seen
+    ensures { λ r. ⌜ r ≡ seeOption syn seen (record { kind = 3; own = now (own .entry) }) ⌝ }
+{
+    if own.len() < 2 {
+        return seen;
+    }
+    let mss = seen.mss;
+    let quirks = seen.quirks;
+    let scale = own[1];
+    Seen {
+        mss,
+        wscale: Wscale::Present(scale),
+        quirks: quirks.add_if(14 < scale, Quirk::ExcessiveWindowScaling),
+    }
+}
+
+fn see_timestamps(own: &[u8], syn: bool, seen: Seen) -> Seen
+    ensures { λ r. ⌜ r ≡ seeOption syn seen (record { kind = 8; own = now (own .entry) }) ⌝ }
+{
+    if own.len() < 5 {
+        return seen;
+    }
+    let mss = seen.mss;
+    let wscale = seen.wscale;
+    let before = seen.quirks;
+    let own_stamp = be32(be16(own[1], own[2]), be16(own[3], own[4]));
+    let quirks = before.add_if(own_stamp == 0, Quirk::OwnTimestampZero);
+    if own.len() < 9 {
+        return Seen {
+            mss,
+            wscale,
+            quirks,
+        };
+    }
+    let peer_stamp = be32(be16(own[5], own[6]), be16(own[7], own[8]));
+    Seen {
+        mss,
+        wscale,
+        quirks: quirks.add_if(syn & (peer_stamp != 0), Quirk::PeerTimestampNonZero),
+    }
+}
+
+fn see_option(kind: u8, own: &[u8], syn: bool, seen: Seen) -> Seen
+    ensures { λ r. ⌜ r ≡ seeOption syn seen (record { kind = kind; own = now (own .entry) }) ⌝ }
+{
+    if kind == NOP {
+        return seen;
+    }
+    if kind == MSS {
+        return see_mss(own, syn, seen);
+    }
+    if kind == WSCALE {
+        return see_scale(own, syn, seen);
+    }
+    if kind == TIMESTAMPS {
+        return see_timestamps(own, syn, seen);
+    }
+    if kind == EOL {
+        return see_end(own, syn, seen);
+    }
+    seen
+}
+
+// ---- the walk
+
+// A walk that is to stop stops before an option that asks for more than is left.
+fn stops(stop: bool, asked: usize, left: usize) -> bool
+    ensures { λ r. ⌜ r ≡ stop && ltb left asked ⌝ }
+{
+    if stop { left < asked } else { false }
+}
+
+// The walk of at most forty bytes. Each option fills one entry of the layout, so that the entries never outnumber the bytes.
+fn walk_part(options: &[u8], stop: bool, syn: bool, quirks: QuirkSet) -> Walked
+    requires { ⌜ length (now options) ≤ 40 ⌝ }
+    ensures { λ r. ⌜ r ≡ walkFrom stop syn (startWalk quirks) (optionsOf (now (options .entry))) ⌝ }
+{
+    let mut kinds = [0u8; 40];
+    let mut bytes = [0u8; 40];
+    let mut count = 0;
+    let mut seen = Seen {
+        mss: Mss::Absent,
+        wscale: Wscale::Absent,
+        quirks,
+    };
+    let mut malformed = false;
+    let mut at = 0;
+    while at < options.len() {
+        let kind = options[at];
+        let start = at + 1;
+        let left = options.len() - start;
+        let asked = asked_bytes(kind, &options[start..]);
+        if stops(stop, asked, left) {
+            malformed = true;
+            break;
+        }
+        let next = start + least(asked, left);
+        kinds[count] = kind;
+        bytes[count] = entry_byte(kind, next - start);
+        count += 1;
+        seen = see_option(kind, &options[start..next], syn, seen);
+        at = next;
+    }
+    Walked {
+        olayout: Layout {
+            kinds,
+            bytes,
+            count,
+        },
+        seen,
+        malformed,
+    }
+}
+
+// The walk of an option string, of which no more than forty bytes are read.
+pub fn walk_options(options: &[u8], stop: bool, syn: bool, quirks: QuirkSet) -> Walked
+    ensures { λ r. ⌜ r ≡ walkOf stop syn quirks (now (options .entry)) ⌝ }
+{
+    let end = least(options.len(), MOST_OPTIONS);
+    walk_part(&options[0..end], stop, syn, quirks)
+}
+
+// ---- parse_options_raw
+
+fn parsed(walked: Walked) -> ParsedTcpOptions
+    ensures { λ r. ⌜ r ≡ parsedOf walked ⌝ }
+{
+    let olayout = walked.olayout;
+    let seen = walked.seen;
+    let mss = seen.mss;
+    let wscale = seen.wscale;
+    ParsedTcpOptions {
+        olayout,
+        mss,
+        wscale,
+        malformed: walked.malformed,
+    }
+}
+
+fn nothing_parsed() -> ParsedTcpOptions
+    ensures { λ r. ⌜ r ≡ parsedOf (startWalk empty) ⌝ }
+{
+    ParsedTcpOptions {
+        olayout: Layout {
+            kinds: [0u8; 40],
+            bytes: [0u8; 40],
+            count: 0,
+        },
+        mss: Mss::Absent,
+        wscale: Wscale::Absent,
+        malformed: false,
+    }
+}
+
+// Layout, MSS and scale of an option string, up to the first option that runs past the end; refusal 8 over forty bytes.
+pub fn parse_options_raw(buf: &[u8]) -> OptionsRead
+    ensures { λ r. ⌜ r ≡ parseOptionsRaw (now (buf .entry)) ⌝ }
+{
+    if MOST_OPTIONS < buf.len() {
+        return OptionsRead {
+            answer: OptionsAnswer::Refused,
+            options: nothing_parsed(),
+        };
+    }
+    OptionsRead {
+        answer: OptionsAnswer::Parsed,
+        options: parsed(walk_options(buf, true, false, QuirkSet::EMPTY)),
+    }
+}
