@@ -1,3 +1,4 @@
 pub mod Flags
 pub mod Ip
 pub mod Parts
+pub mod Unique

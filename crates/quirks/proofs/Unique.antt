@@ -6,7 +6,7 @@ use Rattle.basis.proofs.Unique.{equation}
 use Rattle.quirks.specs.declared.Quirk.{Quirk}
 use Rattle.quirks.specs.declared.QuirkSet.{QuirkSet}
 use Rattle.quirks.specs.declared.NamedSets.{NamedSets}
-use Rattle.quirks.specs.Quirks.{bitOf, setOf, bitsOf, isEmpty, contains, with, difference, union, intersection}
+use Rattle.quirks.specs.Quirks.{bitOf, setOf, bitsOf, isEmpty, contains, with, addIf, difference, union, intersection}
 use Rattle.quirks.specs.Named.{namedSets}
 use Rattle.quirks.proofs.Quirk.bit.Reads as bit'
 use Rattle.quirks.proofs.QuirkSet.from_bits.Reads as from-bits'
@@ -15,6 +15,7 @@ use Rattle.quirks.proofs.QuirkSet.is_empty.Reads as is-empty'
 use Rattle.quirks.proofs.QuirkSet.contains.Reads as contains'
 use Rattle.quirks.proofs.QuirkSet.with.Reads as with'
 use Rattle.quirks.proofs.QuirkSet.insert.Reads as insert'
+use Rattle.quirks.proofs.QuirkSet.add_if.Reads as add-if'
 use Rattle.quirks.proofs.QuirkSet.difference.Reads as difference'
 use Rattle.quirks.proofs.QuirkSet.union.Reads as union'
 use Rattle.quirks.proofs.QuirkSet.intersection.Reads as intersection'
@@ -40,6 +41,11 @@ with-one s q = equation (with s q)
 
 pub insert-one : (s : QuirkSet) (q : Quirk) → ExactlyOne QuirkSet (λ (r : QuirkSet). insert'.Post tt (s, (q, tt)) r (s, (q, tt)))
 insert-one s q = equation (with s q)
+
+pub add-if-one
+    : (s : QuirkSet) (t : Bool) (q : Quirk)
+    → ExactlyOne QuirkSet (λ (r : QuirkSet). add-if'.Post tt (s, (t, (q, tt))) r (s, (t, (q, tt))))
+add-if-one s t q = equation (addIf t q s)
 
 pub difference-one : (a b : QuirkSet) → ExactlyOne QuirkSet (λ (r : QuirkSet). difference'.Post tt (a, (b, tt)) r (a, (b, tt)))
 difference-one a b = equation (difference a b)

@@ -1,2 +1,3 @@
 pub mod See
+pub mod Unique
 pub mod Walk

@@ -1,0 +1,212 @@
+-- To be alike is an equivalence, layer by layer: options, TCP parts, IP headers, packets.
+use mathlib.Core.Path.{_≡_, refl, sym, _∙_, ap, subst}
+use mathlib.Core.List.{List, [], _∷_}
+use Prim.Native.Nat.{ℕ, _/_, _<_, _≤_}
+use native.Mathlib.Omega.{arith}
+use lib.ListN.{length}
+use Rattle.basis.specs.Bytes.{byteAt}
+use Rattle.rfc.specs.Rfc791.{version}
+use Rattle.rfc.specs.Rfc9293.{options}
+use Rattle.syn_options.specs.Options.{Opt, optionsOf}
+use Rattle.flow.specs.declared.IpRead.{IpRead}
+use Rattle.flow.specs.Ip.{readIp}
+use Rattle.alike.specs.Options.{ZeroAlike, Agree, AlikeStamps, AlikeOption, AlikeRow}
+use Rattle.alike.specs.Tcp.{AlikeTcp}
+use Rattle.alike.specs.Ip.{AlikeIpv4, AlikeIpv6, headerEnd4, lengthEnd4, headerEnd6, lengthEnd6}
+use Rattle.alike.specs.Packets.{AlikeBody, Alike}
+use Rattle.alike.proofs.Ip.{byte0, total-length-alike, payload-length-alike, ip-alike-v4, ip-alike-v6}
+
+-- ---- places
+
+pub agree-sym : (from to : ℕ) (s t : List ℕ) → Agree from to s t → Agree from to t s
+agree-sym from to s t a i h k = sym (a i h k)
+
+pub agree-trans : (from to : ℕ) (s t u : List ℕ) → Agree from to s t → Agree from to t u → Agree from to s u
+agree-trans from to s t u a b i h k = a i h k ∙ b i h k
+
+-- ---- options
+
+pub stamps-sym : {s t : List ℕ} → AlikeStamps s t → AlikeStamps t s
+stamps-sym a =
+    let size = a .sameLength in
+    record {
+      sameLength = sym (a .sameLength);
+      lengthByte = sym (a .lengthByte);
+      ownStamp = λ h. sym (a .ownStamp (omega arith));
+      ownCut = λ h i l u. sym (a .ownCut (omega arith) i l u);
+      peerStamp = λ h. sym (a .peerStamp (omega arith));
+      peerCut = λ h i l u. sym (a .peerCut (omega arith) i l u);
+      beyond = λ i l u. sym (a .beyond i l (omega arith));
+    }
+
+pub stamps-trans : {s t u : List ℕ} → AlikeStamps s t → AlikeStamps t u → AlikeStamps s u
+stamps-trans a b =
+    let size = a .sameLength in
+    record {
+      sameLength = a .sameLength ∙ b .sameLength;
+      lengthByte = a .lengthByte ∙ b .lengthByte;
+      ownStamp = λ h. a .ownStamp h ∙ b .ownStamp (omega arith);
+      ownCut = λ h i l u. a .ownCut h i l u ∙ b .ownCut (omega arith) i l u;
+      peerStamp = λ h. a .peerStamp h ∙ b .peerStamp (omega arith);
+      peerCut = λ h i l u. a .peerCut h i l u ∙ b .peerCut (omega arith) i l u;
+      beyond = λ i l u. a .beyond i l u ∙ b .beyond i l (omega arith);
+    }
+
+pub option-sym : {o p : Opt} → AlikeOption o p → AlikeOption p o
+option-sym AlikeOption.same = AlikeOption.same
+option-sym (AlikeOption.stamps a) = AlikeOption.stamps (stamps-sym a)
+
+pub option-trans : {o p q : Opt} → AlikeOption o p → AlikeOption p q → AlikeOption o q
+option-trans AlikeOption.same b = b
+option-trans (AlikeOption.stamps a) AlikeOption.same = AlikeOption.stamps a
+option-trans (AlikeOption.stamps a) (AlikeOption.stamps b) = AlikeOption.stamps (stamps-trans a b)
+
+pub row-refl : (os : List Opt) → AlikeRow os os
+row-refl [] = AlikeRow.none
+row-refl (o ∷ os) = AlikeRow.more AlikeOption.same (row-refl os)
+
+pub row-sym : {os ps : List Opt} → AlikeRow os ps → AlikeRow ps os
+row-sym AlikeRow.none = AlikeRow.none
+row-sym (AlikeRow.more a r) = AlikeRow.more (option-sym a) (row-sym r)
+
+pub row-trans : {os ps qs : List Opt} → AlikeRow os ps → AlikeRow ps qs → AlikeRow os qs
+row-trans AlikeRow.none AlikeRow.none = AlikeRow.none
+row-trans (AlikeRow.more a r) (AlikeRow.more b s) = AlikeRow.more (option-trans a b) (row-trans r s)
+
+-- ---- TCP parts
+
+pub tcp-refl : (t : List ℕ) → AlikeTcp t t
+tcp-refl t =
+    record {
+      sameLength = refl;
+      sequence = refl;
+      acknowledgment = refl;
+      dataOffset = refl;
+      control = refl;
+      window = refl;
+      urgentPointer = refl;
+      options = row-refl (optionsOf (options t));
+    }
+
+pub tcp-sym : {t u : List ℕ} → AlikeTcp t u → AlikeTcp u t
+tcp-sym a =
+    record {
+      sameLength = sym (a .sameLength);
+      sequence = sym (a .sequence);
+      acknowledgment = sym (a .acknowledgment);
+      dataOffset = sym (a .dataOffset);
+      control = sym (a .control);
+      window = sym (a .window);
+      urgentPointer = sym (a .urgentPointer);
+      options = row-sym (a .options);
+    }
+
+pub tcp-trans : {t u v : List ℕ} → AlikeTcp t u → AlikeTcp u v → AlikeTcp t v
+tcp-trans a b =
+    record {
+      sameLength = a .sameLength ∙ b .sameLength;
+      sequence = a .sequence ∙ b .sequence;
+      acknowledgment = a .acknowledgment ∙ b .acknowledgment;
+      dataOffset = a .dataOffset ∙ b .dataOffset;
+      control = a .control ∙ b .control;
+      window = a .window ∙ b .window;
+      urgentPointer = a .urgentPointer ∙ b .urgentPointer;
+      options = row-trans (a .options) (b .options);
+    }
+
+-- ---- IP headers
+
+pub ipv4-sym : {p q : List ℕ} → AlikeIpv4 p q → AlikeIpv4 q p
+ipv4-sym {p} {q} a =
+    record {
+      sameLength = sym (a .sameLength);
+      first = agree-sym 0 4 p q (a .first);
+      identification = sym (a .identification);
+      second = agree-sym 6 10 p q (a .second);
+    }
+
+pub ipv4-trans : {p q r : List ℕ} → AlikeIpv4 p q → AlikeIpv4 q r → AlikeIpv4 p r
+ipv4-trans {p} {q} {r} a b =
+    record {
+      sameLength = a .sameLength ∙ b .sameLength;
+      first = agree-trans 0 4 p q r (a .first) (b .first);
+      identification = a .identification ∙ b .identification;
+      second = agree-trans 6 10 p q r (a .second) (b .second);
+    }
+
+pub ipv6-sym : {p q : List ℕ} → AlikeIpv6 p q → AlikeIpv6 q p
+ipv6-sym {p} {q} a =
+    record {
+      sameLength = sym (a .sameLength);
+      first = sym (a .first);
+      second = sym (a .second);
+      flowLabel = sym (a .flowLabel);
+      third = agree-sym 4 8 p q (a .third);
+    }
+
+pub ipv6-trans : {p q r : List ℕ} → AlikeIpv6 p q → AlikeIpv6 q r → AlikeIpv6 p r
+ipv6-trans {p} {q} {r} a b =
+    record {
+      sameLength = a .sameLength ∙ b .sameLength;
+      first = a .first ∙ b .first;
+      second = a .second ∙ b .second;
+      flowLabel = a .flowLabel ∙ b .flowLabel;
+      third = agree-trans 4 8 p q r (a .third) (b .third);
+    }
+
+-- ---- packets
+
+body-sym : (p q : List ℕ) (from to : ℕ) {r : IpRead} → AlikeBody p q from to r → AlikeBody q p from to r
+body-sym p q from to (AlikeBody.no-tcp a) = AlikeBody.no-tcp (agree-sym from to p q a)
+body-sym p q from to (AlikeBody.tcp a) = AlikeBody.tcp (tcp-sym a)
+
+body-trans
+    : (p q r : List ℕ) (from to : ℕ) {x : IpRead} → AlikeBody p q from to x → AlikeBody q r from to x → AlikeBody p r from to x
+body-trans p q r from to (AlikeBody.no-tcp a) (AlikeBody.no-tcp b) = AlikeBody.no-tcp (agree-trans from to p q r a b)
+body-trans p q r from to (AlikeBody.tcp a) (AlikeBody.tcp b) = AlikeBody.tcp (tcp-trans a b)
+
+-- The body of one packet has the ends and the IP answer of an alike one.
+module _ (p q x y : List ℕ) where
+  moved4
+      : version p ≡ 4
+      → AlikeIpv4 p q
+      → AlikeBody x y (headerEnd4 q) (lengthEnd4 q) (readIp q)
+      → AlikeBody x y (headerEnd4 p) (lengthEnd4 p) (readIp p)
+  moved4 four a body = rw (ip-alike-v4 p q a four, byte0 p q a, total-length-alike p q a) body
+
+  moved6
+      : version p ≡ 6
+      → AlikeIpv6 p q
+      → AlikeBody x y (headerEnd6 q) (lengthEnd6 q) (readIp q)
+      → AlikeBody x y (headerEnd6 p) (lengthEnd6 p) (readIp p)
+  moved6 six a body = rw (ip-alike-v6 p q a six, payload-length-alike p q a) body
+
+version-alike : (p q : List ℕ) (n : ℕ) → byteAt p 0 ≡ byteAt q 0 → version p ≡ n → version q ≡ n
+version-alike p q n e v = ap (λ (b : ℕ). b / 16) (sym e) ∙ v
+
+pub alike-refl : (p : List ℕ) → Alike p p
+alike-refl p = Alike.same refl
+
+pub alike-sym : (p q : List ℕ) → Alike p q → Alike q p
+alike-sym p q (Alike.same e) = Alike.same (sym e)
+alike-sym p q (Alike.v4 four a body) =
+    let four' = version-alike p q 4 (byte0 p q a) four in
+    Alike.v4 four' (ipv4-sym a) (moved4 q p q p four' (ipv4-sym a) (body-sym p q _ _ body))
+alike-sym p q (Alike.v6 six a body) =
+    let six' = version-alike p q 6 (a .first) six in
+    Alike.v6 six' (ipv6-sym a) (moved6 q p q p six' (ipv6-sym a) (body-sym p q _ _ body))
+
+pub alike-trans : (p q r : List ℕ) → Alike p q → Alike q r → Alike p r
+alike-trans p q r (Alike.same e) b = rw e b
+alike-trans p q r (Alike.v4 four a x) (Alike.same e) = rw (← e) (Alike.v4 four a x)
+alike-trans p q r (Alike.v4 four a x) (Alike.v4 four' b y) =
+    Alike.v4 four (ipv4-trans a b) (body-trans p q r _ _ x (moved4 p q q r four a y))
+alike-trans p q r (Alike.v4 four a x) (Alike.v6 six b y) =
+    let four' = version-alike p q 4 (byte0 p q a) four in
+    absurd (omega arith)
+alike-trans p q r (Alike.v6 six a x) (Alike.same e) = rw (← e) (Alike.v6 six a x)
+alike-trans p q r (Alike.v6 six a x) (Alike.v6 six' b y) =
+    Alike.v6 six (ipv6-trans a b) (body-trans p q r _ _ x (moved6 p q q r six a y))
+alike-trans p q r (Alike.v6 six a x) (Alike.v4 four b y) =
+    let six' = version-alike p q 6 (a .first) six in
+    absurd (omega arith)

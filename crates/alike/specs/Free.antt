@@ -1,0 +1,78 @@
+-- The free bytes of document 01, item by item, each with the places where it lies: from the first number up to the second, which
+-- is not among them. `p` is the packet before a change there and `q` the packet after it.
+use mathlib.Core.Path.{_≡_}
+use mathlib.Core.List.{List, _∷_}
+use Prim.Native.Nat.{ℕ, suc, _+_, _*_, _/_, _<_, _≤_, max}
+use lib.ListN.{length, drop}
+use Rattle.basis.specs.Bytes.{byteAt, be32}
+use Rattle.rfc.specs.Rfc791 as v4
+use Rattle.rfc.specs.Rfc8200 as v6
+use Rattle.rfc.specs.Rfc9293 as tcp
+use Rattle.syn_options.specs.Options.{asked}
+use Rattle.flow.specs.declared.IpFacts.{IpFacts}
+use Rattle.flow.specs.declared.IpRead.the-variants as ip
+use Rattle.flow.specs.Ip.{readIp}
+use Rattle.flow.specs.Reading.{tcpPart}
+use Rattle.alike.specs.Options.{ZeroAlike}
+use Rattle.alike.specs.Ip.{headerEnd4, lengthEnd4, headerEnd6, lengthEnd6}
+
+-- Two strings of one length that differ at most at the places from the first up to the second.
+pub record Only (from to : ℕ) (p q : List ℕ) : Type 0 where
+  pub sameLength : length p ≡ length q
+  pub elsewhere : (i : ℕ) → (from ≤ i → i < to → ⊥) → byteAt p i ≡ byteAt q i
+
+-- The walk reaches an option at this place of the string.
+pub data Reached : ℕ → List ℕ → Type 0 where
+  first : {b : ℕ} {rest : List ℕ} → Reached 0 (b ∷ rest)
+  next : {b n : ℕ} {rest : List ℕ} → Reached n (drop (asked b rest) rest) → Reached (suc (asked b rest + n)) (b ∷ rest)
+
+-- "either four-byte half, wholly present, of a timestamps option that the walk reaches", which stays zero or stays nonzero:
+-- the option's length byte and the string both have room for it.
+pub data FreeStamp (s t : List ℕ) : ℕ → ℕ → Type 0 where
+  own
+      : {at : ℕ}
+      → Reached at s
+      → byteAt s at ≡ 8
+      → 6 ≤ byteAt s (at + 1)
+      → at + 6 ≤ length s
+      → ZeroAlike (be32 s (at + 2)) (be32 t (at + 2))
+      → FreeStamp s t (at + 2) (at + 6)
+  peer
+      : {at : ℕ}
+      → Reached at s
+      → byteAt s at ≡ 8
+      → 10 ≤ byteAt s (at + 1)
+      → at + 10 ≤ length s
+      → ZeroAlike (be32 s (at + 6)) (be32 t (at + 6))
+      → FreeStamp s t (at + 6) (at + 10)
+
+-- In a TCP part.
+pub data FreeTcp (t u : List ℕ) : ℕ → ℕ → Type 0 where
+  ports : FreeTcp t u 0 4
+  sequence : ZeroAlike (tcp.sequence t) (tcp.sequence u) → FreeTcp t u 4 8
+  acknowledgment : ZeroAlike (tcp.acknowledgment t) (tcp.acknowledgment u) → FreeTcp t u 8 12
+  below-offset : tcp.dataOffset t ≡ tcp.dataOffset u → FreeTcp t u 12 13
+  checksum : FreeTcp t u 16 18
+  urgentPointer : ZeroAlike (tcp.urgentPointer t) (tcp.urgentPointer u) → FreeTcp t u 18 20
+  stamp : {from to : ℕ} → FreeStamp (tcp.options t) (tcp.options u) from to → FreeTcp t u (20 + from) (20 + to)
+  payload : FreeTcp t u (max 20 (4 * tcp.dataOffset t)) (length t)
+
+-- In a packet.
+pub data Free (p q : List ℕ) : ℕ → ℕ → Type 0 where
+  identification4 : v4.version p ≡ 4 → ZeroAlike (v4.identification p) (v4.identification q) → Free p q 4 6
+  checksum4 : v4.version p ≡ 4 → Free p q 10 12
+  addresses4 : v4.version p ≡ 4 → Free p q 12 20
+  options4 : v4.version p ≡ 4 → Free p q 20 (4 * v4.ihl p)
+  past4 : v4.version p ≡ 4 → Free p q (max (headerEnd4 p) (lengthEnd4 p)) (length p)
+  flowLabel6
+      : v4.version p ≡ 6
+      → byteAt p 1 / 16 ≡ byteAt q 1 / 16
+      → ZeroAlike (v6.flowLabel p) (v6.flowLabel q)
+      → Free p q 1 4
+  addresses6 : v4.version p ≡ 6 → Free p q 8 40
+  past6 : v4.version p ≡ 6 → Free p q (max (headerEnd6 p) (lengthEnd6 p)) (length p)
+  in-tcp
+      : {f : IpFacts} {from to : ℕ}
+      → readIp p ≡ ip.Facts f
+      → FreeTcp (tcpPart f p) (tcpPart f q) from to
+      → Free p q (f .start + from) (f .start + to)

@@ -1,0 +1,5 @@
+pub mod Free
+pub mod Ip
+pub mod Options
+pub mod Packets
+pub mod Tcp

@@ -1,0 +1,50 @@
+-- The fit of an observation to a signature (document 01, module 7).
+use Prim.Native.Nat.{ℕ}
+use mathlib.Core.Bool.{Bool, cond, _&&_}
+use mathlib.Core.List.{List}
+use Rattle.observable.specs.declared.TcpObservation.{TcpObservation}
+use Rattle.observable.specs.Observation.{windowMultiplier}
+use Rattle.ttl.specs.Ttl.{byteOf}
+use Rattle.matching.specs.declared.Features.{Features}
+use Rattle.matching.specs.declared.Signature.{Signature}
+use Rattle.matching.specs.declared.SignatureFit.{SignatureFit}
+use Rattle.matching.specs.declared.SignatureFit.the-variants as answer
+use Rattle.matching.specs.Gates.{versionMatches, olenMatches, mssMatches, windowMatches, scaleMatches, payloadMatches, layoutMatches}
+use Rattle.matching.specs.Tolerance.{ttlFit, maskedQuirks, quirksFit, judge}
+
+-- What a fit looks at in an observation, the entries of its layout apart.
+unfoldable pub featuresOf : TcpObservation → Features
+featuresOf o =
+    record
+    { version = o .version
+    ; ttl = byteOf (o .ittl)
+    ; olen = o .olen
+    ; mss = o .mss
+    ; wsize = o .wsize
+    ; multiplier = windowMultiplier o
+    ; wscale = o .wscale
+    ; pclass = o .pclass
+    ; quirks = o .quirks
+    ; count = o .olayout .count
+    }
+
+-- Six of the gates, all but the layout.
+unfoldable pub scalarGates : Features → Signature → Bool
+scalarGates f s =
+    versionMatches (f .version) (s .version)
+    && olenMatches (f .olen) (s .olen)
+    && mssMatches (f .mss) (s .mss)
+    && windowMatches (f .wsize) (s .wsize) (f .multiplier)
+    && scaleMatches (f .wscale) (s .wscale)
+    && payloadMatches (f .pclass) (s .pclass)
+
+-- The TTL and the quirks, judged together.
+unfoldable pub toleranceOf : Features → Signature → SignatureFit
+toleranceOf f s = judge (ttlFit (f .ttl) (s .ittl)) (quirksFit (f .quirks) (maskedQuirks (s .quirks) (s .version) (f .version)))
+
+-- "Seven gates must all hold"; then the TTL and the quirks are judged. The signature's layout is a count and its entries.
+unfoldable pub fitOf : Features → List ℕ → List ℕ → Signature → ℕ → List ℕ → SignatureFit
+fitOf f kinds bytes s count entries =
+    cond (scalarGates f s && layoutMatches (f .count) kinds bytes count entries)
+    (toleranceOf f s)
+    answer.Nothing

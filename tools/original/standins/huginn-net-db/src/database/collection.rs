@@ -1,0 +1,3 @@
+//! Stand-in: the indexed collection is not in the text.
+
+pub struct FingerprintCollection;

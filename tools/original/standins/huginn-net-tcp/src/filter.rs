@@ -1,0 +1,3 @@
+//! Stand-in: packet filters are not in the text.
+
+pub mod raw {}

@@ -1,0 +1,12 @@
+//! Stand-in: the output of a SYN.
+
+use super::{IpPort, OSQualityMatched};
+use crate::observable::ObservableTcp;
+
+#[derive(Debug)]
+pub struct SynTCPOutput {
+    pub source: IpPort,
+    pub destination: IpPort,
+    pub os_matched: OSQualityMatched,
+    pub sig: ObservableTcp,
+}
