@@ -8,14 +8,14 @@ use native.Mathlib.Omega.{arith}
 use native.Mathlib.Nat.{sub-zero, zero-sub, suc-sub-suc, zero-min, suc-min-suc}
 use native.Mathlib.Decide.{decLe}
 use lib.Dec.{eqb}
-use lib.ListN.{length, getD, take, drop, length-take, drop-of-length-le}
+use lib.ListN.{length, take, length-take, drop-of-length-le}
 use lib.Seq.{take-nil, getD-take}
 use Rattle.basis.specs.Bytes.{byteAt, be32}
 use Rattle.syn_options.specs.Options.{Opt, asked, optionsAfter, optionsOf}
 use Rattle.syn_options.proofs.See.{opt}
 use Rattle.syn_options.proofs.Walk.{skipped}
 use Rattle.alike.specs.Options.{ZeroAlike}
-use Rattle.alike.proofs.Places.{be32-take}
+use Rattle.alike.proofs.Places.{be32-take, take-alike, take-byte}
 use Rattle.alike.proofs.Options.{LikeStamps, LikeRow}
 
 -- The options that begin in the first bytes, each cut there.
@@ -30,6 +30,7 @@ cut-at-zero (o ∷ os) = refl
 
 -- ---- the options of the first bytes are the options cut
 
+-- To skip or take more than there is is to skip or take what there is.
 after-clipped : (k : ℕ) (s : List ℕ) → optionsAfter k s ≡ optionsAfter (min k (length s)) s
 unfolding optionsAfter
 after-clipped k [] = refl
@@ -41,6 +42,7 @@ take-clipped zero s = rw zero-min
 take-clipped (suc k) [] = sym (take-nil (min (suc k) 0))
 take-clipped (suc k) (b ∷ s) = rw suc-min-suc (ap (_∷_ b) (take-clipped k s))
 
+-- Of two cuts either may come first.
 take-swap : (m n : ℕ) (s : List ℕ) → take m (take n s) ≡ take n (take m s)
 take-swap zero n s = sym (take-nil n)
 take-swap (suc m) zero s = refl
@@ -64,6 +66,7 @@ asked-first b (suc n) s = by-kind (eqb b 0) (eqb b 1)
     by-kind false false = rw (getD-take (suc n) s 0 0 (omega arith))
 
 module _ (b n : ℕ) (s : List ℕ) where
+  -- The own bytes of the option among the first bytes, and the options after it.
   own-first : take (asked b (take n s)) (take n s) ≡ take n (take (asked b s) s)
   own-first =
       take-clipped (asked b (take n s)) (take n s)
@@ -90,6 +93,7 @@ cut-clipped k n s = elim (decLe k (length s)) [ yes h ↦ inside h | no h ↦ pa
         let none : optionsAfter k s ≡ [] = skipped k s ∙ ap optionsOf (drop-of-length-le s {i = k} (omega arith)) in
         rw none
 
+-- The options of the first bytes are the options cut there.
 options-cut : (k n : ℕ) (s : List ℕ) → optionsAfter k (take n s) ≡ cut (n - k) (optionsAfter k s)
 unfolding optionsAfter
 options-cut k n [] = rw take-nil
@@ -105,21 +109,22 @@ options-cut zero (suc n) (b ∷ s) =
 
 module _ (n : ℕ) (s t : List ℕ) (a : LikeStamps s t) where
   -- A half that is whole in the first bytes is whole.
-  half : (i : ℕ) → i + 3 < min n (length s) → (i + 3 < length s → ZeroAlike (be32 s i) (be32 t i)) → ZeroAlike (be32 (take n s) i) (be32 (take n t) i)
+  half
+      : (i : ℕ)
+      → i + 3 < min n (length s)
+      → (i + 3 < length s → ZeroAlike (be32 s i) (be32 t i))
+      → ZeroAlike (be32 (take n s) i) (be32 (take n t) i)
   half i h whole = rw (be32-take n i s (omega arith), be32-take n i t (omega arith)) (whole (omega arith))
 
+  -- A timestamps option cut, and a row of options cut.
   cut-stamps : LikeStamps (take n s) (take n t)
   cut-stamps =
       record {
-        sameLength = rw (length-take, length-take, a .sameLength);
-        lengthByte = by-size n;
+        sameLength = take-alike n s t (a .sameLength);
+        lengthByte = take-byte n s t 0 (λ h. a .lengthByte);
         ownStamp = λ h. half 1 (rw length-take at h) (a .ownStamp);
         peerStamp = λ h. half 5 (rw length-take at h) (a .peerStamp);
       }
-    where
-      by-size : (m : ℕ) → byteAt (take m s) 0 ≡ byteAt (take m t) 0
-      by-size zero = refl
-      by-size (suc m) = rw (getD-take (suc m) s 0 0 (omega arith), getD-take (suc m) t 0 0 (omega arith)) (a .lengthByte)
 
 cut-like : (n : ℕ) {os ps : List Opt} → LikeRow os ps → LikeRow (cut n os) (cut n ps)
 cut-like n LikeRow.none = LikeRow.none

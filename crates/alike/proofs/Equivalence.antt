@@ -1,7 +1,7 @@
 -- To be alike is an equivalence, layer by layer: options, TCP parts, IP headers, packets.
-use mathlib.Core.Path.{_≡_, refl, sym, _∙_, ap, subst}
+use mathlib.Core.Path.{_≡_, refl, sym, _∙_, ap}
 use mathlib.Core.List.{List, [], _∷_}
-use Prim.Native.Nat.{ℕ, _/_, _<_, _≤_}
+use Prim.Native.Nat.{ℕ, _/_}
 use native.Mathlib.Omega.{arith}
 use lib.ListN.{length}
 use Rattle.basis.specs.Bytes.{byteAt}
@@ -10,10 +10,11 @@ use Rattle.rfc.specs.Rfc9293.{options}
 use Rattle.syn_options.specs.Options.{Opt, optionsOf}
 use Rattle.flow.specs.declared.IpRead.{IpRead}
 use Rattle.flow.specs.Ip.{readIp}
-use Rattle.alike.specs.Options.{ZeroAlike, Agree, AlikeStamps, AlikeOption, AlikeRow}
+use Rattle.alike.specs.Options.{Agree, AlikeStamps, AlikeOption, AlikeRow}
 use Rattle.alike.specs.Tcp.{AlikeTcp}
 use Rattle.alike.specs.Ip.{AlikeIpv4, AlikeIpv6, headerEnd4, lengthEnd4, headerEnd6, lengthEnd6}
 use Rattle.alike.specs.Packets.{AlikeBody, Alike}
+use Rattle.alike.proofs.Places.{part-same}
 use Rattle.alike.proofs.Ip.{byte0, total-length-alike, payload-length-alike, ip-alike-v4, ip-alike-v6}
 
 -- ---- places
@@ -158,12 +159,24 @@ ipv6-trans {p} {q} {r} a b =
 
 body-sym : (p q : List ℕ) (from to : ℕ) {r : IpRead} → AlikeBody p q from to r → AlikeBody q p from to r
 body-sym p q from to (AlikeBody.no-tcp a) = AlikeBody.no-tcp (agree-sym from to p q a)
+body-sym p q from to (AlikeBody.unread long a) = let size = a .sameLength in AlikeBody.unread (omega arith) (tcp-sym a)
 body-sym p q from to (AlikeBody.tcp a) = AlikeBody.tcp (tcp-sym a)
 
 body-trans
-    : (p q r : List ℕ) (from to : ℕ) {x : IpRead} → AlikeBody p q from to x → AlikeBody q r from to x → AlikeBody p r from to x
-body-trans p q r from to (AlikeBody.no-tcp a) (AlikeBody.no-tcp b) = AlikeBody.no-tcp (agree-trans from to p q r a b)
-body-trans p q r from to (AlikeBody.tcp a) (AlikeBody.tcp b) = AlikeBody.tcp (tcp-trans a b)
+    : (p q r : List ℕ) (from to : ℕ) {x : IpRead}
+    → length p ≡ length q
+    → length q ≡ length r
+    → AlikeBody p q from to x
+    → AlikeBody q r from to x
+    → AlikeBody p r from to x
+body-trans p q r from to s s' (AlikeBody.no-tcp a) (AlikeBody.no-tcp b) = AlikeBody.no-tcp (agree-trans from to p q r a b)
+body-trans p q r from to s s' (AlikeBody.no-tcp a) (AlikeBody.unread long b) =
+    let e = part-same from to p q s a in
+    AlikeBody.unread (rw e long) (rw e b)
+body-trans p q r from to s s' (AlikeBody.unread long a) (AlikeBody.no-tcp b) =
+    AlikeBody.unread long (rw (← part-same from to q r s' b) a)
+body-trans p q r from to s s' (AlikeBody.unread long a) (AlikeBody.unread long' b) = AlikeBody.unread long (tcp-trans a b)
+body-trans p q r from to s s' (AlikeBody.tcp a) (AlikeBody.tcp b) = AlikeBody.tcp (tcp-trans a b)
 
 -- The body of one packet has the ends and the IP answer of an alike one.
 module _ (p q x y : List ℕ) where
@@ -200,13 +213,13 @@ pub alike-trans : (p q r : List ℕ) → Alike p q → Alike q r → Alike p r
 alike-trans p q r (Alike.same e) b = rw e b
 alike-trans p q r (Alike.v4 four a x) (Alike.same e) = rw (← e) (Alike.v4 four a x)
 alike-trans p q r (Alike.v4 four a x) (Alike.v4 four' b y) =
-    Alike.v4 four (ipv4-trans a b) (body-trans p q r _ _ x (moved4 p q q r four a y))
+    Alike.v4 four (ipv4-trans a b) (body-trans p q r _ _ (a .sameLength) (b .sameLength) x (moved4 p q q r four a y))
 alike-trans p q r (Alike.v4 four a x) (Alike.v6 six b y) =
     let four' = version-alike p q 4 (byte0 p q a) four in
     absurd (omega arith)
 alike-trans p q r (Alike.v6 six a x) (Alike.same e) = rw (← e) (Alike.v6 six a x)
 alike-trans p q r (Alike.v6 six a x) (Alike.v6 six' b y) =
-    Alike.v6 six (ipv6-trans a b) (body-trans p q r _ _ x (moved6 p q q r six a y))
+    Alike.v6 six (ipv6-trans a b) (body-trans p q r _ _ (a .sameLength) (b .sameLength) x (moved6 p q q r six a y))
 alike-trans p q r (Alike.v6 six a x) (Alike.v4 four b y) =
     let six' = version-alike p q 6 (a .first) six in
     absurd (omega arith)

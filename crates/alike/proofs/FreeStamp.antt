@@ -1,19 +1,16 @@
 -- A half of a timestamps option that stays zero or stays nonzero: the option strings are alike.
-use mathlib.Core.Path.{_≡_, refl, sym, _∙_, ap, subst}
-use mathlib.Core.Bool.{Bool}
+use mathlib.Core.Path.{_≡_, refl, _∙_, ap}
 use mathlib.Core.List.{List, [], _∷_}
-use Prim.Native.Nat.{ℕ, zero, suc, _+_, _-_, _<_, _≤_, min, max}
+use Prim.Native.Nat.{ℕ, suc, _+_, _-_, _<_, _≤_, max}
 use native.Mathlib.Omega.{arith}
-use native.Mathlib.Nat.{add-assoc}
-use lib.Dec.{eqb}
-use lib.ListN.{length, getD, take, drop, length-take, length-drop}
-use lib.Seq.{drop-cons, drop-drop, getD-take, getD-drop}
+use lib.ListN.{length, take, drop, length-take, length-drop}
+use lib.Seq.{drop-cons, drop-drop, getD-drop}
 use Rattle.basis.specs.Bytes.{byteAt, be32}
-use Rattle.syn_options.specs.Options.{Opt, asked, optionsAfter, optionsOf}
+use Rattle.syn_options.specs.Options.{asked, optionsAfter, optionsOf}
 use Rattle.syn_options.proofs.Walk.{skipped}
 use Rattle.alike.specs.Options.{ZeroAlike, Agree, AlikeStamps, AlikeOption, AlikeRow, AlikeOptions}
 use Rattle.alike.specs.Free.{Only, Reached, FreeStamp}
-use Rattle.alike.proofs.Places.{be32-take, be32-drop, Apart, kept, byte-kept, zero32-kept, drop-alike, take-only, drop-only, take-same, drop-agree, rest-same, wider}
+use Rattle.alike.proofs.Places.{be32-take, be32-drop, kept, byte-kept, zero32-kept, drop-alike, take-only, drop-only, take-same, drop-agree, rest-same, wider}
 use Rattle.alike.proofs.Equivalence.{row-refl}
 
 -- An option asks for as many bytes before strings of one length and one first byte.
@@ -49,9 +46,9 @@ reach (c ∷ t) (Reached.next {b} {n} {rest} r) size agree here =
     let agree' : Agree 0 (asked b rest + n + 2) rest t = λ i l u. agree (suc i) (omega arith) (omega arith) in
     let kind : b ≡ c = agree 0 (omega arith) (omega arith) in
     let later : AlikeOptions (drop (asked b rest) rest) (drop (asked b rest) t) =
-        reach (drop (asked b rest) t) r (drop-alike (asked b rest) rest t size')
-        (drop-agree (asked b rest) (n + 2) rest t (λ i l u. agree' i (omega arith) (omega arith)))
-        (rw (drop-drop n (asked b rest) rest, drop-drop n (asked b rest) t) here) in
+    reach (drop (asked b rest) t) r (drop-alike (asked b rest) rest t size')
+    (drop-agree (asked b rest) (n + 2) rest t (λ i l u. agree' i (omega arith) (omega arith)))
+    (rw (drop-drop n (asked b rest) rest, drop-drop n (asked b rest) t) here) in
     rw (← kind)
     (one-more b rest t
     (asked-alike b rest t size' (agree' 0 (omega arith) (omega arith)))

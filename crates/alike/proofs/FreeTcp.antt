@@ -1,10 +1,8 @@
 -- A change of the free bytes of a TCP part gives an alike TCP part.
-use mathlib.Core.Path.{_≡_, refl, sym, _∙_, ap}
+use mathlib.Core.Path.{_≡_, refl, ap}
 use mathlib.Core.List.{List}
-use Prim.Native.Nat.{ℕ, _+_, _*_, _/_, _<_, _≤_, min, max}
+use Prim.Native.Nat.{ℕ, _+_, _/_}
 use native.Mathlib.Omega.{arith}
-use lib.ListN.{length}
-use Rattle.basis.specs.Bytes.{byteAt, be16, part}
 use Rattle.rfc.specs.Rfc9293.{sequence, acknowledgment, dataOffset, control, window, urgentPointer, optionsEnd, options}
 use Rattle.syn_options.specs.Options.{optionsOf}
 use Rattle.alike.specs.Options.{ZeroAlike, AlikeOptions}
@@ -15,6 +13,7 @@ use Rattle.alike.proofs.Equivalence.{row-refl}
 use Rattle.alike.proofs.FreeStamp.{free-stamp}
 
 module _ {lo hi : ℕ} {t u : List ℕ} (d : Only lo hi t u) where
+  -- Each field is kept by a change elsewhere.
   offset-kept : Apart lo hi 12 13 → dataOffset t ≡ dataOffset u
   offset-kept apart = ap (λ (b : ℕ). b / 16) (byte-kept d 12 apart)
 
@@ -69,6 +68,17 @@ module _ {lo hi : ℕ} {t u : List ℕ} (d : Only lo hi t u) where
   urgent-kept : Apart lo hi 18 20 → ZeroAlike (urgentPointer t) (urgentPointer u)
   urgent-kept = zero16-kept d 18
 
+  -- No byte that is read differs.
+  untouched : Apart lo hi 4 16 → Apart lo hi 18 20 → Apart lo hi 20 (optionsEnd t) → AlikeTcp t u
+  untouched fields urgent outside =
+      header-kept
+      (seq-kept (λ i l u. fields i (omega arith) (omega arith)))
+      (ack-kept (λ i l u. fields i (omega arith) (omega arith)))
+      (offset-kept (λ i l u. fields i (omega arith) (omega arith)))
+      (λ i l u. fields i (omega arith) (omega arith))
+      (urgent-kept urgent)
+      outside
+
   -- A change among the options.
   stamp-changed : (from to : ℕ) → lo ≡ 20 + from → hi ≡ 20 + to → FreeStamp (options t) (options u) from to → AlikeTcp t u
   stamp-changed from to starts ends x =
@@ -83,9 +93,7 @@ module _ {lo hi : ℕ} {t u : List ℕ} (d : Only lo hi t u) where
 
 -- Each item of the list.
 pub free-tcp : (t u : List ℕ) {lo hi : ℕ} → FreeTcp t u lo hi → Only lo hi t u → AlikeTcp t u
-free-tcp t u FreeTcp.ports d =
-    header-kept d (seq-kept d (omega arith)) (ack-kept d (omega arith)) (offset-kept d (omega arith)) (omega arith)
-    (urgent-kept d (omega arith)) (omega arith)
+free-tcp t u FreeTcp.ports d = untouched d (omega arith) (omega arith) (omega arith)
 free-tcp t u (FreeTcp.sequence stays) d =
     header-kept d stays (ack-kept d (omega arith)) (offset-kept d (omega arith)) (omega arith)
     (urgent-kept d (omega arith)) (omega arith)
@@ -95,12 +103,8 @@ free-tcp t u (FreeTcp.acknowledgment stays) d =
 free-tcp t u (FreeTcp.below-offset same) d =
     header-kept d (seq-kept d (omega arith)) (ack-kept d (omega arith)) same (omega arith)
     (urgent-kept d (omega arith)) (omega arith)
-free-tcp t u FreeTcp.checksum d =
-    header-kept d (seq-kept d (omega arith)) (ack-kept d (omega arith)) (offset-kept d (omega arith)) (omega arith)
-    (urgent-kept d (omega arith)) (omega arith)
+free-tcp t u FreeTcp.checksum d = untouched d (omega arith) (omega arith) (omega arith)
 free-tcp t u (FreeTcp.urgentPointer stays) d =
     header-kept d (seq-kept d (omega arith)) (ack-kept d (omega arith)) (offset-kept d (omega arith)) (omega arith) stays (omega arith)
 free-tcp t u (FreeTcp.stamp {from} {to} x) d = stamp-changed d from to refl refl x
-free-tcp t u FreeTcp.payload d =
-    header-kept d (seq-kept d (omega arith)) (ack-kept d (omega arith)) (offset-kept d (omega arith)) (omega arith)
-    (urgent-kept d (omega arith)) (omega arith)
+free-tcp t u FreeTcp.payload d = untouched d (omega arith) (omega arith) (omega arith)

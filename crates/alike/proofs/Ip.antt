@@ -2,21 +2,20 @@
 use mathlib.Core.Path.{_≡_, refl, sym, _∙_, ap}
 use mathlib.Core.Bool.{Bool, true, false, cond, not}
 use mathlib.Core.List.{List}
-use Prim.Native.Nat.{ℕ, _+_, _-_, _*_, _/_, _%_, _<_, _≤_, min}
+use Prim.Native.Nat.{ℕ, _/_}
 use native.Mathlib.Omega.{arith}
 use lib.Dec.{eqb, ltb}
-use lib.ListN.{length, length-take, length-drop}
+use lib.ListN.{length}
 use borrow.Author.Tests.{eqb-true}
-use Rattle.basis.specs.Bytes.{byteAt, be16, part}
+use Rattle.basis.specs.Bytes.{byteAt}
 use Rattle.rfc.specs.Rfc791 as v4
 use Rattle.rfc.specs.Rfc8200 as v6
-use Rattle.ip_options.specs.IpOptions.{ipv4OptionLength, ipv6ExtensionLength}
+use Rattle.ip_options.specs.IpOptions.{ipv4OptionLength}
 use Rattle.ip_options.proofs.Laws.{v6-tcp}
 use Rattle.flow.specs.declared.IpRead.{IpRead}
 use Rattle.flow.specs.declared.IpRead.the-variants as ip
 use Rattle.flow.specs.declared.Refusal.the-variants as refusal
 use Rattle.flow.specs.Ip.{ipv4Quirks, ipv4Facts, readIpv4, ipv6Quirks, ipv6Facts, readIpv6, readIp}
-use Rattle.alike.specs.Options.{Agree}
 use Rattle.alike.specs.Ip.{AlikeIpv4, AlikeIpv6}
 use Rattle.alike.proofs.Places.{be16-alike, part-alike}
 

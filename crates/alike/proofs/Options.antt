@@ -1,12 +1,11 @@
 -- Alike rows of options are walked alike: of a timestamps option the walk looks at its size, its length byte, and whether each
 -- half is zero.
-use mathlib.Core.Path.{_≡_, refl, sym, _∙_, ap}
-use mathlib.Core.Bool.{Bool, true, false, cond, not, _&&_}
+use mathlib.Core.Path.{_≡_, refl, sym, _∙_}
+use mathlib.Core.Bool.{Bool}
 use mathlib.Core.List.{List, [], _∷_}
 use Prim.Native.Nat.{ℕ, _<_, _≤_}
 use native.Mathlib.Omega.{arith}
 use native.Mathlib.Decide.{decLe}
-use lib.Dec.{eqb, ltb}
 use lib.ListN.{length}
 use Rattle.basis.specs.Bytes.{byteAt, be32}
 use Rattle.syn_options.specs.declared.Seen.{Seen}
@@ -23,11 +22,13 @@ pub record LikeStamps (s t : List ℕ) : Type 0 where
   pub ownStamp : 4 < length s → ZeroAlike (be32 s 1) (be32 t 1)
   pub peerStamp : 8 < length s → ZeroAlike (be32 s 5) (be32 t 5)
 
+-- Two rows of options, option by option the same or both timestamps.
 pub data LikeRow : List Opt → List Opt → Type 0 where
   none : LikeRow [] []
   same : {o : Opt} {os ps : List Opt} → LikeRow os ps → LikeRow (o ∷ os) (o ∷ ps)
   stamps : {s t : List ℕ} {os ps : List Opt} → LikeStamps s t → LikeRow os ps → LikeRow (opt 8 s ∷ os) (opt 8 t ∷ ps)
 
+-- Alike in the sense of the statement is alike in this sense.
 pub like-stamps : {s t : List ℕ} → AlikeStamps s t → LikeStamps s t
 like-stamps a =
     record { sameLength = a .sameLength; lengthByte = a .lengthByte; ownStamp = a .ownStamp; peerStamp = a .peerStamp }
@@ -40,16 +41,19 @@ like-row (AlikeRow.more (AlikeOption.stamps a) r) = stamps (like-stamps a) (like
 module _ (s t : List ℕ) (a : LikeStamps s t) where
   -- It shows the same quirks, and neither MSS nor scale.
   see-alike : (syn : Bool) (seen : Seen) → seeOption syn seen (opt 8 s) ≡ seeOption syn seen (opt 8 t)
-  see-alike syn seen = elim (decLe (length s) 4) [ yes h ↦ neither h | no h ↦ elim (decLe (length s) 8) [ yes k ↦ own h k | no k ↦ both k ] ]
+  see-alike syn seen =
+      elim (decLe (length s) 4) [ yes h ↦ neither h | no h ↦ elim (decLe (length s) 8) [ yes k ↦ own h k | no k ↦ both k ] ]
     where
-      same-size : length s ≡ length t
-      same-size = a .sameLength
-
       neither : length s ≤ 4 → seeOption syn seen (opt 8 s) ≡ seeOption syn seen (opt 8 t)
       neither h = stamps-none syn seen s h ∙ sym (stamps-none syn seen t (omega arith))
 
       own : (length s ≤ 4 → ⊥) → length s ≤ 8 → seeOption syn seen (opt 8 s) ≡ seeOption syn seen (opt 8 t)
-      own h k = rw (stamps-own syn seen s (omega arith) k, stamps-own syn seen t (omega arith) (omega arith), a .ownStamp (omega arith))
+      own h k =
+          rw (
+            stamps-own syn seen s (omega arith) k,
+            stamps-own syn seen t (omega arith) (omega arith),
+            a .ownStamp (omega arith),
+          )
 
       both : (length s ≤ 8 → ⊥) → seeOption syn seen (opt 8 s) ≡ seeOption syn seen (opt 8 t)
       both k =
@@ -60,14 +64,17 @@ module _ (s t : List ℕ) (a : LikeStamps s t) where
             a .peerStamp (omega arith),
           )
 
+  -- It runs past the end on both sides or on neither.
   past-alike : runsPast (opt 8 s) ≡ runsPast (opt 8 t)
   unfolding runsPast asked
   past-alike = rw (a .sameLength, a .lengthByte)
 
+  -- It adds the same to a walk.
   put-alike : (syn : Bool) (w : Walked) → putOption syn w (opt 8 s) ≡ putOption syn w (opt 8 t)
   unfolding putEntry entryByte
   put-alike syn w = rw (see-alike syn (w .seen))
 
+-- Rows alike in this sense are walked alike.
 pub walk-like
     : {os ps : List Opt} (stop syn : Bool) (w : Walked) → LikeRow os ps → walkFrom stop syn w os ≡ walkFrom stop syn w ps
 unfolding walkFrom

@@ -1,10 +1,9 @@
 -- Demand 3: alike packets are read alike.
-use mathlib.Core.Path.{_≡_, refl, sym, _∙_, ap}
+use mathlib.Core.Path.{_≡_, refl}
 use mathlib.Core.List.{List}
 use Prim.Native.Nat.{ℕ}
 use Rattle.tcp.specs.declared.Mss.{Mss}
 use Rattle.flow.specs.declared.IpRead.{IpRead}
-use Rattle.flow.specs.Ip.{readIp}
 use Rattle.flow.specs.Reading.{tcpPart, afterIp, readPacket}
 use Rattle.alike.specs.Packets.{AlikeBody, Alike}
 use Rattle.alike.proofs.Tcp.{tcp-alike}
@@ -16,6 +15,7 @@ body-alike
     → AlikeBody p q from to r
     → afterIp r p peer ≡ afterIp r q peer
 body-alike p q peer from to (AlikeBody.no-tcp agree) = refl
+body-alike p q peer from to (AlikeBody.unread long a) = refl
 body-alike p q peer from to (AlikeBody.tcp {f} a) = tcp-alike f (tcpPart f p) (tcpPart f q) peer a
 
 -- Two packets of equal length that differ only in the free bytes get the same answer.

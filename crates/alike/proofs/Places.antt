@@ -1,12 +1,12 @@
 -- Laws of strings that differ at most between two places, and of their parts.
-use mathlib.Core.Path.{_≡_, refl, sym, _∙_, ap}
+use mathlib.Core.Path.{_≡_, sym, _∙_, ap}
 use mathlib.Core.List.{List}
 use Prim.Native.Nat.{ℕ, _+_, _-_, _<_, _≤_}
 use native.Mathlib.Omega.{arith}
 use native.Mathlib.Nat.{add-assoc}
 use native.Mathlib.Decide.{decLe}
 use lib.Dec.{eqb}
-use lib.ListN.{length, getD, take, drop, set, length-take, length-drop, length-set, List·getD-eq-default}
+use lib.ListN.{length, take, drop, set, length-take, length-drop, length-set, List·getD-eq-default}
 use lib.Seq.{getD-take, getD-drop, getD-set-other, ext-getD}
 use Rattle.basis.specs.Bytes.{byteAt, be16, be32, part}
 use Rattle.alike.specs.Options.{ZeroAlike, Agree}
@@ -19,6 +19,7 @@ pub be16-alike : (i : ℕ) (p q : List ℕ) → byteAt p i ≡ byteAt q i → by
 unfolding be16
 be16-alike i p q high low = rw (high, low)
 
+-- A four-byte number in the first bytes is that of the string.
 pub be32-take : (n i : ℕ) (s : List ℕ) → i + 3 < n → be32 (take n s) i ≡ be32 s i
 unfolding be32 be16
 be32-take n i s h =
@@ -42,6 +43,7 @@ abbrev pub Apart : ℕ → ℕ → ℕ → ℕ → Type 0
 Apart lo hi a b = (i : ℕ) → a ≤ i → i < b → lo ≤ i → i < hi → ⊥
 
 module _ {lo hi : ℕ} {p q : List ℕ} (d : Only lo hi p q) where
+  -- What lies elsewhere is kept: bytes, and numbers of two and four bytes.
   pub kept : (a b : ℕ) → Apart lo hi a b → Agree a b p q
   kept a b apart i h k = d .elsewhere i (apart i h k)
 
@@ -94,7 +96,7 @@ pub part-alike : (from to : ℕ) (p q : List ℕ) → length p ≡ length q → 
 part-alike from to p q same = take-alike (to - from) (drop from p) (drop from q) (drop-alike from p q same)
 
 -- The first bytes agree where the strings do.
-take-byte
+pub take-byte
     : (n : ℕ) (p q : List ℕ) (i : ℕ) → (i < n → byteAt p i ≡ byteAt q i) → byteAt (take n p) i ≡ byteAt (take n q) i
 take-byte n p q i e = elim (decLe n i) [ yes h ↦ past p h ∙ sym (past q h) | no h ↦ within (omega arith) ]
   where
@@ -104,9 +106,11 @@ take-byte n p q i e = elim (decLe n i) [ yes h ↦ past p h ∙ sym (past q h) |
     within : i < n → byteAt (take n p) i ≡ byteAt (take n q) i
     within h = getD-take n p i 0 h ∙ e h ∙ sym (getD-take n q i 0 h)
 
+-- The bytes after some agree where the strings do.
 drop-byte : (n : ℕ) (p q : List ℕ) (i : ℕ) → byteAt p (n + i) ≡ byteAt q (n + i) → byteAt (drop n p) i ≡ byteAt (drop n q) i
 drop-byte n p q i e = getD-drop n p i 0 ∙ e ∙ sym (getD-drop n q i 0)
 
+-- Parts of two strings that differ at most between two places differ at most there.
 pub take-only : (n lo hi : ℕ) (p q : List ℕ) → Only lo hi p q → Only lo hi (take n p) (take n q)
 take-only n lo hi p q d =
     record {
@@ -130,6 +134,7 @@ pub take-same : (n : ℕ) (p q : List ℕ) → length p ≡ length q → Agree 0
 take-same n p q same agree =
     ext-getD 0 (take n p) (take n q) (take-alike n p q same) (λ i b. take-byte n p q i (agree i (omega arith)))
 
+-- Strings that agree from a place on agree after it.
 pub drop-agree : (n k : ℕ) (p q : List ℕ) → Agree n (n + k) p q → Agree 0 k (drop n p) (drop n q)
 drop-agree n k p q agree i l u = drop-byte n p q i (agree (n + i) (omega arith) (omega arith))
 

@@ -1,7 +1,9 @@
 -- Alike packets: they have equal lengths and differ only in the free bytes of document 01.
 use mathlib.Core.Path.{_≡_}
 use mathlib.Core.List.{List}
-use Prim.Native.Nat.{ℕ}
+use Prim.Native.Nat.{ℕ, _≤_}
+use lib.ListN.{length}
+use Rattle.basis.specs.Bytes.{part}
 use Rattle.rfc.specs.Rfc791.{version}
 use Rattle.flow.specs.declared.IpFacts.{IpFacts}
 use Rattle.flow.specs.declared.IpRead.{IpRead}
@@ -17,6 +19,12 @@ use Rattle.alike.specs.Tcp.{AlikeTcp}
 -- [free bytes] apply": all of it agrees. Else the two TCP parts are alike.
 pub data AlikeBody (p q : List ℕ) (from to : ℕ) : IpRead → Type 0 where
   no-tcp : {r : Refusal} → Agree from to p q → AlikeBody p q from to (ip.Refused r)
+  -- Twenty bytes or more after the header of a packet that the IP stage refuses all the same: another protocol, a fragment.
+  unread
+      : {r : Refusal}
+      → 20 ≤ length (part from to p)
+      → AlikeTcp (part from to p) (part from to q)
+      → AlikeBody p q from to (ip.Refused r)
   tcp : {f : IpFacts} → AlikeTcp (tcpPart f p) (tcpPart f q) → AlikeBody p q from to (ip.Facts f)
 
 -- Of neither version nothing is free.

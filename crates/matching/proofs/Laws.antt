@@ -45,6 +45,7 @@ module _ (kinds bytes entries : List ℕ) where
   unfolding entriesMatch here
   byte-differs count i h kind differs =
       fails-below here count i h
-      (rw
-      ( eq-eqb (byteAt kinds i) (byteAt entries (2 * i)) kind
-      , ne-eqb (byteAt bytes i) (byteAt entries (2 * i + 1)) differs ))
+      (rw (
+        eq-eqb (byteAt kinds i) (byteAt entries (2 * i)) kind,
+        ne-eqb (byteAt bytes i) (byteAt entries (2 * i + 1)) differs,
+      ))

@@ -15,17 +15,17 @@ use Rattle.matching.specs.Tolerance.{ttlFit, maskedQuirks, quirksFit, ju
 -- What a fit looks at in an observation, the entries of its layout apart.
 unfoldable pub featuresOf : TcpObservation → Features
 featuresOf o =
-    record
-    { version = o .version
-    ; ttl = byteOf (o .ittl)
-    ; olen = o .olen
-    ; mss = o .mss
-    ; wsize = o .wsize
-    ; multiplier = windowMultiplier o
-    ; wscale = o .wscale
-    ; pclass = o .pclass
-    ; quirks = o .quirks
-    ; count = o .olayout .count
+    record {
+      version = o .version;
+      ttl = byteOf (o .ittl);
+      olen = o .olen;
+      mss = o .mss;
+      wsize = o .wsize;
+      multiplier = windowMultiplier o;
+      wscale = o .wscale;
+      pclass = o .pclass;
+      quirks = o .quirks;
+      count = o .olayout .count;
     }
 
 -- Six of the gates, all but the layout.

@@ -217,7 +217,11 @@ fn signature_initial_ttl(signature: Ttl) -> u8
         Ttl::Guess(ttl) => ttl,
         Ttl::Bad(ttl) => ttl,
         Ttl::Distance(ttl, distance) => {
-            if ttl <= 255 - distance { ttl + distance } else { 255 }
+            if ttl <= 255 - distance {
+                ttl + distance
+            } else {
+                255
+            }
         }
     }
 }
@@ -299,10 +303,7 @@ pub fn quirks_fit(observed: QuirkSet, signature: QuirkSet) -> QuirksFit
     if !added.difference(QuirkSet::FUZZY_ADDABLE).is_empty() {
         return QuirksFit::Rejected;
     }
-    QuirksFit::Tolerated(Tolerated {
-        added,
-        missing,
-    })
+    QuirksFit::Tolerated(Tolerated { added, missing })
 }
 
 // ---- the layout, compared where it lies
@@ -327,7 +328,13 @@ fn entries_match(kinds: &[u8], bytes: &[u8], entries: &[u8], count: usize) -> bo
 }
 
 // The layout gate: the count, then each kind and byte up to it.
-pub fn olayout_matches(kinds: &[u8], bytes: &[u8], count: usize, entries: &[u8], declared: usize) -> bool
+pub fn olayout_matches(
+    kinds: &[u8],
+    bytes: &[u8],
+    count: usize,
+    entries: &[u8],
+    declared: usize,
+) -> bool
     ensures { λ r. ⌜ r ≡ layoutMatches count (now (kinds .entry)) (now (bytes .entry)) declared (now (entries .entry)) ⌝ }
 {
     if count != declared {

@@ -16,8 +16,8 @@ use Rattle.syn_options.proofs.parse_options_raw.Reads as parse-options-
 pub walk-options-one
     : (κs : Lfts 1) (options : RefT (List ℕ)) (stop syn : Bool) (quirks : QuirkSet)
     → ExactlyOne Walked
-      (λ (r : Walked).
-      walk-options'.Post κs (options, (stop, (syn, (quirks, tt)))) r (options, (stop, (syn, (quirks, tt)))))
+    (λ (r : Walked).
+    walk-options'.Post κs (options, (stop, (syn, (quirks, tt)))) r (options, (stop, (syn, (quirks, tt)))))
 walk-options-one κs options stop syn quirks = equation (walkOf stop syn quirks (now options))
 
 pub parse-options-raw-one

@@ -1,4 +1,5 @@
-use mathlib.Core.Path.{_≡_, refl, sym, _∙_}
+-- `matching::entries_match` meets its contract.
+use mathlib.Core.Path.{_≡_, sym}
 use mathlib.Core.Bool.{true}
 use Prim.Native.Nat.{_≤_, _-_}
 use native.Mathlib.Omega.{arith}
@@ -7,8 +8,6 @@ use Rattle.matching.proofs.Laws.{no-entry, entry-matches, kind-differs,
 use borrow.Author.Needs.{needs}
 use Rattle.matching.proofs.entries_match.Statement.{statement}
 use Rattle.matching.proofs.entries_match.Tie as tie
-use Rattle.matching.proofs.entries_match.Reads as reads
-use Rattle.matching.proofs.entries_match.Lts as lts
 
 abbrev Inv-loop : tie.InvT-loop
 Inv-loop kinds bytes entries count i₀ i = (i ≤ count) × (entriesMatch kinds bytes entries i ≡ true)
@@ -16,55 +15,42 @@ Inv-loop kinds bytes entries count i₀ i = (i ≤ count) × (entriesMatch kinds
 abbrev μ-loop : tie.MeasureT-loop
 μ-loop kinds bytes entries count i₀ i = count - i
 
--- src/lib.rt:309:5
 loop-holds : tie.Need-loop-holds Inv-loop μ-loop
 loop-holds c = (search needs, no-entry _ _ _)
 
--- src/lib.rt:310:18
 mul-at : tie.Need-mul-at Inv-loop μ-loop
 mul-at c = search needs
 
--- src/lib.rt:311:12
 shared-slice-read-if1 : tie.Need-shared-slice-read-if1 Inv-loop μ-loop
 shared-slice-read-if1 c = search needs
 
--- src/lib.rt:311:24
 shared-slice-read-if1-2 : tie.Need-shared-slice-read-if1-2 Inv-loop μ-loop
 shared-slice-read-if1-2 c = search needs
 
--- src/lib.rt:312:13
 returns : tie.Need-returns Inv-loop μ-loop
 returns c = sym (kind-differs (c .before .before .before .before .before .args .kinds .now) (c .before .before .before .before .before .args .bytes .now) (c .before .before .before .before .before .args .entries .now) (c .before .before .before .before .before .args .count) (c .before .before .before .before .loop .i) (c .before .before .before .loop-test .taken) (c .if1 .taken))
 
--- src/lib.rt:314:12
 shared-slice-read-if2 : tie.Need-shared-slice-read-if2 Inv-loop μ-loop
 shared-slice-read-if2 c = search needs
 
--- src/lib.rt:314:32
 add-if2 : tie.Need-add-if2 Inv-loop μ-loop
 add-if2 c = search needs
 
--- src/lib.rt:314:24
 shared-slice-read-if2-2 : tie.Need-shared-slice-read-if2-2 Inv-loop μ-loop
 shared-slice-read-if2-2 c = search needs
 
--- src/lib.rt:315:13
 returns-2 : tie.Need-returns-2 Inv-loop μ-loop
 returns-2 c = sym (byte-differs (c .before .before .before .before .before .before .before .before .args .kinds .now) (c .before .before .before .before .before .before .before .before .args .bytes .now) (c .before .before .before .before .before .before .before .before .args .entries .now) (c .before .before .before .before .before .before .before .before .args .count) (c .before .before .before .before .before .before .before .loop .i) (c .before .before .before .before .before .before .loop-test .taken) (c .before .before .before .if1 .left) (c .if2 .taken))
 
--- src/lib.rt:317:9
 add-i : tie.Need-add-i Inv-loop μ-loop
 add-i c = search needs
 
--- src/lib.rt:309:5
 loop-less : tie.Need-loop-less Inv-loop μ-loop
 loop-less c = search needs
 
--- src/lib.rt:309:5
 loop-again : tie.Need-loop-again Inv-loop μ-loop
 loop-again c = (search needs, entry-matches (c .before .before .before .before .before .before .before .before .args .kinds .now) (c .before .before .before .before .before .before .before .before .args .bytes .now) (c .before .before .before .before .before .before .before .before .args .entries .now) (c .before .before .before .before .before .before .before .loop .i) (c .before .before .before .if1 .left) (c .if2 .left) (c .before .before .before .before .before .before .before .loop .inv .1))
 
--- src/lib.rt:304:1
 returns-3 : tie.Need-returns-3 Inv-loop μ-loop
 returns-3 c =
     let end : c .before .loop .i ≡ c .before .before .args .count = omega arith in

@@ -1,34 +1,23 @@
-use mathlib.Core.Path.{refl}
-use Rattle.basis.proofs.Rules.{cases}
-use borrow.Author.Tests.{not-true, not-false}
+-- `matching::in_range` meets its contract.
 use Rattle.matching.specs.Tolerance.{judgeInRange}
-use Rattle.matching.specs.Fit.{scalarGates, featuresOf, toleranceOf}
 use borrow.Author.Needs.{needs}
 use Rattle.matching.proofs.in_range.Statement.{statement}
 use Rattle.matching.proofs.in_range.Tie as tie
-use Rattle.matching.proofs.in_range.Reads as reads
-use Rattle.matching.proofs.in_range.Lts as lts
-use Rattle.quirks.proofs.QuirkSet.is_empty.Reads as is-empty-reads
 
--- src/lib.rt:430:8
 is-empty-requires : tie.Need-is-empty-requires
 is-empty-requires c κs = search needs
 
--- src/lib.rt:431:12
 is-empty-requires-2 : tie.Need-is-empty-requires-2
 is-empty-requires-2 c κs = search needs
 
--- src/lib.rt:432:13
 returns : tie.Need-returns
 unfolding judgeInRange
 returns c = simp (← c .before .before .before .is-empty .ensures, c .before .before .if1 .taken, ← c .before .is-empty2 .ensures, c .if2 .taken)
 
--- src/lib.rt:425:1
 returns-2 : tie.Need-returns-2
 unfolding judgeInRange
 returns-2 c = simp (← c .before .before .before .is-empty .ensures, c .before .before .if1 .taken, ← c .before .is-empty2 .ensures, c .if2 .left)
 
--- src/lib.rt:425:1
 returns-3 : tie.Need-returns-3
 unfolding judgeInRange
 returns-3 c = simp (← c .before .is-empty .ensures, c .if1 .left)

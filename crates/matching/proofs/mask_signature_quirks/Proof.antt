@@ -1,26 +1,17 @@
+-- `matching::mask_signature_quirks` meets its contract.
 use Rattle.matching.specs.Tolerance.{maskedQuirks}
 use Rattle.quirks.proofs.Named.{mask-when-obs-v4-bits, mask-when-obs-v6-bits}
-use mathlib.Core.Path.{refl}
-use Rattle.basis.proofs.Rules.{cases}
-use borrow.Author.Tests.{not-true, not-false}
-use Rattle.matching.specs.Tolerance.{ttlFit, reportedHops, quirksFit}
 use borrow.Author.Needs.{needs}
 use Rattle.matching.proofs.mask_signature_quirks.Statement.{statement}
 use Rattle.matching.proofs.mask_signature_quirks.Tie as tie
-use Rattle.matching.proofs.mask_signature_quirks.Reads as reads
-use Rattle.matching.proofs.mask_signature_quirks.Lts as lts
 use Rattle.matching.specs.Tolerance.{maskedQuirks}
-use Rattle.quirks.proofs.QuirkSet.difference.Reads as difference-reads
 
--- src/lib.rt:275:27
 enum-told : tie.Need-enum-told
 enum-told c = search needs
 
--- src/lib.rt:276:27
 enum-told-2 : tie.Need-enum-told-2
 enum-told-2 c = search needs
 
--- src/lib.rt:277:28
 enum-told-3 : tie.Need-enum-told-3
 enum-told-3 c = search needs
 
@@ -28,7 +19,6 @@ enum-told-3 c = search needs
 enum-told-4 : tie.Need-enum-told-4
 enum-told-4 c = search needs
 
--- src/lib.rt:278:30
 difference-requires : tie.Need-difference-requires
 difference-requires c κs = search needs
 
@@ -36,26 +26,21 @@ difference-requires c κs = search needs
 enum-told-5 : tie.Need-enum-told-5
 enum-told-5 c = search needs
 
--- src/lib.rt:279:30
 difference-requires-2 : tie.Need-difference-requires-2
 difference-requires-2 c κs = search needs
 
--- src/lib.rt:271:1
 returns : tie.Need-returns
 unfolding maskedQuirks
 returns c = simp (c .enum-told .given .1)
 
--- src/lib.rt:271:1
 returns-2 : tie.Need-returns-2
 unfolding maskedQuirks
 returns-2 c = simp (c .enum-told2 .given .1)
 
--- src/lib.rt:271:1
 returns-3 : tie.Need-returns-3
 unfolding maskedQuirks
 returns-3 c = simp (c .before .before .before .enum-told3 .given .1, c .before .enum-told4 .given .1, c .difference .ensures, mask-when-obs-v4-bits)
 
--- src/lib.rt:271:1
 returns-4 : tie.Need-returns-4
 unfolding maskedQuirks
 returns-4 c = simp (c .before .before .before .enum-told3 .given .1, c .before .enum-told5 .given .1, c .difference2 .ensures, mask-when-obs-v6-bits)

@@ -1,46 +1,38 @@
-use mathlib.Core.Path.{refl}
+-- `matching::multiple_matches` meets its contract.
 use Rattle.basis.proofs.Rules.{cases}
-use borrow.Author.Tests.{not-true, not-false}
-use Rattle.matching.specs.Tolerance.{ttlFit, reportedHops, quirksFit}
 use borrow.Author.Needs.{needs}
 use Rattle.matching.proofs.multiple_matches.Statement.{statement}
 use Rattle.matching.proofs.multiple_matches.Tie as tie
-use Rattle.matching.proofs.multiple_matches.Reads as reads
-use Rattle.matching.proofs.multiple_matches.Lts as lts
 
--- src/lib.rt:176:31
 enum-told : tie.Need-enum-told
 enum-told c = search needs
 
--- src/lib.rt:177:29
 enum-known-observed : tie.Need-enum-known-observed
 enum-known-observed c = search needs
 
--- src/lib.rt:179:17
 returns : tie.Need-returns
 returns c = simp (c .before .before .before .observed .given .1) (search cases)
 
--- src/lib.rt:172:1
 returns-2 : tie.Need-returns-2
 returns-2 c = simp (c .enum-told .given .1)
 
--- src/lib.rt:172:1
 returns-3 : tie.Need-returns-3
 returns-3 c =
     let at-observed = c .before .before .before .before in
-    simp
-    ( at-observed .observed .given .1
-    , c .if2 .taken )
+    simp (
+      at-observed .observed .given .1,
+      c .if2 .taken,
+    )
     (search cases)
 
--- src/lib.rt:172:1
 returns-4 : tie.Need-returns-4
 returns-4 c =
     let at-if2 = c .before in
     let at-observed = at-if2 .before .before .before .before in
-    simp
-    ( at-observed .observed .given .1
-    , at-if2 .if2 .left )
+    simp (
+      at-observed .observed .given .1,
+      at-if2 .if2 .left,
+    )
     (search cases)
 
 pub multiple-matches-spec : {M : Type 1} → statement M

@@ -1,64 +1,46 @@
-use mathlib.Core.Path.{refl}
-use Rattle.basis.proofs.Rules.{cases}
-use borrow.Author.Tests.{not-true, not-false}
-use Rattle.matching.specs.Gates.{versionMatches, olenMatches, mssMatches, windowMatches, scaleMatches, payloadMatches, layoutMatches}
-use Rattle.matching.specs.Tolerance.{maskedQuirks, judge, judgeInRange}
-use Rattle.matching.specs.Fit.{scalarGates, toleranceOf}
+-- `matching::payload_size_matches` meets its contract.
+use Rattle.matching.specs.Gates.{payloadMatches}
 use borrow.Author.Needs.{needs}
 use Rattle.matching.proofs.payload_size_matches.Statement.{statement}
 use Rattle.matching.proofs.payload_size_matches.Tie as tie
-use Rattle.matching.proofs.payload_size_matches.Reads as reads
-use Rattle.matching.proofs.payload_size_matches.Lts as lts
 
--- src/lib.rt:165:28
 enum-told : tie.Need-enum-told
 enum-told c = search needs
 
--- src/lib.rt:166:29
 enum-told-2 : tie.Need-enum-told-2
 enum-told-2 c = search needs
 
--- src/lib.rt:167:34
 enum-told-3 : tie.Need-enum-told-3
 enum-told-3 c = search needs
 
--- src/lib.rt:168:37
 enum-told-4 : tie.Need-enum-told-4
 enum-told-4 c = search needs
 
--- src/lib.rt:170:32
 enum-told-5 : tie.Need-enum-told-5
 enum-told-5 c = search needs
 
--- src/lib.rt:171:34
 enum-told-6 : tie.Need-enum-told-6
 enum-told-6 c = search needs
 
--- src/lib.rt:172:37
 enum-told-7 : tie.Need-enum-told-7
 enum-told-7 c = search needs
 
--- src/lib.rt:161:1
 returns : tie.Need-returns
 unfolding payloadMatches
 returns c = simp (c .enum-told .given .1)
 
--- src/lib.rt:161:1
 returns-2 : tie.Need-returns-2
 unfolding payloadMatches
 returns-2 c = simp (c .before .before .enum-told2 .given .1, c .enum-told3 .given .1)
 
--- src/lib.rt:161:1
 returns-3 : tie.Need-returns-3
 unfolding payloadMatches
 returns-3 c = simp (c .before .before .enum-told2 .given .1, c .enum-told4 .given .1)
 
--- src/lib.rt:161:1
 returns-4 : tie.Need-returns-4
 unfolding payloadMatches
 returns-4 c = simp (c .before .before .enum-told5 .given .1, c .enum-told6 .given .1)
 
--- src/lib.rt:161:1
 returns-5 : tie.Need-returns-5
 unfolding payloadMatches
 returns-5 c = simp (c .before .before .enum-told5 .given .1, c .enum-told7 .given .1)

@@ -1,49 +1,36 @@
+-- `matching::quirks_fit` meets its contract.
 use Rattle.quirks.proofs.Named.{fuzzy-deletable-bits, fuzzy-addable-bits}
 use mathlib.Core.Path.{sym, _∙_}
-use mathlib.Core.Path.{refl}
-use Rattle.basis.proofs.Rules.{cases}
 use borrow.Author.Tests.{not-true, not-false}
-use Rattle.matching.specs.Tolerance.{ttlFit, reportedHops, quirksFit}
+use Rattle.matching.specs.Tolerance.{quirksFit}
 use borrow.Author.Needs.{needs}
 use Rattle.matching.proofs.quirks_fit.Statement.{statement}
 use Rattle.matching.proofs.quirks_fit.Tie as tie
-use Rattle.matching.proofs.quirks_fit.Reads as reads
-use Rattle.matching.proofs.quirks_fit.Lts as lts
-use Rattle.quirks.proofs.QuirkSet.difference.Reads as difference-reads
-use Rattle.quirks.proofs.QuirkSet.is_empty.Reads as is-empty-reads
 
--- src/lib.rt:288:9
 difference-requires : tie.Need-difference-requires
 difference-requires c κs = search needs
 
--- src/lib.rt:289:9
 difference-requires-2 : tie.Need-difference-requires-2
 difference-requires-2 c κs = search needs
 
--- src/lib.rt:290:9
 difference-requires-3 : tie.Need-difference-requires-3
 difference-requires-3 c κs = search needs
 
--- src/lib.rt:290:9
 is-empty-requires : tie.Need-is-empty-requires
 is-empty-requires c κs = search needs
 
--- src/lib.rt:291:9
 returns : tie.Need-returns
 unfolding quirksFit
 returns c =
     let rejected = rw (c .before .before .difference3 .ensures, c .before .before .before .before .difference .ensures) at (sym (c .before .is-empty .ensures) ∙ not-true (c .before .is-empty .result) (c .if1 .taken)) in
     simp (fuzzy-deletable-bits, rejected)
 
--- src/lib.rt:293:9
 difference-requires-4 : tie.Need-difference-requires-4
 difference-requires-4 c κs = search needs
 
--- src/lib.rt:293:9
 is-empty-requires-2 : tie.Need-is-empty-requires-2
 is-empty-requires-2 c κs = search needs
 
--- src/lib.rt:294:9
 returns-2 : tie.Need-returns-2
 unfolding quirksFit
 returns-2 c =
@@ -51,7 +38,6 @@ returns-2 c =
     let added = rw (c .before .before .difference4 .ensures, c .before .before .before .before .before .before .difference2 .ensures) at (sym (c .before .is-empty2 .ensures) ∙ not-true (c .before .is-empty2 .result) (c .if2 .taken)) in
     simp (fuzzy-deletable-bits, fuzzy-addable-bits, missing, added)
 
--- src/lib.rt:285:1
 returns-3 : tie.Need-returns-3
 unfolding quirksFit
 returns-3 c =

@@ -1,71 +1,60 @@
+-- `matching::ttl_fit` meets its contract.
 use native.Mathlib.Omega.{arith}
 use Prim.Native.Nat.{_-_}
 use mathlib.Core.Path.{_≡_}
-use mathlib.Core.Path.{refl}
 use Rattle.basis.proofs.Rules.{cases}
-use borrow.Author.Tests.{not-true, not-false}
-use Rattle.matching.specs.Tolerance.{ttlFit, reportedHops, quirksFit}
+use Rattle.matching.specs.Tolerance.{ttlFit}
 use borrow.Author.Needs.{needs}
 use Rattle.matching.proofs.ttl_fit.Statement.{statement}
 use Rattle.matching.proofs.ttl_fit.Tie as tie
-use Rattle.matching.proofs.ttl_fit.Reads as reads
-use Rattle.matching.proofs.ttl_fit.Lts as lts
-use Rattle.matching.proofs.is_bad.Reads as is-bad-reads
-use Rattle.matching.proofs.signature_initial_ttl.Reads as signature-initial-ttl-reads
 
--- src/lib.rt:234:9
 signature-initial-ttl-requires : tie.Need-signature-initial-ttl-requires
 signature-initial-ttl-requires c κs = search needs
 
--- src/lib.rt:236:12
 is-bad-requires : tie.Need-is-bad-requires
 is-bad-requires c κs = search needs
 
--- src/lib.rt:237:13
 returns : tie.Need-returns
 unfolding ttlFit
 returns c = simp (← c .before .before .before .signature-initial-ttl .ensures, ← c .before .is-bad .ensures, c .if2 .taken) (search cases)
 
--- src/lib.rt:239:9
 returns-2 : tie.Need-returns-2
 unfolding ttlFit
 returns-2 c =
     let none : c .before .before .before .signature-initial-ttl .result - c .before .before .before .before .args .observed ≡ 0 = omega arith in
     simp (← c .before .before .before .signature-initial-ttl .ensures, ← c .before .is-bad .ensures, c .if2 .left, none) (search cases)
 
--- src/lib.rt:242:8
 is-bad-requires-2 : tie.Need-is-bad-requires-2
 is-bad-requires-2 c κs = search needs
 
--- src/lib.rt:243:9
 returns-3 : tie.Need-returns-3
 unfolding ttlFit
 returns-3 c = simp (← c .before .before .before .signature-initial-ttl .ensures, ← c .before .is-bad2 .ensures, c .if3 .taken) (search cases)
 
--- src/lib.rt:246:9
 returns-4 : tie.Need-returns-4
 unfolding ttlFit
 returns-4 c =
     let at-if3 = c .before in
     let at-is-bad2 = at-if3 .before in
     let at-signature-initial-ttl = at-is-bad2 .before .before in
-    simp
-    ( ← at-signature-initial-ttl .signature-initial-ttl .ensures
-    , ← at-is-bad2 .is-bad2 .ensures
-    , at-if3 .if3 .left )
+    simp (
+      ← at-signature-initial-ttl .signature-initial-ttl .ensures,
+      ← at-is-bad2 .is-bad2 .ensures,
+      at-if3 .if3 .left,
+    )
     (search cases)
 
--- src/lib.rt:231:1
 returns-5 : tie.Need-returns-5
 unfolding ttlFit
 returns-5 c =
     let at-if3 = c .before in
     let at-is-bad2 = at-if3 .before in
     let at-signature-initial-ttl = at-is-bad2 .before .before in
-    simp
-    ( ← at-signature-initial-ttl .signature-initial-ttl .ensures
-    , ← at-is-bad2 .is-bad2 .ensures
-    , at-if3 .if3 .left )
+    simp (
+      ← at-signature-initial-ttl .signature-initial-ttl .ensures,
+      ← at-is-bad2 .is-bad2 .ensures,
+      at-if3 .if3 .left,
+    )
     (search cases)
 
 pub ttl-fit-spec : {M : Type 1} → statement M

@@ -1,74 +1,54 @@
-use mathlib.Core.Path.{refl}
+-- `matching::window_size_matches` meets its contract.
 use Rattle.basis.proofs.Rules.{cases}
-use borrow.Author.Tests.{not-true, not-false}
-use Rattle.matching.specs.Gates.{versionMatches, olenMatches, mssMatches, windowMatches, scaleMatches, payloadMatches, layoutMatches}
-use Rattle.matching.specs.Tolerance.{maskedQuirks, judge, judgeInRange}
-use Rattle.matching.specs.Fit.{scalarGates, toleranceOf}
+use Rattle.matching.specs.Gates.{windowMatches}
 use borrow.Author.Needs.{needs}
 use Rattle.matching.proofs.window_size_matches.Statement.{statement}
 use Rattle.matching.proofs.window_size_matches.Tie as tie
-use Rattle.matching.proofs.window_size_matches.Reads as reads
-use Rattle.matching.proofs.window_size_matches.Lts as lts
-use Rattle.matching.proofs.multiple_matches.Reads as multiple-matches-reads
 
--- src/lib.rt:196:28
 enum-told : tie.Need-enum-told
 enum-told c = search needs
 
--- src/lib.rt:197:27
 enum-known-signature : tie.Need-enum-known-signature
 enum-known-signature c = search needs
 
--- src/lib.rt:198:25
 enum-known-signature-2 : tie.Need-enum-known-signature-2
 enum-known-signature-2 c = search needs
 
--- src/lib.rt:200:17
 returns : tie.Need-returns
 unfolding windowMatches
 returns c = simp (c .before .before .signature2 .given .1) (search cases)
 
--- src/lib.rt:202:13
 rem-result : tie.Need-rem-result
 rem-result c = search needs
 
--- src/lib.rt:204:25
 enum-known-signature-3 : tie.Need-enum-known-signature-3
 enum-known-signature-3 c = search needs
 
--- src/lib.rt:204:38
 multiple-matches-requires : tie.Need-multiple-matches-requires
 multiple-matches-requires c κs = search needs
 
--- src/lib.rt:205:25
 enum-known-signature-4 : tie.Need-enum-known-signature-4
 enum-known-signature-4 c = search needs
 
--- src/lib.rt:205:38
 multiple-matches-requires-2 : tie.Need-multiple-matches-requires-2
 multiple-matches-requires-2 c κs = search needs
 
--- src/lib.rt:192:1
 returns-2 : tie.Need-returns-2
 unfolding windowMatches
 returns-2 c = simp (c .enum-told .given .1)
 
--- src/lib.rt:192:1
 returns-3 : tie.Need-returns-3
 unfolding windowMatches
 returns-3 c = simp (c .before .signature .given .1)
 
--- src/lib.rt:192:1
 returns-4 : tie.Need-returns-4
 unfolding windowMatches
 returns-4 c = simp (c .before .before .signature2 .given .1) (search cases)
 
--- src/lib.rt:192:1
 returns-5 : tie.Need-returns-5
 unfolding windowMatches
 returns-5 c = simp (c .before .before .signature3 .given .1, ← c .multiple-matches .ensures)
 
--- src/lib.rt:192:1
 returns-6 : tie.Need-returns-6
 unfolding windowMatches
 returns-6 c = simp (c .before .before .signature4 .given .1, ← c .multiple-matches2 .ensures)

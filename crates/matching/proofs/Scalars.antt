@@ -1,0 +1,46 @@
+-- Laws of the six scalar gates: one that fails closes them all; where five hold, the window decides.
+use mathlib.Core.Path.{_≡_, refl}
+use mathlib.Core.Bool.{Bool, true, false, _&&_}
+use Rattle.matching.specs.declared.Features.{Features}
+use Rattle.matching.specs.declared.Signature.{Signature}
+use Rattle.matching.specs.Gates.{versionMatches, olenMatches, mssMatches, windowMatches, scaleMatches, payloadMatches}
+use Rattle.matching.specs.Fit.{scalarGates}
+
+pub and-false : (a : Bool) → a && false ≡ false
+and-false true = refl
+and-false false = refl
+
+and-true : (a : Bool) → a && true ≡ a
+and-true true = refl
+and-true false = refl
+
+module _ (f : Features) (s : Signature) where
+  pub fails-version : versionMatches (f .version) (s .version) ≡ false → scalarGates f s ≡ false
+  unfolding scalarGates
+  fails-version e = rw e
+
+  pub fails-olen : olenMatches (f .olen) (s .olen) ≡ false → scalarGates f s ≡ false
+  unfolding scalarGates
+  fails-olen e = simp (e, and-false)
+
+  pub fails-mss : mssMatches (f .mss) (s .mss) ≡ false → scalarGates f s ≡ false
+  unfolding scalarGates
+  fails-mss e = simp (e, and-false)
+
+  pub fails-scale : scaleMatches (f .wscale) (s .wscale) ≡ false → scalarGates f s ≡ false
+  unfolding scalarGates
+  fails-scale e = simp (e, and-false)
+
+  pub fails-payload : payloadMatches (f .pclass) (s .pclass) ≡ false → scalarGates f s ≡ false
+  unfolding scalarGates
+  fails-payload e = simp (e, and-false)
+
+  pub window-decides
+      : versionMatches (f .version) (s .version) ≡ true
+      → olenMatches (f .olen) (s .olen) ≡ true
+      → mssMatches (f .mss) (s .mss) ≡ true
+      → scaleMatches (f .wscale) (s .wscale) ≡ true
+      → payloadMatches (f .pclass) (s .pclass) ≡ true
+      → scalarGates f s ≡ windowMatches (f .wsize) (s .wsize) (f .multiplier)
+  unfolding scalarGates
+  window-decides v o m w p = simp (v, o, m, w, p, and-true)

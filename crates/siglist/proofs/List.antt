@@ -1,0 +1,65 @@
+-- Laws of the list: its areas as numbers, and one turn of the loop over its records.
+use mathlib.Core.Path.{_≡_, refl, sym, _∙_, ap, subst}
+use mathlib.Core.Bool.{Bool, true, false, cond, _&&_}
+use mathlib.Core.List.{List}
+use Prim.Native.Nat.{ℕ, zero, suc, _+_, _*_, _-_, _<_, _≤_}
+use native.Mathlib.Omega.{arith}
+use lib.Dec.{leb}
+use lib.ListN.{length}
+use borrow.Author.Tests.{leb-true, le-leb}
+use Rattle.basis.proofs.Tests.{and-left, and-right}
+use Rattle.siglist.specs.declared.Areas.{Areas}
+use Rattle.siglist.specs.declared.ListAnswer.the-variants as answer
+use Rattle.siglist.specs.List.{recordCount, recordsOffset, layoutCount, layoutOffset, listFits, areasOf, AreasFit, recordGood, recordsFrom}
+
+-- A list that fits has a whole header.
+pub header-fits : (l : List ℕ) → listFits l ≡ true → 8 ≤ length l
+unfolding listFits
+header-fits l e =
+    leb-true 8 (length l)
+    (and-left (leb 8 (length l)) _ (and-left (leb 8 (length l) && leb (recordsOffset l + 24 * recordCount l) (length l)) _ e))
+
+areas-of-fit : (l : List ℕ) → listFits l ≡ true → AreasFit l (areasOf l)
+unfolding listFits areasOf
+areas-of-fit l e =
+    let both = and-left (leb 8 (length l) && leb (recordsOffset l + 24 * recordCount l) (length l)) _ e in
+    record {
+      header = header-fits l e;
+      records = refl;
+      recordsAt = refl;
+      entries = refl;
+      entriesAt = refl;
+      recordsFit = leb-true _ (length l) (and-right (leb 8 (length l)) _ both);
+      entriesFit =
+          leb-true _ (length l) (and-right (leb 8 (length l) && leb (recordsOffset l + 24 * recordCount l) (length l)) _ e);
+    }
+
+-- Areas that were read off a list that fits.
+pub areas-fit : (l : List ℕ) (a : Areas) → listFits l ≡ true → a ≡ areasOf l → AreasFit l a
+areas-fit l a fits same = subst (AreasFit l) (sym same) (areas-of-fit l fits)
+
+module _ (l : List ℕ) (i n : ℕ) (inside : i < n) where
+  more : n - i ≡ suc (n - (i + 1))
+  more = omega arith
+
+  pub record-good-turn : recordGood l i ≡ true → recordsFrom l (i + 1) (n - (i + 1)) ≡ recordsFrom l i (n - i)
+  unfolding recordsFrom
+  record-good-turn e = rw (more, e)
+
+  pub record-bad-turn : recordGood l i ≡ false → recordsFrom l i (n - i) ≡ answer.BadRecord i
+  unfolding recordsFrom
+  record-bad-turn e = rw (more, e)
+
+pub records-end : (l : List ℕ) (i n : ℕ) → n ≤ i → recordsFrom l i (n - i) ≡ answer.Good
+unfolding recordsFrom
+records-end l i n h = let none : n - i ≡ 0 = omega arith in rw none
+
+-- The areas of a list fit: so does the list.
+pub list-fits : (l : List ℕ) (a : Areas) → AreasFit l a → listFits l ≡ true
+unfolding listFits
+list-fits l a fit =
+    rw (
+      le-leb 8 (length l) (fit .header),
+      le-leb (recordsOffset l + 24 * recordCount l) (length l) (omega arith),
+      le-leb (layoutOffset l + 2 * layoutCount l) (length l) (omega arith),
+    )

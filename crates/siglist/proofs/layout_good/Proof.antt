@@ -1,0 +1,75 @@
+-- `siglist::layout_good` meets its contract.
+use Rattle.siglist.specs.List.{layoutCount, layoutLies}
+use Rattle.basis.proofs.Rules.{cases}
+use Prim.Native.Nat.{_+_}
+use borrow.Author.Tests.{le-leb, lt-leb}
+use native.Mathlib.Omega.{arith}
+use borrow.Author.Needs.{needs}
+use Rattle.siglist.proofs.layout_good.Statement.{statement}
+use Rattle.siglist.proofs.layout_good.Tie as tie
+
+returns : tie.Need-returns
+unfolding layoutLies
+returns c = search cases
+
+returns-2 : tie.Need-returns-2
+unfolding layoutLies
+returns-2 c =
+    let a = c .before .before .before .before .args in
+    let pre = c .before .before .before .before .pre in
+    rw (le-leb (a .count) 40 (omega arith), lt-leb (a .first + a .count) (layoutCount (a .list .now)) (omega arith))
+
+returns-3 : tie.Need-returns-3
+unfolding layoutLies
+returns-3 c =
+    let a = c .before .before .before .before .before .before .args in
+    let pre = c .before .before .before .before .before .before .pre in
+    rw (le-leb (a .count) 40 (omega arith), lt-leb (a .first + a .count) (layoutCount (a .list .now)) (omega arith))
+
+mul-start : tie.Need-mul-start
+mul-start c = search needs
+
+add-start : tie.Need-add-start
+add-start c = search needs
+
+mul-end : tie.Need-mul-end
+mul-end c = search needs
+
+add-end : tie.Need-add-end
+add-end c = search needs
+
+sub-entries-good : tie.Need-sub-entries-good
+sub-entries-good c = search needs
+
+part-entries-good-start : tie.Need-part-entries-good-start
+part-entries-good-start c = search needs
+
+part-entries-good-end : tie.Need-part-entries-good-end
+part-entries-good-end c = search needs
+
+entries-good-requires : tie.Need-entries-good-requires
+entries-good-requires c κs = search needs
+
+returns-4 : tie.Need-returns-4
+unfolding layoutLies
+returns-4 c =
+    let a = c .before .before .before .before .before .before .before .before .before .args in
+    let pre = c .before .before .before .before .before .before .before .before .before .pre in
+    rw (le-leb (a .count) 40 (omega arith), le-leb (a .first + a .count) (layoutCount (a .list .now)) (omega arith), ← pre .entriesAt, c .entries-good .ensures)
+
+pub layout-good-spec : {M : Type 1} → statement M
+layout-good-spec =
+    tie.close
+    (tie.spec
+    returns
+    returns-2
+    returns-3
+    mul-start
+    add-start
+    mul-end
+    add-end
+    sub-entries-good
+    part-entries-good-start
+    part-entries-good-end
+    entries-good-requires
+    returns-4)

@@ -1,0 +1,3 @@
+pub mod List
+pub mod Record
+pub mod Search

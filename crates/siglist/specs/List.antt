@@ -1,0 +1,81 @@
+-- The signature list (document 01, "The signature list"): its header, its areas, its records and their layouts.
+use mathlib.Core.Path.{_≡_}
+use Prim.Native.Nat.{ℕ, zero, suc, _+_, _*_, _≤_}
+use mathlib.Core.Bool.{Bool, cond, not, _&&_}
+use mathlib.Core.List.{List}
+use lib.Dec.{eqb, leb, ltb}
+use lib.ListN.{length}
+use Rattle.basis.specs.Bytes.{be16, part}
+use Rattle.siglist.specs.declared.Areas.{Areas}
+use Rattle.siglist.specs.declared.ListAnswer.{ListAnswer}
+use Rattle.siglist.specs.declared.ListAnswer.the-variants as answer
+use Rattle.siglist.specs.Record.{firstEntry, entryCount, scalarsGood, entriesGood}
+
+-- "Header of 8 bytes, four two-byte numbers: signature count, offset of records, layout entry count, offset of layout entries."
+abbrev pub recordCount : List ℕ → ℕ
+recordCount l = be16 l 0
+
+abbrev pub recordsOffset : List ℕ → ℕ
+recordsOffset l = be16 l 2
+
+abbrev pub layoutCount : List ℕ → ℕ
+layoutCount l = be16 l 4
+
+abbrev pub layoutOffset : List ℕ → ℕ
+layoutOffset l = be16 l 6
+
+-- "An area fits exactly if its offset plus its size is at most the length, also at count 0."
+abbrev pub areaFits : ℕ → ℕ → List ℕ → Bool
+areaFits offset size l = leb (offset + size) (length l)
+
+-- Refusal 9: "list header or its areas do not fit".
+unfoldable pub listFits : List ℕ → Bool
+listFits l = leb 8 (length l) && areaFits (recordsOffset l) (24 * recordCount l) l && areaFits (layoutOffset l) (2 * layoutCount l) l
+
+-- The four numbers of the header.
+unfoldable pub areasOf : List ℕ → Areas
+areasOf l =
+    record { records = recordCount l; «records_offset» = recordsOffset l; entries = layoutCount l; «entries_offset» = layoutOffset l }
+
+-- These are the numbers of a list's header, and its areas fit.
+pub record AreasFit (l : List ℕ) (a : Areas) : Type 0 where
+  pub header : 8 ≤ length l
+  pub records : a .records ≡ recordCount l
+  pub recordsAt : a .«records_offset» ≡ recordsOffset l
+  pub entries : a .entries ≡ layoutCount l
+  pub entriesAt : a .«entries_offset» ≡ layoutOffset l
+  pub recordsFit : a .«records_offset» + 24 * a .records ≤ length l
+  pub entriesFit : a .«entries_offset» + 2 * a .entries ≤ length l
+
+-- Where record i starts, and its 24 bytes.
+abbrev pub recordStart : List ℕ → ℕ → ℕ
+recordStart l i = recordsOffset l + 24 * i
+
+abbrev pub recordAt : List ℕ → ℕ → List ℕ
+recordAt l i = part (recordStart l i) (recordStart l i + 24) l
+
+-- So many layout entries from one on, where they lie.
+abbrev pub entriesFrom : List ℕ → ℕ → ℕ → List ℕ
+entriesFrom l first count = part (layoutOffset l + 2 * first) (layoutOffset l + 2 * first + 2 * count) l
+
+-- The entries of a record's layout.
+abbrev pub entriesOf : List ℕ → List ℕ → List ℕ
+entriesOf l r = entriesFrom l (firstEntry r) (entryCount r)
+
+-- "its layout exceeds 40 entries, has first entry plus count above the entry count, or holds a bad entry"
+unfoldable pub layoutLies : List ℕ → ℕ → ℕ → Bool
+layoutLies l first count =
+    leb count 40 && leb (first + count) (layoutCount l) && entriesGood (entriesFrom l first count) count
+
+-- A record is well formed if no condition makes it bad.
+unfoldable pub recordGood : List ℕ → ℕ → Bool
+recordGood l i = scalarsGood (recordAt l i) && layoutLies l (firstEntry (recordAt l i)) (entryCount (recordAt l i))
+
+-- Of so many records from this one on: all well formed, or the index of the first that is bad.
+unfoldable pub recordsFrom : List ℕ → ℕ → ℕ → ListAnswer
+recordsFrom l i zero = answer.Good
+recordsFrom l i (suc n) = cond (recordGood l i) (recordsFrom l (i + 1) n) (answer.BadRecord i)
+
+-- Refusals 9 and 10, in this order.
+unfoldable pub checkList : List ℕ → ListAnswer
+checkList l = cond (listFits l) (recordsFrom l 0 (recordCount l)) answer.DoesNotFit
