@@ -3,7 +3,26 @@ use mathlib.Core.Path.{refl}
 use Rattle.ttl.specs.Ttl.{initialOf, guessOf, readingOf}
 use Rattle.window_size.specs.Divisors.{twelve, divides}
 use Rattle.window_size.specs.Multiplier.{firstMultiple, multiplierOf}
-use Rattle.acceptance.specs.Values.{TtlValues, WindowValues, Values}
+use Rattle.basis.specs.Bytes.{be16, be32, anyNonzero}
+use Rattle.basis.specs.Digits.{digit}
+use Rattle.basis.specs.Tests.{allBelow}
+use Rattle.quirks.specs.Quirks.{placeOf, bitOf, holds, contains, isEmpty, with, addIf, difference}
+use Rattle.quirks.specs.Named.{fromQuirks, displayOrder, empty, fuzzyDeletable, fuzzyAddable, maskWhenObsV4, maskWhenObsV6, seventeen}
+use Rattle.ip_options.specs.IpOptions.{ipv4OptionLength}
+use Rattle.syn_options.specs.Options.{asked, runsPast, optionsAfter}
+use Rattle.syn_options.specs.Walk.{entryByte, putEntry, laterMss, laterScale, trailingNonzero, excessiveScaling, ownTimestampZero, peerTimestampNonzero, shownQuirks, seeOption, walkFrom, walkOf, parseOptionsRaw}
+use Rattle.observable.specs.Observation.{holdsKind, ownTimestampNonzero, windowMultiplier}
+use Rattle.flow.specs.Flags.{maskedType, flagsInvalid, isSynType}
+use Rattle.flow.specs.Ip.{ipv4Quirks, ipv4Facts, readIpv4, readIp}
+use Rattle.flow.specs.Tcp.{headerQuirks, shownQuirks as showing, payloadClass, observationOf, observed, readTcp}
+use Rattle.flow.specs.Reading.{readPacket}
+use Rattle.matching.specs.Gates.{versionMatches, olenMatches, mssMatches, windowMatches, scaleMatches, payloadMatches, entriesMatch, layoutMatches}
+use Rattle.matching.specs.Tolerance.{ttlFit, maskedQuirks, quirksFit, judgeInRange, judge}
+use Rattle.matching.specs.Fit.{featuresOf, scalarGates, toleranceOf, fitOf}
+use Rattle.siglist.specs.Record.{versionOf, ttlOf, mssOf, scaleOf, windowOf, payloadOf, signatureOf, versionGood, ttlGood, presenceGood, windowGood, payloadGood, quirksGood, scalarsGood, entryGood, entriesGood}
+use Rattle.siglist.specs.List.{listFits, layoutLies, recordGood, recordsFrom, checkList}
+use Rattle.siglist.specs.Search.{fitAt, keep, searchFrom, numbersFrom, searchOver, searchAll, searchList}
+use Rattle.acceptance.specs.Values.{TtlValues, WindowValues, OptionValues, PacketValues, FitValues, ThreeAnswers, Values}
 
 ttl-values : TtlValues
 unfolding readingOf guessOf initialOf
@@ -32,5 +51,53 @@ window-values =
       zero-passed-over = refl;
     }
 
+option-values : OptionValues
+unfolding walkOf parseOptionsRaw walkFrom optionsAfter asked runsPast putEntry entryByte seeOption laterMss laterScale shownQuirks trailingNonzero excessiveScaling ownTimestampZero peerTimestampNonzero anyNonzero addIf with bitOf placeOf contains holds digit empty fromQuirks be16 be32
+option-values =
+    record
+    { scale-15 = refl
+    ; scale-14 = refl
+    ; eol-count = refl
+    ; eol-kind = refl
+    ; eol-left = refl
+    ; eol-trailing = refl
+    ; cut-mss-count = refl
+    ; cut-mss-kind = refl
+    ; cut-mss-number = refl
+    ; raw-cut-mss-answer = refl
+    ; raw-cut-mss-count = refl
+    ; raw-cut-mss-malformed = refl
+    }
+
+packet-values : PacketValues
+unfolding readPacket readIp readIpv4 ipv4Facts ipv4Quirks ipv4OptionLength readingOf guessOf initialOf readTcp flagsInvalid maskedType isSynType observed observationOf showing headerQuirks payloadClass walkOf walkFrom optionsAfter asked runsPast putEntry entryByte seeOption laterMss laterScale shownQuirks trailingNonzero excessiveScaling ownTimestampZero peerTimestampNonzero anyNonzero addIf with bitOf placeOf empty fromQuirks be16 be32
+packet-values = record { packet-A = refl }
+
+fit-values : FitValues
+unfolding ttlFit windowMatches
+fit-values =
+    record
+    { ttl-29 = refl
+    ; ttl-28 = refl
+    ; ttl-65 = refl
+    ; bad-65 = refl
+    ; bad-0 = refl
+    ; starts-at-255 = refl
+    ; modulus-8 = refl
+    ; modulus-0 = refl
+    }
+
+three-answers : ThreeAnswers
+unfolding readPacket readIp readIpv4 ipv4Facts ipv4Quirks ipv4OptionLength readingOf guessOf initialOf readTcp flagsInvalid maskedType isSynType observed observationOf showing headerQuirks payloadClass walkOf walkFrom optionsAfter asked runsPast putEntry entryByte seeOption laterMss laterScale shownQuirks trailingNonzero excessiveScaling ownTimestampZero peerTimestampNonzero anyNonzero addIf with bitOf placeOf empty fromQuirks be16 be32 checkList listFits recordsFrom recordGood layoutLies scalarsGood versionGood ttlGood presenceGood windowGood payloadGood quirksGood entryGood entriesGood allBelow isEmpty difference seventeen displayOrder searchList searchAll searchOver searchFrom numbersFrom keep fitAt featuresOf windowMultiplier ownTimestampNonzero holdsKind contains holds digit multiplierOf firstMultiple twelve divides signatureOf versionOf ttlOf mssOf scaleOf windowOf payloadOf fitOf scalarGates versionMatches olenMatches mssMatches windowMatches scaleMatches payloadMatches layoutMatches entriesMatch toleranceOf ttlFit quirksFit maskedQuirks maskWhenObsV4 maskWhenObsV6 fuzzyDeletable fuzzyAddable judge judgeInRange
+three-answers = record { list-good = refl; exact = refl; fuzzy = refl; none = refl }
+
 pub values : Values
-values = record { ttl = ttl-values; window = window-values }
+values =
+    record
+    { ttl = ttl-values
+    ; window = window-values
+    ; options = option-values
+    ; packet = packet-values
+    ; fit = fit-values
+    ; search = three-answers
+    }

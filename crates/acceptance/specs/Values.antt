@@ -1,6 +1,30 @@
 -- Document 01, "Values to reproduce": each line marked P, as a case of the definitions. One record a subject; `Values` is the table.
 use mathlib.Core.Path.{_≡_}
 use mathlib.Core.Bool.{true, false}
+use mathlib.Core.List.{List, [], _∷_}
+use Prim.Native.Nat.{ℕ}
+use lib.ListN.{replicate, set}
+use Rattle.basis.specs.Bytes.{byteAt}
+use Rattle.quirks.specs.declared.Quirk.the-variants as quirk
+use Rattle.quirks.specs.Quirks.{setOf, contains}
+use Rattle.quirks.specs.Named.{empty}
+use Rattle.tcp.specs.declared.PayloadSize.the-variants as payload
+use Rattle.tcp.specs.declared.Wscale.the-variants as wscale
+use Rattle.syn_options.specs.declared.OptionsAnswer.the-variants as options
+use Rattle.syn_options.specs.Walk.{walkOf, parseOptionsRaw}
+use Rattle.observable.specs.declared.TcpObservation.{TcpObservation}
+use Rattle.flow.specs.declared.Answer.the-variants as answer
+use Rattle.flow.specs.Reading.{readPacket}
+use Rattle.matching.specs.declared.Hops.the-variants as hops
+use Rattle.matching.specs.declared.TtlFit.the-variants as ttlfit
+use Rattle.matching.specs.declared.WindowSize.the-variants as wsize
+use Rattle.matching.specs.Gates.{windowMatches}
+use Rattle.matching.specs.Tolerance.{initialTtl, ttlFit}
+use Rattle.siglist.specs.declared.Found.the-variants as found
+use Rattle.siglist.specs.declared.ListAnswer.the-variants as list
+use Rattle.siglist.specs.declared.SearchAnswer.the-variants as search
+use Rattle.siglist.specs.List.{checkList}
+use Rattle.siglist.specs.Search.{searchList}
 use Rattle.tcp.specs.declared.Mss.the-variants as mss
 use Rattle.tcp.specs.declared.IpVersion.the-variants as version
 use Rattle.ttl.specs.declared.Ttl.the-variants as ttl
@@ -37,6 +61,86 @@ pub record WindowValues : Type 0 where
       ≡ multiplier.Present (record { multiple = 2; «of_mtu» = false })
   pub zero-passed-over : multiplierOf 25 (mss.Present 1460) 44 false version.V4 (mss.Present 12) ≡ multiplier.Absent
 
+-- "scale 15 shows ExcessiveWindowScaling, 14 not."
+-- "options 00 00 01 00: Eol(3) with trailing nonzero."
+-- "02 04 05: the walk gives layout MSS, no MSS number; parse_options_raw gives an empty layout, malformed."
+pub record OptionValues : Type 0 where
+  pub scale-15 : contains (walkOf false true empty (3 ∷ 3 ∷ 15 ∷ []) .seen .quirks) quirk.ExcessiveWindowScaling ≡ true
+  pub scale-14 : contains (walkOf false true empty (3 ∷ 3 ∷ 14 ∷ []) .seen .quirks) quirk.ExcessiveWindowScaling ≡ false
+  pub eol-count : walkOf false true empty (0 ∷ 0 ∷ 1 ∷ 0 ∷ []) .olayout .count ≡ 1
+  pub eol-kind : byteAt (walkOf false true empty (0 ∷ 0 ∷ 1 ∷ 0 ∷ []) .olayout .kinds) 0 ≡ 0
+  pub eol-left : byteAt (walkOf false true empty (0 ∷ 0 ∷ 1 ∷ 0 ∷ []) .olayout .bytes) 0 ≡ 3
+  pub eol-trailing
+      : contains (walkOf false true empty (0 ∷ 0 ∷ 1 ∷ 0 ∷ []) .seen .quirks) quirk.TrailinigNonZero ≡ true
+  pub cut-mss-count : walkOf false true empty (2 ∷ 4 ∷ 5 ∷ []) .olayout .count ≡ 1
+  pub cut-mss-kind : byteAt (walkOf false true empty (2 ∷ 4 ∷ 5 ∷ []) .olayout .kinds) 0 ≡ 2
+  pub cut-mss-number : walkOf false true empty (2 ∷ 4 ∷ 5 ∷ []) .seen .mss ≡ mss.Absent
+  pub raw-cut-mss-answer : parseOptionsRaw (2 ∷ 4 ∷ 5 ∷ []) .answer ≡ options.Parsed
+  pub raw-cut-mss-count : parseOptionsRaw (2 ∷ 4 ∷ 5 ∷ []) .options .olayout .count ≡ 0
+  pub raw-cut-mss-malformed : parseOptionsRaw (2 ∷ 4 ∷ 5 ∷ []) .options .malformed ≡ true
+
+-- Packet A of the whole example: 20 bytes of IPv4, 20 of TCP, one MSS option of 1460.
+abbrev pub packetA : List ℕ
+packetA =
+    0x45 ∷ 0 ∷ 0 ∷ 0x2c ∷ 0 ∷ 0 ∷ 0x40 ∷ 0 ∷ 0x40 ∷ 6 ∷ 0 ∷ 0
+    ∷ 0 ∷ 0 ∷ 0 ∷ 0 ∷ 0 ∷ 0 ∷ 0 ∷ 0
+    ∷ 0 ∷ 1 ∷ 0 ∷ 2 ∷ 0 ∷ 0 ∷ 0 ∷ 1 ∷ 0 ∷ 0 ∷ 0 ∷ 0 ∷ 0x60 ∷ 2 ∷ 0x16 ∷ 0xd0 ∷ 0 ∷ 0 ∷ 0 ∷ 0
+    ∷ 2 ∷ 4 ∷ 5 ∷ 0xb4 ∷ []
+
+-- What one would write down by hand of packet A: TTL 64 at no distance, MSS 1460, window 5840, 44 header bytes, layout MSS, df.
+abbrev pub observationA : TcpObservation
+observationA =
+    record
+    { version = version.V4
+    ; ittl = ttl.Distance 64 0
+    ; olen = 0
+    ; mss = mss.Present 1460
+    ; wsize = 5840
+    ; «tot_hdr» = 44
+    ; wscale = wscale.Absent
+    ; olayout = record { kinds = 2 ∷ replicate 39 0; bytes = replicate 40 0; count = 1 }
+    ; quirks = setOf 0x2
+    ; pclass = payload.Zero
+    ; «peer_mss» = mss.Absent
+    ; tos = 0
+    }
+
+pub record PacketValues : Type 0 where
+  pub packet-A : readPacket packetA mss.Absent ≡ record { answer = answer.Syn; observation = observationA }
+
+-- "signature 64: observed 29 in range (35), 28 out (36), 65 out with hop distance 0. Bad(64): 65 rejects, 0 gives 64."
+-- "Distance(200,100) starts at 255."
+-- "window 0 fits modulus 8, not modulus 0."
+pub record FitValues : Type 0 where
+  pub ttl-29 : ttlFit 29 (ttl.Value 64) ≡ ttlfit.InRange 35
+  pub ttl-28 : ttlFit 28 (ttl.Value 64) ≡ ttlfit.OutOfRange 36
+  pub ttl-65 : ttlFit 65 (ttl.Value 64) ≡ ttlfit.OutOfRange 0
+  pub bad-65 : ttlFit 65 (ttl.Bad 64) ≡ ttlfit.Rejected
+  pub bad-0 : ttlFit 0 (ttl.Bad 64) ≡ ttlfit.InRange 64
+  pub starts-at-255 : initialTtl (ttl.Distance 200 100) ≡ 255
+  pub modulus-8 : windowMatches 0 (wsize.Mod 8) multiplier.Absent ≡ true
+  pub modulus-0 : windowMatches 0 (wsize.Mod 0) multiplier.Absent ≡ false
+
+-- The list of the whole example: one record, any version, Value 64, window MSS x 4, layout MSS, quirks 0x2, payload empty, label 7.
+abbrev pub exampleList : List ℕ
+exampleList =
+    0 ∷ 1 ∷ 0 ∷ 8 ∷ 0 ∷ 1 ∷ 0 ∷ 32
+    ∷ 0 ∷ 0 ∷ 64 ∷ 0 ∷ 0 ∷ 0 ∷ 0 ∷ 0 ∷ 3 ∷ 0 ∷ 4 ∷ 0 ∷ 0 ∷ 0 ∷ 0 ∷ 0 ∷ 0 ∷ 2 ∷ 0 ∷ 0 ∷ 1 ∷ 0 ∷ 0 ∷ 7
+    ∷ 2 ∷ 0 ∷ []
+
+-- Packet A, packet B (A with TTL byte 1c) and an observation of another window: the three answers.
+pub record ThreeAnswers : Type 0 where
+  pub list-good : checkList exampleList ≡ list.Good
+  pub exact : searchList (readPacket packetA mss.Absent .observation) exampleList ≡ search.Found (found.Exact 7)
+  pub fuzzy
+      : searchList (readPacket (set packetA 8 0x1c) mss.Absent .observation) exampleList
+      ≡ search.Found (found.Fuzzy 7 (record { hops = hops.OutOfRange 36; added = setOf 0; missing = setOf 0 }))
+  pub none : searchList (readPacket (set packetA 34 0x17) mss.Absent .observation) exampleList ≡ search.Found found.Nothing
+
 pub record Values : Type 0 where
   pub ttl : TtlValues
   pub window : WindowValues
+  pub options : OptionValues
+  pub packet : PacketValues
+  pub fit : FitValues
+  pub search : ThreeAnswers

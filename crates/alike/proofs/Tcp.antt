@@ -10,7 +10,7 @@ use Rattle.tcp.specs.declared.Mss.the-variants as mss
 use Rattle.syn_options.specs.declared.Walked.{Walked}
 use Rattle.syn_options.specs.Walk.{startWalk, walkOf}
 use Rattle.flow.specs.declared.IpFacts.{IpFacts}
-use Rattle.flow.specs.Tcp.{headerQuirks, shownQuirks, payloadClass, observationOf, observed, readTcp}
+use Rattle.flow.specs.Tcp.{headerQuirks, shownQuirks, payloadClass, observationOf, observed, knownPeer, readTcp}
 use Rattle.alike.specs.Tcp.{AlikeTcp}
 use Rattle.alike.proofs.Options.{like-row, walk-like}
 use Rattle.alike.proofs.Cut.{first-like}
@@ -40,7 +40,7 @@ module _ (f : IpFacts) (t u : List ℕ) (peer : Mss) (a : AlikeTcp t u) where
 
   read-tcp-alike : readTcp f t peer ≡ readTcp f u peer
   unfolding readTcp
-  read-tcp-alike = rw (a .control, observed-alike true mss.Absent, observed-alike false peer)
+  read-tcp-alike = rw (a .control, observed-alike true mss.Absent, observed-alike false (knownPeer peer))
 
 -- Two alike TCP parts give one reading, for every byte string, whatever its bytes.
 pub tcp-alike : (f : IpFacts) (t u : List ℕ) (peer : Mss) → AlikeTcp t u → readTcp f t peer ≡ readTcp f u peer

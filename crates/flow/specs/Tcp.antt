@@ -65,6 +65,11 @@ observationOf f t w peer =
 unfoldable pub observed : IpFacts → List ℕ → Bool → Mss → TcpObservation
 observed f t syn peer = observationOf f t (walkOf false syn (shownQuirks t (f .quirks)) (tcp.options t)) peer
 
+-- "A zero peer MSS counts as absent."
+unfoldable pub knownPeer : Mss → Mss
+knownPeer mss.Absent = mss.Absent
+knownPeer (mss.Present n) = cond (eqb n 0) mss.Absent (mss.Present n)
+
 -- "only a SYN+ACK's observation takes [the peer's MSS]; a SYN's has none"
 unfoldable pub readTcp : IpFacts → List ℕ → Mss → Reading
 readTcp f t peer =
@@ -73,5 +78,5 @@ readTcp f t peer =
     (cond (isSynType (tcp.control t))
     (record { answer = answer.Syn; observation = observed f t true mss.Absent })
     (cond (isSynAckType (tcp.control t))
-    (record { answer = answer.SynAck; observation = observed f t false peer })
+    (record { answer = answer.SynAck; observation = observed f t false (knownPeer peer) })
     (record { answer = answer.Nothing; observation = emptyObservation })))

@@ -8,7 +8,7 @@ ghost use lib.ListN.{length};
 ghost use Rattle.flow.specs.Flags.{maskedType, flagsInvalid};
 ghost use Rattle.flow.specs.Ip.{ipv4Quirks, ipv4Facts, readIpv4, ipv6Quirks, ipv6Facts, readIpv6, readIp};
 ghost use Rattle.flow.specs.Reading.{number, readPacket};
-ghost use Rattle.flow.specs.Tcp.{headerQuirks, shownQuirks, payloadClass, observationOf, observed, readTcp};
+ghost use Rattle.flow.specs.Tcp.{headerQuirks, shownQuirks, payloadClass, observationOf, observed, knownPeer, readTcp};
 use ip_options::calculate_ipv4_length;
 use ip_options::calculate_ipv6_length;
 use numbers::be16;
@@ -368,6 +368,21 @@ fn observe(facts: IpFacts, tcp: &[u8], syn: bool, peer_mss: Mss) -> TcpObservati
     tcp_observation(facts, tcp, walked, peer_mss)
 }
 
+// A zero peer MSS counts as absent.
+fn known_peer(peer_mss: Mss) -> Mss
+    ensures { λ r. ⌜ r ≡ knownPeer «peer_mss» ⌝ }
+{
+    match peer_mss {
+        Mss::Absent => Mss::Absent,
+        Mss::Present(size) => {
+            if size == 0 {
+                return Mss::Absent;
+            }
+            Mss::Present(size)
+        }
+    }
+}
+
 fn visit_tcp(facts: IpFacts, tcp: &[u8], peer_mss: Mss) -> Reading
     requires { ⌜ 20 ≤ length (now tcp) ⌝ }
     ensures { λ r. ⌜ r ≡ readTcp facts (now (tcp .entry)) «peer_mss» ⌝ }
@@ -389,7 +404,7 @@ fn visit_tcp(facts: IpFacts, tcp: &[u8], peer_mss: Mss) -> Reading
     if masked == SYN_ACK {
         return Reading {
             answer: Answer::SynAck,
-            observation: observe(facts, tcp, false, peer_mss),
+            observation: observe(facts, tcp, false, known_peer(peer_mss)),
         };
     }
     Reading {
