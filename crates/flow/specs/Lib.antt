@@ -1,4 +1,5 @@
 pub mod Flags
 pub mod Ip
 pub mod Reading
+pub mod Refusals
 pub mod Tcp

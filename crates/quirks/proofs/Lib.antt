@@ -3,3 +3,4 @@ pub mod Named
 pub mod Places
 pub mod Subset
 pub mod Unique
+pub mod Within

@@ -1,3 +1,5 @@
 pub mod Fits
 pub mod List
+pub mod Order
 pub mod Rows
+pub mod Unique

@@ -24,7 +24,7 @@ keep-nothing held label (fit.Fuzzy r) e = absurd (false≢true e)
 
 module _ (f : Features) (kinds bytes l : List ℕ) where
   -- An exact record ends the search.
-  stays : (label : ℕ) (is : List ℕ) → searchFrom (found.Exact label) f kinds bytes l is ≡ found.Exact label
+  pub stays : (label : ℕ) (is : List ℕ) → searchFrom (found.Exact label) f kinds bytes l is ≡ found.Exact label
   unfolding searchFrom keep
   stays label [] = refl
   stays label (i ∷ is) = stays label is

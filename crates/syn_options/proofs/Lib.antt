@@ -1,3 +1,4 @@
+pub mod Entries
 pub mod See
 pub mod Unique
 pub mod Walk

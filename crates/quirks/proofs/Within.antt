@@ -1,0 +1,66 @@
+-- Sets within the seventeen: the empty one, and any with a quirk more.
+use mathlib.Core.Path.{_≡_, refl, sym, _∙_, ap, subst}
+use mathlib.Core.Bool.{Bool, true, false, false≢true}
+use Prim.Native.Nat.{ℕ, _<_, _^_, max}
+use native.Mathlib.Omega.{arith}
+use native.Mathlib.Decide.{ℕ-discrete}
+use lib.Dec.{eqb}
+use Rattle.basis.specs.Digits.{digit}
+use Rattle.basis.proofs.Digits.{digit-or, digit-of-zero, digit-power-other}
+use Rattle.quirks.specs.declared.Quirk.{Quirk}
+use Rattle.quirks.specs.declared.Quirk.the-variants as quirk
+use Rattle.quirks.specs.declared.QuirkSet.{QuirkSet}
+use Rattle.quirks.specs.Quirks.{placeOf, bitOf, setOf, bitsOf, holds, with, addIf, SubsetByPlaces}
+use Rattle.quirks.specs.Named.{fromQuirks, displayOrder, empty, seventeen}
+
+pub Within : QuirkSet → Type 0
+Within s = SubsetByPlaces s seventeen
+
+-- Each of the seventeen is one of them.
+has-place : (q : Quirk) → holds seventeen (placeOf q) ≡ true
+unfolding holds seventeen fromQuirks displayOrder with bitOf placeOf digit
+has-place quirk.Ecn = refl
+has-place quirk.Df = refl
+has-place quirk.NonZeroID = refl
+has-place quirk.ZeroID = refl
+has-place quirk.MustBeZero = refl
+has-place quirk.FlowID = refl
+has-place quirk.SeqNumZero = refl
+has-place quirk.AckNumNonZero = refl
+has-place quirk.AckNumZero = refl
+has-place quirk.NonZeroURG = refl
+has-place quirk.Urg = refl
+has-place quirk.Push = refl
+has-place quirk.OwnTimestampZero = refl
+has-place quirk.PeerTimestampNonZero = refl
+has-place quirk.TrailinigNonZero = refl
+has-place quirk.ExcessiveWindowScaling = refl
+has-place quirk.OptBad = refl
+
+pub within-empty : Within empty
+unfolding Within SubsetByPlaces holds empty fromQuirks
+within-empty k low has = absurd (false≢true (ap (λ (n : ℕ). eqb n 1) (sym (digit-of-zero k)) ∙ has))
+
+-- At another place than the quirk's, the set is as before.
+other-place : (s : QuirkSet) (q : Quirk) (k : ℕ) → (placeOf q ≡ k → ⊥) → holds (with s q) k ≡ holds s k
+unfolding holds with bitOf
+other-place s q k differs =
+    ap (λ (n : ℕ). eqb n 1)
+    (digit-or (bitsOf s) (2 ^ placeOf q) k ∙ ap (max (digit (bitsOf s) k)) (digit-power-other (placeOf q) k differs) ∙ plain (digit (bitsOf s) k))
+  where
+    plain : (d : ℕ) → max d 0 ≡ d
+    plain d = omega arith
+
+pub within-with : (s : QuirkSet) (q : Quirk) → Within s → Within (with s q)
+unfolding Within SubsetByPlaces
+within-with s q inside k low has = elim (ℕ-discrete (placeOf q) k) [ yes e ↦ here e | no d ↦ there d ]
+  where
+    here : placeOf q ≡ k → holds seventeen k ≡ true
+    here e = subst (λ (n : ℕ). holds seventeen n ≡ true) e (has-place q)
+    there : (placeOf q ≡ k → ⊥) → holds seventeen k ≡ true
+    there d = inside k low (sym (other-place s q k d) ∙ has)
+
+pub within-add-if : (t : Bool) (q : Quirk) (s : QuirkSet) → Within s → Within (addIf t q s)
+unfolding addIf
+within-add-if true q s inside = within-with s q inside
+within-add-if false q s inside = inside

@@ -1,0 +1,26 @@
+-- Exactly one result meets each function's own contract.
+use Prim.Native.Nat.{ℕ}
+use mathlib.Core.List.{List}
+use contract.Lifetimes.{Lfts}
+use denote.Ref.{RefT, now}
+use Rattle.basis.specs.Unique.{ExactlyOne}
+use Rattle.basis.proofs.Unique.{equation}
+use Rattle.observable.specs.declared.TcpObservation.{TcpObservation}
+use Rattle.siglist.specs.declared.Found.{Found}
+use Rattle.siglist.specs.declared.ListAnswer.{ListAnswer}
+use Rattle.siglist.specs.declared.SearchAnswer.{SearchAnswer}
+use Rattle.siglist.specs.List.{checkList}
+use Rattle.siglist.specs.Search.{searchAll, searchList}
+use Rattle.siglist.proofs.check_list.Reads as check-list'
+use Rattle.siglist.proofs.search_checked.Reads as search-checked'
+use Rattle.siglist.proofs.search.Reads as search'
+
+module _ (κs : Lfts 1) (list : RefT (List ℕ)) where
+  pub check-list-one : ExactlyOne ListAnswer (λ (r : ListAnswer). check-list'.Post κs (list, tt) r (list, tt))
+  check-list-one = equation (checkList (now list))
+
+  pub search-checked-one : (o : TcpObservation) → ExactlyOne Found (λ (r : Found). search-checked'.Post κs (o, (list, tt)) r (o, (list, tt)))
+  search-checked-one o = equation (searchAll o (now list))
+
+  pub search-one : (o : TcpObservation) → ExactlyOne SearchAnswer (λ (r : SearchAnswer). search'.Post κs (o, (list, tt)) r (o, (list, tt)))
+  search-one o = equation (searchList o (now list))

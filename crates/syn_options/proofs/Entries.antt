@@ -1,0 +1,84 @@
+-- Laws of a walk's layout: at most forty entries, and entries past the count are 0.
+use mathlib.Core.Path.{_≡_, refl, sym, _∙_, ap}
+use mathlib.Core.Bool.{Bool, true, false, cond, _&&_}
+use mathlib.Core.List.{List, [], _∷_}
+use Prim.Native.Nat.{ℕ, zero, suc, _+_, _<_, _≤_}
+use native.Mathlib.Omega.{arith}
+use lib.ListN.{length, getD, take, set, length-take, replicate, getD-replicate}
+use lib.Seq.{getD-set-other}
+use Rattle.basis.specs.Bytes.{byteAt}
+use Rattle.quirks.specs.declared.QuirkSet.{QuirkSet}
+use Rattle.tcp.specs.declared.Layout.{Layout}
+use Rattle.syn_options.specs.declared.Walked.{Walked}
+use Rattle.syn_options.specs.Options.{Opt, asked, runsPast, optionsAfter, optionsOf}
+use Rattle.syn_options.specs.Walk.{entryByte, putEntry, putOption, walkFrom, startWalk, walkOf}
+
+-- A string has no more options than bytes.
+pub options-few : (skip : ℕ) (s : List ℕ) → length (optionsAfter skip s) ≤ length s
+unfolding optionsAfter
+options-few skip [] = omega arith
+options-few (suc skip) (b ∷ rest) = let fewer = options-few skip rest in omega arith
+options-few zero (b ∷ rest) = let fewer = options-few (asked b rest) rest in omega arith
+
+-- Each option fills one entry.
+pub walk-count
+    : (stop syn : Bool) (w : Walked) (os : List Opt) → walkFrom stop syn w os .olayout .count ≤ w .olayout .count + length os
+unfolding walkFrom putEntry
+walk-count stop syn w [] = omega arith
+walk-count stop syn w (o ∷ os) = by-test (stop && runsPast o) (walk-count stop syn (putOption syn w o) os)
+  where
+    by-test
+        : (t : Bool)
+        → walkFrom stop syn (putOption syn w o) os .olayout .count ≤ w .olayout .count + 1 + length os
+        → (cond {A = Walked} t (record { olayout = w .olayout; seen = w .seen; malformed = true })
+          (walkFrom stop syn (putOption syn w o) os)) .olayout .count
+        ≤ w .olayout .count + length (o ∷ os)
+    by-test true h = omega arith
+    by-test false h = omega arith
+
+-- "A layout has at most 40 entries."
+pub at-most-forty : (stop syn : Bool) (quirks : QuirkSet) (s : List ℕ) → walkOf stop syn quirks s .olayout .count ≤ 40
+unfolding walkOf
+at-most-forty stop syn quirks s =
+    let walked = walk-count stop syn (startWalk quirks) (optionsOf (take 40 s)) in
+    let few = options-few 0 (take 40 s) in
+    omega (arith, length-take 40 s)
+
+-- ---- entries past the count
+
+-- Every entry from the count on is 0.
+pub record Tidy (l : Layout) : Type 0 where
+  pub kinds : (i : ℕ) → l .count ≤ i → byteAt (l .kinds) i ≡ 0
+  pub bytes : (i : ℕ) → l .count ≤ i → byteAt (l .bytes) i ≡ 0
+
+put-tidy : (l : Layout) (o : Opt) → Tidy l → Tidy (putEntry l o)
+unfolding putEntry
+put-tidy l o tidy =
+    record
+    { kinds = λ i h. getD-set-other (l .kinds) (l .count) i _ 0 (omega arith) ∙ tidy .kinds i (omega arith)
+    ; bytes = λ i h. getD-set-other (l .bytes) (l .count) i _ 0 (omega arith) ∙ tidy .bytes i (omega arith)
+    }
+
+walk-tidy : (stop syn : Bool) (w : Walked) (os : List Opt) → Tidy (w .olayout) → Tidy (walkFrom stop syn w os .olayout)
+unfolding walkFrom
+walk-tidy stop syn w [] tidy = tidy
+walk-tidy stop syn w (o ∷ os) tidy =
+    by-test (stop && runsPast o) (walk-tidy stop syn (putOption syn w o) os (put-tidy (w .olayout) o tidy))
+  where
+    by-test
+        : (t : Bool)
+        → Tidy (walkFrom stop syn (putOption syn w o) os .olayout)
+        → Tidy ((cond {A = Walked} t (record { olayout = w .olayout; seen = w .seen; malformed = true })
+          (walkFrom stop syn (putOption syn w o) os)) .olayout)
+    by-test true rest = tidy
+    by-test false rest = rest
+
+pub zero-row : (i : ℕ) → byteAt (replicate 40 0) i ≡ 0
+zero-row i = elim (native.Mathlib.Decide.decLe 40 i) [ yes h ↦ lib.ListN.List·getD-eq-default (replicate 40 0) 0 h | no h ↦ getD-replicate 40 i 0 0 (omega arith) ]
+
+-- "entries past it 0"
+pub past-count : (stop syn : Bool) (quirks : QuirkSet) (s : List ℕ) → Tidy (walkOf stop syn quirks s .olayout)
+unfolding walkOf
+past-count stop syn quirks s =
+    walk-tidy stop syn (startWalk quirks) (optionsOf (take 40 s))
+    (record { kinds = λ i h. zero-row i; bytes = λ i h. zero-row i })
