@@ -2,5 +2,6 @@ pub mod Flags
 pub mod Ip
 pub mod Observed
 pub mod Parts
+pub mod Peer
 pub mod Refusals
 pub mod Unique

@@ -7,7 +7,8 @@ use native.Mathlib.Omega.{arith}
 use lib.Dec.{eqb, ltb}
 use lib.ListN.{length, take}
 use Rattle.quirks.specs.declared.QuirkSet.{QuirkSet}
-use Rattle.quirks.proofs.Within.{Within, within-empty, within-add-if}
+use Rattle.quirks.specs.Quirks.{placeOf}
+use Rattle.quirks.proofs.Within.{Clean, clean-empty, clean-add-if}
 use Rattle.basis.specs.Bytes.{part}
 use Rattle.rfc.specs.Rfc791 as v4
 use Rattle.rfc.specs.Rfc8200 as v6
@@ -36,8 +37,8 @@ pub record Sound (o : TcpObservation) : Type 0 where
   pub few : o .olayout .count ≤ 40
   -- "entries past it 0"
   pub tidy : Tidy (o .olayout)
-  -- quirks stay within the seventeen
-  pub within : Within (o .quirks)
+  -- quirks stay within the seventeen, and "OptBad is never set"
+  pub quirks : Clean (o .quirks)
 
 sound-empty : Sound emptyObservation
 unfolding emptyObservation emptyLayout
@@ -45,24 +46,24 @@ sound-empty =
     record
     { few = omega arith
     ; tidy = record { kinds = λ i h. zero-row i; bytes = λ i h. zero-row i }
-    ; within = within-empty
+    ; quirks = clean-empty
     }
 
--- ---- the walk keeps quirks within the seventeen
+-- ---- the walk keeps quirks clean
 
 walk-within
-    : (stop syn : Bool) (w : Walked) (os : List Opt) → Within (w .seen .quirks) → Within (walkFrom stop syn w os .seen .quirks)
-unfolding walkFrom seeOption shown
+    : (stop syn : Bool) (w : Walked) (os : List Opt) → Clean (w .seen .quirks) → Clean (walkFrom stop syn w os .seen .quirks)
+unfolding walkFrom seeOption shown placeOf
 walk-within stop syn w [] inside = inside
 walk-within stop syn w (o ∷ os) inside =
     by-test (stop && runsPast o)
     (walk-within stop syn (putOption syn w o) os
-    (within-add-if _ _ _ (within-add-if _ _ _ (within-add-if _ _ _ (within-add-if _ _ _ inside)))))
+    (clean-add-if _ _ _ refl (clean-add-if _ _ _ refl (clean-add-if _ _ _ refl (clean-add-if _ _ _ refl inside)))))
   where
     by-test
         : (t : Bool)
-        → Within (walkFrom stop syn (putOption syn w o) os .seen .quirks)
-        → Within
+        → Clean (walkFrom stop syn (putOption syn w o) os .seen .quirks)
+        → Clean
           ((cond {A = Walked} t (record { olayout = w .olayout; seen = w .seen; malformed = true })
           (walkFrom stop syn (putOption syn w o) os)) .seen .quirks)
     by-test true rest = inside
@@ -70,45 +71,45 @@ walk-within stop syn w (o ∷ os) inside =
 
 -- ---- both stages
 
-header-within : (t : List ℕ) (q : QuirkSet) → Within q → Within (shownQuirks t q)
-unfolding shownQuirks headerQuirks
+header-within : (t : List ℕ) (q : QuirkSet) → Clean q → Clean (shownQuirks t q)
+unfolding shownQuirks headerQuirks placeOf
 header-within t q inside =
-    within-add-if _ _ _
-    (within-add-if _ _ _
-    (within-add-if _ _ _ (within-add-if _ _ _ (within-add-if _ _ _ (within-add-if _ _ _ (within-add-if _ _ _ inside))))))
+    clean-add-if _ _ _ refl
+    (clean-add-if _ _ _ refl
+    (clean-add-if _ _ _ refl (clean-add-if _ _ _ refl (clean-add-if _ _ _ refl (clean-add-if _ _ _ refl (clean-add-if _ _ _ refl inside))))))
 
 either : (t : Bool) (a b : Reading) → Sound (a .observation) → Sound (b .observation) → Sound ((cond {A = Reading} t a b) .observation)
 either true a b x y = x
 either false a b x y = y
 
-sound-observed : (f : IpFacts) (t : List ℕ) (syn : Bool) (peer : Mss) → Within (f .quirks) → Sound (observed f t syn peer)
+sound-observed : (f : IpFacts) (t : List ℕ) (syn : Bool) (peer : Mss) → Clean (f .quirks) → Sound (observed f t syn peer)
 unfolding observed observationOf walkOf
 sound-observed f t syn peer inside =
     record
     { few = at-most-forty false syn (shownQuirks t (f .quirks)) (options t)
     ; tidy = past-count false syn (shownQuirks t (f .quirks)) (options t)
-    ; within = walk-within false syn (startWalk (shownQuirks t (f .quirks))) (optionsOf (take 40 (options t)))
+    ; quirks = walk-within false syn (startWalk (shownQuirks t (f .quirks))) (optionsOf (take 40 (options t)))
         (header-within t (f .quirks) inside)
     }
 
-sound-tcp : (f : IpFacts) (t : List ℕ) (peer : Mss) → Within (f .quirks) → Sound (readTcp f t peer .observation)
+sound-tcp : (f : IpFacts) (t : List ℕ) (peer : Mss) → Clean (f .quirks) → Sound (readTcp f t peer .observation)
 unfolding readTcp
 sound-tcp f t peer inside =
     either (flagsInvalid (control t)) _ _ sound-empty
     (either (isSynType (control t)) _ _ (sound-observed f t true mss.Absent inside)
     (either (isSynAckType (control t)) _ _ (sound-observed f t false (knownPeer peer) inside) sound-empty))
 
--- What the IP stage gives is refused, or has facts with quirks within the seventeen.
+-- What the IP stage gives is refused, or has facts with clean quirks.
 data WithinIp : IpRead → Type 0 where
   refused : {r : Refusal} → WithinIp (ip.Refused r)
-  facts : {f : IpFacts} → Within (f .quirks) → WithinIp (ip.Facts f)
+  facts : {f : IpFacts} → Clean (f .quirks) → WithinIp (ip.Facts f)
 
 choose : (t : Bool) {a b : IpRead} → WithinIp a → WithinIp b → WithinIp (cond t a b)
 choose true x y = x
 choose false x y = y
 
 within-v4 : (p : List ℕ) → WithinIp (readIpv4 p)
-unfolding readIpv4 ipv4Facts ipv4Quirks
+unfolding readIpv4 ipv4Facts ipv4Quirks placeOf
 within-v4 p =
     choose (ltb (length p) 20) refused
     (choose (ltb (v4.ihl p) 5) refused
@@ -116,15 +117,15 @@ within-v4 p =
     (choose (ltb 0 (v4.fragmentOffset p) || eqb (v4.moreFragments p) 1) refused
     (choose (ltb (length (part (v4.dataStart p) (v4.dataEnd p) p)) 20) refused
     (facts {f = ipv4Facts p (v4.dataStart p) (v4.dataEnd p)}
-    (within-add-if _ _ _ (within-add-if _ _ _ (within-add-if _ _ _ (within-add-if _ _ _ (within-add-if _ _ _ within-empty))))))))))
+    (clean-add-if _ _ _ refl (clean-add-if _ _ _ refl (clean-add-if _ _ _ refl (clean-add-if _ _ _ refl (clean-add-if _ _ _ refl clean-empty))))))))))
 
 within-v6 : (p : List ℕ) → WithinIp (readIpv6 p)
-unfolding readIpv6 ipv6Facts ipv6Quirks
+unfolding readIpv6 ipv6Facts ipv6Quirks placeOf
 within-v6 p =
     choose (ltb (length p) 40) refused
     (choose (not (eqb (v6.nextHeader p) 6)) refused
     (choose (ltb (length (v6.payload p)) 20) refused
-    (facts {f = ipv6Facts p (v6.payloadEnd p)} (within-add-if _ _ _ (within-add-if _ _ _ within-empty)))))
+    (facts {f = ipv6Facts p (v6.payloadEnd p)} (clean-add-if _ _ _ refl (clean-add-if _ _ _ refl clean-empty)))))
 
 within-ip : (p : List ℕ) → WithinIp (readIp p)
 unfolding readIp
@@ -140,3 +141,4 @@ after-ip p peer (facts {f = f} inside) = sound-tcp f (tcpPart f p) peer inside
 pub sound : (p : List ℕ) (peer : Mss) → Sound (readPacket p peer .observation)
 unfolding readPacket
 sound p peer = after-ip p peer (within-ip p)
+

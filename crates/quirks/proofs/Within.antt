@@ -1,6 +1,6 @@
 -- Sets within the seventeen: the empty one, and any with a quirk more.
 use mathlib.Core.Path.{_≡_, refl, sym, _∙_, ap, subst}
-use mathlib.Core.Bool.{Bool, true, false, false≢true}
+use mathlib.Core.Bool.{Bool, true, false, not, false≢true}
 use Prim.Native.Nat.{ℕ, _<_, _^_, max}
 use native.Mathlib.Omega.{arith}
 use native.Mathlib.Decide.{ℕ-discrete}
@@ -10,11 +10,21 @@ use Rattle.basis.proofs.Digits.{digit-or, digit-of-zero, digit-power-other}
 use Rattle.quirks.specs.declared.Quirk.{Quirk}
 use Rattle.quirks.specs.declared.Quirk.the-variants as quirk
 use Rattle.quirks.specs.declared.QuirkSet.{QuirkSet}
-use Rattle.quirks.specs.Quirks.{placeOf, bitOf, setOf, bitsOf, holds, with, addIf, SubsetByPlaces}
+use Rattle.quirks.specs.Quirks.{placeOf, bitOf, setOf, bitsOf, holds, contains, with, addIf, SubsetByPlaces}
 use Rattle.quirks.specs.Named.{fromQuirks, displayOrder, empty, seventeen}
+use Rattle.quirks.proofs.Laws.{contains-with-other}
 
 pub Within : QuirkSet → Type 0
 Within s = SubsetByPlaces s seventeen
+
+-- Within the seventeen, and without OptBad.
+pub record Clean (s : QuirkSet) : Type 0 where
+  pub within : Within s
+  pub notBad : contains s quirk.OptBad ≡ false
+
+-- Any quirk but OptBad.
+abbrev pub notOptBad : Quirk → Bool
+notOptBad q = not (eqb (placeOf q) 28)
 
 -- Each of the seventeen is one of them.
 has-place : (q : Quirk) → holds seventeen (placeOf q) ≡ true
@@ -64,3 +74,21 @@ pub within-add-if : (t : Bool) (q : Quirk) (s : QuirkSet) → Within s → Withi
 unfolding addIf
 within-add-if true q s inside = within-with s q inside
 within-add-if false q s inside = inside
+
+clean-with : (s : QuirkSet) (q : Quirk) → (q ≡ quirk.OptBad → ⊥) → Clean s → Clean (with s q)
+clean-with s q other clean =
+    record
+    { within = within-with s q (clean .within)
+    ; notBad = contains-with-other s q quirk.OptBad other ∙ clean .notBad
+    }
+
+pub clean-empty : Clean empty
+unfolding contains holds empty fromQuirks placeOf
+clean-empty = record { within = within-empty; notBad = ap (λ (n : ℕ). eqb n 1) (digit-of-zero 28) }
+
+-- A quirk other than OptBad, where a test holds.
+pub clean-add-if : (t : Bool) (q : Quirk) (s : QuirkSet) → notOptBad q ≡ true → Clean s → Clean (addIf t q s)
+unfolding addIf placeOf
+clean-add-if true q s other clean =
+    clean-with s q (λ e. false≢true (sym (ap notOptBad e) ∙ other)) clean
+clean-add-if false q s other clean = clean

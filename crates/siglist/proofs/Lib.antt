@@ -1,5 +1,6 @@
 pub mod Fits
 pub mod List
 pub mod Order
+pub mod Refusals
 pub mod Rows
 pub mod Unique

@@ -72,3 +72,17 @@ afterCheck list.Good o l = answer.Found (searchAll o l)
 
 unfoldable pub searchList : TcpObservation → List ℕ → SearchAnswer
 searchList o l = cond (ltb 40 (o .olayout .count)) answer.LayoutTooLong (afterCheck (checkList l) o l)
+
+-- ---- the numbers of refusals
+
+-- The number of a list's refusal, and of a search's; 0 if it is none. Refusal 10 gives the index of the first bad record.
+unfoldable pub listRefusal : ListAnswer → ℕ
+listRefusal list.Good = 0
+listRefusal list.DoesNotFit = 9
+listRefusal (list.BadRecord i) = 10
+
+unfoldable pub searchRefusal : SearchAnswer → ℕ
+searchRefusal (answer.Found f) = 0
+searchRefusal answer.LayoutTooLong = 11
+searchRefusal answer.DoesNotFit = 9
+searchRefusal (answer.BadRecord i) = 10

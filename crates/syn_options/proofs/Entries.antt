@@ -4,14 +4,18 @@ use mathlib.Core.Bool.{Bool, true, false, cond, _&&_}
 use mathlib.Core.List.{List, [], _∷_}
 use Prim.Native.Nat.{ℕ, zero, suc, _+_, _<_, _≤_}
 use native.Mathlib.Omega.{arith}
+use lib.Dec.{ltb}
 use lib.ListN.{length, getD, take, set, length-take, replicate, getD-replicate}
 use lib.Seq.{getD-set-other}
 use Rattle.basis.specs.Bytes.{byteAt}
 use Rattle.quirks.specs.declared.QuirkSet.{QuirkSet}
 use Rattle.tcp.specs.declared.Layout.{Layout}
+use Rattle.quirks.specs.Named.{empty}
+use Rattle.syn_options.specs.declared.OptionsAnswer.the-variants as answer
+use Rattle.syn_options.specs.declared.OptionsRead.{OptionsRead}
 use Rattle.syn_options.specs.declared.Walked.{Walked}
 use Rattle.syn_options.specs.Options.{Opt, asked, runsPast, optionsAfter, optionsOf}
-use Rattle.syn_options.specs.Walk.{entryByte, putEntry, putOption, walkFrom, startWalk, walkOf}
+use Rattle.syn_options.specs.Walk.{entryByte, putEntry, putOption, walkFrom, startWalk, walkOf, parsedOf, parseOptionsRaw, optionsRefusal}
 
 -- A string has no more options than bytes.
 pub options-few : (skip : ℕ) (s : List ℕ) → length (optionsAfter skip s) ≤ length s
@@ -82,3 +86,18 @@ unfolding walkOf
 past-count stop syn quirks s =
     walk-tidy stop syn (startWalk quirks) (optionsOf (take 40 s))
     (record { kinds = λ i h. zero-row i; bytes = λ i h. zero-row i })
+
+-- Refusal 8 is given exactly when the option string is over 40 bytes.
+pub refused-over-forty : (s : List ℕ) → optionsRefusal (parseOptionsRaw s .answer) ≡ cond (ltb 40 (length s)) 8 0
+unfolding parseOptionsRaw optionsRefusal
+refused-over-forty s = by-length (ltb 40 (length s))
+  where
+    by-length
+        : (t : Bool)
+        → optionsRefusal
+          ((cond {A = OptionsRead} t
+          (record { answer = answer.Refused; options = parsedOf (startWalk empty) })
+          (record { answer = answer.Parsed; options = parsedOf (walkOf true false empty s) })) .answer)
+        ≡ cond t 8 0
+    by-length true = refl
+    by-length false = refl

@@ -18,6 +18,7 @@ use Rattle.tcp.specs.declared.Wscale.the-variants as wscale
 use Rattle.syn_options.specs.declared.Seen.{Seen}
 use Rattle.syn_options.specs.declared.Walked.{Walked}
 use Rattle.syn_options.specs.declared.ParsedTcpOptions.{ParsedTcpOptions}
+use Rattle.syn_options.specs.declared.OptionsAnswer.{OptionsAnswer}
 use Rattle.syn_options.specs.declared.OptionsAnswer.the-variants as answer
 use Rattle.syn_options.specs.declared.OptionsRead.{OptionsRead}
 use Rattle.syn_options.specs.Options.{Opt, dataOf, runsPast, optionsOf}
@@ -124,3 +125,8 @@ parseOptionsRaw s =
     cond (ltb 40 (length s))
     (record { answer = answer.Refused; options = parsedOf (startWalk empty) })
     (record { answer = answer.Parsed; options = parsedOf (walkOf true false empty s) })
+
+-- The number of an option string's refusal; 0 if it is none.
+unfoldable pub optionsRefusal : OptionsAnswer → ℕ
+optionsRefusal answer.Parsed = 0
+optionsRefusal answer.Refused = 8

@@ -1,0 +1,73 @@
+-- Refusals of a list and of a search, in document 01's order: "a search [meets] 11, then 9, then 10".
+use mathlib.Core.Path.{_≡_, refl, sym, _∙_, ap}
+use mathlib.Core.Bool.{Bool, true, false, cond, not}
+use mathlib.Core.List.{List}
+use Prim.Native.Nat.{ℕ, zero, suc, _+_, _-_, _<_, _≤_}
+use native.Mathlib.Omega.{arith}
+use lib.Dec.{ltb}
+use Rattle.observable.specs.declared.TcpObservation.{TcpObservation}
+use Rattle.siglist.specs.declared.ListAnswer.{ListAnswer}
+use Rattle.siglist.specs.declared.ListAnswer.the-variants as list
+use Rattle.siglist.specs.declared.SearchAnswer.{SearchAnswer}
+use Rattle.siglist.specs.List.{recordCount, listFits, recordGood, recordsFrom, checkList}
+use Rattle.siglist.specs.Search.{afterCheck, searchList, listRefusal, searchRefusal}
+
+-- A search is refused by 11 where the layout is too long, else as its list is.
+by-list : (a : ListAnswer) (o : TcpObservation) (l : List ℕ) → searchRefusal (afterCheck a o l) ≡ listRefusal a
+unfolding searchRefusal listRefusal
+by-list list.Good o l = refl
+by-list list.DoesNotFit o l = refl
+by-list (list.BadRecord i) o l = refl
+
+pub search-order
+    : (o : TcpObservation) (l : List ℕ)
+    → searchRefusal (searchList o l) ≡ cond (ltb 40 (o .olayout .count)) 11 (listRefusal (checkList l))
+unfolding searchList searchRefusal
+search-order o l = by-count (ltb 40 (o .olayout .count))
+  where
+    by-count
+        : (t : Bool)
+        → searchRefusal (cond {A = SearchAnswer} t Rattle.siglist.specs.declared.SearchAnswer.the-variants.LayoutTooLong (afterCheck (checkList l) o l))
+        ≡ cond t 11 (listRefusal (checkList l))
+    by-count true = refl
+    by-count false = by-list (checkList l) o l
+
+-- A list is refused by 9 exactly when its header or areas do not fit.
+pub does-not-fit : (l : List ℕ) → listFits l ≡ false → checkList l ≡ list.DoesNotFit
+unfolding checkList
+does-not-fit l e = rw e
+
+-- What the records from one on answer: all well formed, or the first that is bad.
+pub data Checked (l : List ℕ) (i n : ℕ) : ListAnswer → Type 0 where
+  all-good : ((j : ℕ) → i ≤ j → j < i + n → recordGood l j ≡ true) → Checked l i n list.Good
+  first-bad
+      : (k : ℕ)
+      → i ≤ k
+      → k < i + n
+      → recordGood l k ≡ false
+      → ((j : ℕ) → i ≤ j → j < k → recordGood l j ≡ true)
+      → Checked l i n (list.BadRecord k)
+
+checked : (l : List ℕ) (i n : ℕ) → Checked l i n (recordsFrom l i n)
+unfolding recordsFrom
+checked l i zero = all-good (λ j h k. absurd (omega arith))
+checked l i (suc n) = by-test (recordGood l i) refl (checked l (i + 1) n)
+  where
+    from-here : (m : ℕ) → recordGood l i ≡ true → ((j : ℕ) → i + 1 ≤ j → j < m → recordGood l j ≡ true) → (j : ℕ) → i ≤ j → j < m → recordGood l j ≡ true
+    from-here m here later j h k =
+        elim (native.Mathlib.Decide.ℕ-discrete i j) [ yes e ↦ ap (recordGood l) (sym e) ∙ here | no d ↦ later j (omega arith) k ]
+    later : {a : ListAnswer} → recordGood l i ≡ true → Checked l (i + 1) n a → Checked l i (suc n) a
+    later here (all-good rest) = all-good (λ j h k. from-here (i + 1 + n) here rest j h (omega arith))
+    later here (first-bad k h j bad rest) = first-bad k (omega arith) (omega arith) bad (from-here k here rest)
+    by-test
+        : (t : Bool)
+        → recordGood l i ≡ t
+        → Checked l (i + 1) n (recordsFrom l (i + 1) n)
+        → Checked l i (suc n) (cond t (recordsFrom l (i + 1) n) (list.BadRecord i))
+    by-test true e rest = later e rest
+    by-test false e rest = first-bad i (omega arith) (omega arith) e (λ j h k. absurd (omega arith))
+
+-- "10: a list record is bad; index of the first, from 0": of a list that fits, either all records are well formed or the first bad one is named.
+pub first-bad-named : (l : List ℕ) → listFits l ≡ true → Checked l 0 (recordCount l) (checkList l)
+unfolding checkList
+first-bad-named l e = rw e (checked l 0 (recordCount l))
