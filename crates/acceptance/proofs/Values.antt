@@ -54,19 +54,19 @@ window-values =
 option-values : OptionValues
 unfolding walkOf parseOptionsRaw walkFrom optionsAfter asked runsPast putEntry entryByte seeOption laterMss laterScale shownQuirks trailingNonzero excessiveScaling ownTimestampZero peerTimestampNonzero anyNonzero addIf with bitOf placeOf contains holds digit empty fromQuirks be16 be32
 option-values =
-    record
-    { scale-15 = refl
-    ; scale-14 = refl
-    ; eol-count = refl
-    ; eol-kind = refl
-    ; eol-left = refl
-    ; eol-trailing = refl
-    ; cut-mss-count = refl
-    ; cut-mss-kind = refl
-    ; cut-mss-number = refl
-    ; raw-cut-mss-answer = refl
-    ; raw-cut-mss-count = refl
-    ; raw-cut-mss-malformed = refl
+    record {
+      scale-15 = refl;
+      scale-14 = refl;
+      eol-count = refl;
+      eol-kind = refl;
+      eol-left = refl;
+      eol-trailing = refl;
+      cut-mss-count = refl;
+      cut-mss-kind = refl;
+      cut-mss-number = refl;
+      raw-cut-mss-answer = refl;
+      raw-cut-mss-count = refl;
+      raw-cut-mss-malformed = refl;
     }
 
 packet-values : PacketValues
@@ -76,15 +76,15 @@ packet-values = record { packet-A = refl }
 fit-values : FitValues
 unfolding ttlFit windowMatches
 fit-values =
-    record
-    { ttl-29 = refl
-    ; ttl-28 = refl
-    ; ttl-65 = refl
-    ; bad-65 = refl
-    ; bad-0 = refl
-    ; starts-at-255 = refl
-    ; modulus-8 = refl
-    ; modulus-0 = refl
+    record {
+      ttl-29 = refl;
+      ttl-28 = refl;
+      ttl-65 = refl;
+      bad-65 = refl;
+      bad-0 = refl;
+      starts-at-255 = refl;
+      modulus-8 = refl;
+      modulus-0 = refl;
     }
 
 three-answers : ThreeAnswers
@@ -93,11 +93,11 @@ three-answers = record { list-good = refl; exact = refl; fuzzy = refl; none = re
 
 pub values : Values
 values =
-    record
-    { ttl = ttl-values
-    ; window = window-values
-    ; options = option-values
-    ; packet = packet-values
-    ; fit = fit-values
-    ; search = three-answers
+    record {
+      ttl = ttl-values;
+      window = window-values;
+      options = option-values;
+      packet = packet-values;
+      fit = fit-values;
+      search = three-answers;
     }

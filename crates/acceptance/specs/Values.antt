@@ -90,19 +90,19 @@ packetA =
 -- What one would write down by hand of packet A: TTL 64 at no distance, MSS 1460, window 5840, 44 header bytes, layout MSS, df.
 abbrev pub observationA : TcpObservation
 observationA =
-    record
-    { version = version.V4
-    ; ittl = ttl.Distance 64 0
-    ; olen = 0
-    ; mss = mss.Present 1460
-    ; wsize = 5840
-    ; «tot_hdr» = 44
-    ; wscale = wscale.Absent
-    ; olayout = record { kinds = 2 ∷ replicate 39 0; bytes = replicate 40 0; count = 1 }
-    ; quirks = setOf 0x2
-    ; pclass = payload.Zero
-    ; «peer_mss» = mss.Absent
-    ; tos = 0
+    record {
+      version = version.V4;
+      ittl = ttl.Distance 64 0;
+      olen = 0;
+      mss = mss.Present 1460;
+      wsize = 5840;
+      «tot_hdr» = 44;
+      wscale = wscale.Absent;
+      olayout = record { kinds = 2 ∷ replicate 39 0; bytes = replicate 40 0; count = 1 };
+      quirks = setOf 0x2;
+      pclass = payload.Zero;
+      «peer_mss» = mss.Absent;
+      tos = 0;
     }
 
 pub record PacketValues : Type 0 where

@@ -43,10 +43,10 @@ pub record Sound (o : TcpObservation) : Type 0 where
 sound-empty : Sound emptyObservation
 unfolding emptyObservation emptyLayout
 sound-empty =
-    record
-    { few = omega arith
-    ; tidy = record { kinds = λ i h. zero-row i; bytes = λ i h. zero-row i }
-    ; quirks = clean-empty
+    record {
+      few = omega arith;
+      tidy = record { kinds = λ i h. zero-row i; bytes = λ i h. zero-row i };
+      quirks = clean-empty;
     }
 
 -- ---- the walk keeps quirks clean
@@ -64,8 +64,8 @@ walk-within stop syn w (o ∷ os) inside =
         : (t : Bool)
         → Clean (walkFrom stop syn (putOption syn w o) os .seen .quirks)
         → Clean
-          ((cond {A = Walked} t (record { olayout = w .olayout; seen = w .seen; malformed = true })
-          (walkFrom stop syn (putOption syn w o) os)) .seen .quirks)
+        ((cond {A = Walked} t (record { olayout = w .olayout; seen = w .seen; malformed = true })
+        (walkFrom stop syn (putOption syn w o) os)) .seen .quirks)
     by-test true rest = inside
     by-test false rest = rest
 
@@ -85,11 +85,11 @@ either false a b x y = y
 sound-observed : (f : IpFacts) (t : List ℕ) (syn : Bool) (peer : Mss) → Clean (f .quirks) → Sound (observed f t syn peer)
 unfolding observed observationOf walkOf
 sound-observed f t syn peer inside =
-    record
-    { few = at-most-forty false syn (shownQuirks t (f .quirks)) (options t)
-    ; tidy = past-count false syn (shownQuirks t (f .quirks)) (options t)
-    ; quirks = walk-within false syn (startWalk (shownQuirks t (f .quirks))) (optionsOf (take 40 (options t)))
-        (header-within t (f .quirks) inside)
+    record {
+      few = at-most-forty false syn (shownQuirks t (f .quirks)) (options t);
+      tidy = past-count false syn (shownQuirks t (f .quirks)) (options t);
+      quirks = walk-within false syn (startWalk (shownQuirks t (f .quirks))) (optionsOf (take 40 (options t)))
+          (header-within t (f .quirks) inside);
     }
 
 sound-tcp : (f : IpFacts) (t : List ℕ) (peer : Mss) → Clean (f .quirks) → Sound (readTcp f t peer .observation)
@@ -141,4 +141,3 @@ after-ip p peer (facts {f = f} inside) = sound-tcp f (tcpPart f p) peer inside
 pub sound : (p : List ℕ) (peer : Mss) → Sound (readPacket p peer .observation)
 unfolding readPacket
 sound p peer = after-ip p peer (within-ip p)
-

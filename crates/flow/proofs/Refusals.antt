@@ -59,12 +59,12 @@ module _ (p : List ℕ) (peer : Mss) where
 
   of-v4
       : Numbered p peer (readIpv4 p)
-        (cond (ltb (length p) 20) 2
-        (cond (ltb (v4.ihl p) 5) 3
-        (cond (not (eqb (v4.protocol p) 6)) 4
-        (cond (ltb 0 (v4.fragmentOffset p) || eqb (v4.moreFragments p) 1) 5
-        (cond (ltb (length (part (v4.dataStart p) (v4.dataEnd p) p)) 20) 6
-        (cond (flagsInvalid (control (part (v4.dataStart p) (v4.dataEnd p) p))) 7 0))))))
+      (cond (ltb (length p) 20) 2
+      (cond (ltb (v4.ihl p) 5) 3
+      (cond (not (eqb (v4.protocol p) 6)) 4
+      (cond (ltb 0 (v4.fragmentOffset p) || eqb (v4.moreFragments p) 1) 5
+      (cond (ltb (length (part (v4.dataStart p) (v4.dataEnd p) p)) 20) 6
+      (cond (flagsInvalid (control (part (v4.dataStart p) (v4.dataEnd p) p))) 7 0))))))
   unfolding readIpv4 number ipv4Facts
   of-v4 =
       over (ltb (length p) 20) (refused refusal.TooShort)
@@ -76,10 +76,10 @@ module _ (p : List ℕ) (peer : Mss) where
 
   of-v6
       : Numbered p peer (readIpv6 p)
-        (cond (ltb (length p) 40) 2
-        (cond (not (eqb (v6.nextHeader p) 6)) 4
-        (cond (ltb (length (v6.payload p)) 20) 6
-        (cond (flagsInvalid (control (v6.payload p))) 7 0))))
+      (cond (ltb (length p) 40) 2
+      (cond (not (eqb (v6.nextHeader p) 6)) 4
+      (cond (ltb (length (v6.payload p)) 20) 6
+      (cond (flagsInvalid (control (v6.payload p))) 7 0))))
   unfolding readIpv6 number ipv6Facts
   of-v6 =
       over (ltb (length p) 40) (refused refusal.TooShort)
@@ -97,27 +97,27 @@ module _ (p : List ℕ) (peer : Mss) where
       by-version
           : (none four six : Bool)
           → _≡_ {A = ℕ}
-            (cond none 1
-            (cond four
-            (cond (ltb (length p) 20) 2
-            (cond (ltb (v4.ihl p) 5) 3
-            (cond (not (eqb (v4.protocol p) 6)) 4
-            (cond (ltb 0 (v4.fragmentOffset p) || eqb (v4.moreFragments p) 1) 5
-            (cond (ltb (length (part (v4.dataStart p) (v4.dataEnd p) p)) 20) 6
-            (cond (flagsInvalid (control (part (v4.dataStart p) (v4.dataEnd p) p))) 7 0))))))
-            (cond six
-            (cond (ltb (length p) 40) 2
-            (cond (not (eqb (v6.nextHeader p) 6)) 4
-            (cond (ltb (length (v6.payload p)) 20) 6
-            (cond (flagsInvalid (control (v6.payload p))) 7 0))))
-            1)))
-            (cond (none || not (four || six)) 1
-            (cond (cond four (ltb (length p) 20) (ltb (length p) 40)) 2
-            (cond (four && ltb (v4.ihl p) 5) 3
-            (cond (not (eqb (cond four (v4.protocol p) (v6.nextHeader p)) 6)) 4
-            (cond (four && (ltb 0 (v4.fragmentOffset p) || eqb (v4.moreFragments p) 1)) 5
-            (cond (ltb (length (cond four (part (v4.dataStart p) (v4.dataEnd p) p) (v6.payload p))) 20) 6
-            (cond (flagsInvalid (control (cond four (part (v4.dataStart p) (v4.dataEnd p) p) (v6.payload p)))) 7 0)))))))
+          (cond none 1
+          (cond four
+          (cond (ltb (length p) 20) 2
+          (cond (ltb (v4.ihl p) 5) 3
+          (cond (not (eqb (v4.protocol p) 6)) 4
+          (cond (ltb 0 (v4.fragmentOffset p) || eqb (v4.moreFragments p) 1) 5
+          (cond (ltb (length (part (v4.dataStart p) (v4.dataEnd p) p)) 20) 6
+          (cond (flagsInvalid (control (part (v4.dataStart p) (v4.dataEnd p) p))) 7 0))))))
+          (cond six
+          (cond (ltb (length p) 40) 2
+          (cond (not (eqb (v6.nextHeader p) 6)) 4
+          (cond (ltb (length (v6.payload p)) 20) 6
+          (cond (flagsInvalid (control (v6.payload p))) 7 0))))
+          1)))
+          (cond (none || not (four || six)) 1
+          (cond (cond four (ltb (length p) 20) (ltb (length p) 40)) 2
+          (cond (four && ltb (v4.ihl p) 5) 3
+          (cond (not (eqb (cond four (v4.protocol p) (v6.nextHeader p)) 6)) 4
+          (cond (four && (ltb 0 (v4.fragmentOffset p) || eqb (v4.moreFragments p) 1)) 5
+          (cond (ltb (length (cond four (part (v4.dataStart p) (v4.dataEnd p) p) (v6.payload p))) 20) 6
+          (cond (flagsInvalid (control (cond four (part (v4.dataStart p) (v4.dataEnd p) p) (v6.payload p)))) 7 0)))))))
       by-version true four six = refl
       by-version false true six = refl
       by-version false false true = refl

@@ -69,8 +69,8 @@ quirks-fit-one o s = equation (quirksFit o s)
 pub olayout-matches-one
     : (κs : Lfts 3) (kinds bytes : RefT (List ℕ)) (count : ℕ) (entries : RefT (List ℕ)) (declared : ℕ)
     → ExactlyOne Bool
-      (λ (r : Bool).
-      olayout-matches'.Post κs (kinds, (bytes, (count, (entries, (declared, tt))))) r (kinds, (bytes, (count, (entries, (declared, tt))))))
+    (λ (r : Bool).
+    olayout-matches'.Post κs (kinds, (bytes, (count, (entries, (declared, tt))))) r (kinds, (bytes, (count, (entries, (declared, tt))))))
 olayout-matches-one κs kinds bytes count entries declared = equation (layoutMatches count (now kinds) (now bytes) declared (now entries))
 
 pub features-of-one : (o : TcpObservation) → ExactlyOne Features (λ (r : Features). features-of'.Post tt (o, tt) r (o, tt))

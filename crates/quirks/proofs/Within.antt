@@ -67,6 +67,7 @@ within-with s q inside k low has = elim (ℕ-discrete (placeOf q) k) [ yes e ↦
   where
     here : placeOf q ≡ k → holds seventeen k ≡ true
     here e = subst (λ (n : ℕ). holds seventeen n ≡ true) e (has-place q)
+
     there : (placeOf q ≡ k → ⊥) → holds seventeen k ≡ true
     there d = inside k low (sym (other-place s q k d) ∙ has)
 
@@ -77,9 +78,9 @@ within-add-if false q s inside = inside
 
 clean-with : (s : QuirkSet) (q : Quirk) → (q ≡ quirk.OptBad → ⊥) → Clean s → Clean (with s q)
 clean-with s q other clean =
-    record
-    { within = within-with s q (clean .within)
-    ; notBad = contains-with-other s q quirk.OptBad other ∙ clean .notBad
+    record {
+      within = within-with s q (clean .within);
+      notBad = contains-with-other s q quirk.OptBad other ∙ clean .notBad;
     }
 
 pub clean-empty : Clean empty

@@ -65,6 +65,7 @@ module _ (f : Features) (kinds bytes l : List ℕ) where
       later : {x : Found} → (fitAt f kinds bytes l i ≡ fit.Exact → ⊥) → Held is label reason x → Held (i ∷ is) label reason x
       later differs (then-exact k h e before) = then-exact (suc k) (omega arith) e (not-exact i is k differs before)
       later differs (kept before) = kept (not-exact i is (length is) differs before)
+
       by-fit
           : (x : SignatureFit)
           → fitAt f kinds bytes l i ≡ x
@@ -84,19 +85,23 @@ module _ (f : Features) (kinds bytes l : List ℕ) where
       before : {n : ℕ} → fitAt f kinds bytes l i ≡ fit.Nothing → ((j : ℕ) → j < n → fitOfPlace is j ≡ fit.Nothing) → (j : ℕ) → j < suc n → fitOfPlace (i ∷ is) j ≡ fit.Nothing
       before e there zero h = e
       before e there (suc j) h = there j (omega arith)
+
       not-it : fitAt f kinds bytes l i ≡ fit.Nothing → fitAt f kinds bytes l i ≡ fit.Exact → ⊥
       not-it e x = let z : _≡_ {A = ℕ} 0 1 = cc in omega arith
+
       later : {x : Found} → fitAt f kinds bytes l i ≡ fit.Nothing → Outcome is x → Outcome (i ∷ is) x
       later e (first-exact k h x there) = first-exact (suc k) (omega arith) x (not-exact i is k (not-it e) there)
       later e (first-fuzzy k r h x there exact) =
           first-fuzzy (suc k) r (omega arith) x (before e there) (not-exact i is (length is) (not-it e) exact)
       later e (none there) = none (before e there)
+
       fuzzy-held : {x : Found} (r : FuzzyReason) → fitAt f kinds bytes l i ≡ fit.Fuzzy r → Held is (labelOf (recordAt l i)) r x → Outcome (i ∷ is) x
       fuzzy-held r e (then-exact k h x there) =
           first-exact (suc k) (omega arith) x (not-exact i is k (λ y. let z : _≡_ {A = ℕ} 0 1 = cc in omega arith) there)
       fuzzy-held r e (kept there) =
           first-fuzzy 0 r (omega arith) e (λ j h. absurd (omega arith))
           (not-exact i is (length is) (λ y. let z : _≡_ {A = ℕ} 0 1 = cc in omega arith) there)
+
       by-fit
           : (x : SignatureFit)
           → fitAt f kinds bytes l i ≡ x

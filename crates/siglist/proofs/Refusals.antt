@@ -56,9 +56,11 @@ checked l i (suc n) = by-test (recordGood l i) refl (checked l (i + 1) n)
     from-here : (m : ℕ) → recordGood l i ≡ true → ((j : ℕ) → i + 1 ≤ j → j < m → recordGood l j ≡ true) → (j : ℕ) → i ≤ j → j < m → recordGood l j ≡ true
     from-here m here later j h k =
         elim (native.Mathlib.Decide.ℕ-discrete i j) [ yes e ↦ ap (recordGood l) (sym e) ∙ here | no d ↦ later j (omega arith) k ]
+
     later : {a : ListAnswer} → recordGood l i ≡ true → Checked l (i + 1) n a → Checked l i (suc n) a
     later here (all-good rest) = all-good (λ j h k. from-here (i + 1 + n) here rest j h (omega arith))
     later here (first-bad k h j bad rest) = first-bad k (omega arith) (omega arith) bad (from-here k here rest)
+
     by-test
         : (t : Bool)
         → recordGood l i ≡ t

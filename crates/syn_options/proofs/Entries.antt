@@ -35,7 +35,7 @@ walk-count stop syn w (o ∷ os) = by-test (stop && runsPast o) (walk-count stop
         : (t : Bool)
         → walkFrom stop syn (putOption syn w o) os .olayout .count ≤ w .olayout .count + 1 + length os
         → (cond {A = Walked} t (record { olayout = w .olayout; seen = w .seen; malformed = true })
-          (walkFrom stop syn (putOption syn w o) os)) .olayout .count
+        (walkFrom stop syn (putOption syn w o) os)) .olayout .count
         ≤ w .olayout .count + length (o ∷ os)
     by-test true h = omega arith
     by-test false h = omega arith
@@ -58,9 +58,9 @@ pub record Tidy (l : Layout) : Type 0 where
 put-tidy : (l : Layout) (o : Opt) → Tidy l → Tidy (putEntry l o)
 unfolding putEntry
 put-tidy l o tidy =
-    record
-    { kinds = λ i h. getD-set-other (l .kinds) (l .count) i _ 0 (omega arith) ∙ tidy .kinds i (omega arith)
-    ; bytes = λ i h. getD-set-other (l .bytes) (l .count) i _ 0 (omega arith) ∙ tidy .bytes i (omega arith)
+    record {
+      kinds = λ i h. getD-set-other (l .kinds) (l .count) i _ 0 (omega arith) ∙ tidy .kinds i (omega arith);
+      bytes = λ i h. getD-set-other (l .bytes) (l .count) i _ 0 (omega arith) ∙ tidy .bytes i (omega arith);
     }
 
 walk-tidy : (stop syn : Bool) (w : Walked) (os : List Opt) → Tidy (w .olayout) → Tidy (walkFrom stop syn w os .olayout)
@@ -73,7 +73,7 @@ walk-tidy stop syn w (o ∷ os) tidy =
         : (t : Bool)
         → Tidy (walkFrom stop syn (putOption syn w o) os .olayout)
         → Tidy ((cond {A = Walked} t (record { olayout = w .olayout; seen = w .seen; malformed = true })
-          (walkFrom stop syn (putOption syn w o) os)) .olayout)
+        (walkFrom stop syn (putOption syn w o) os)) .olayout)
     by-test true rest = tidy
     by-test false rest = rest
 
@@ -95,9 +95,9 @@ refused-over-forty s = by-length (ltb 40 (length s))
     by-length
         : (t : Bool)
         → optionsRefusal
-          ((cond {A = OptionsRead} t
-          (record { answer = answer.Refused; options = parsedOf (startWalk empty) })
-          (record { answer = answer.Parsed; options = parsedOf (walkOf true false empty s) })) .answer)
+        ((cond {A = OptionsRead} t
+        (record { answer = answer.Refused; options = parsedOf (startWalk empty) })
+        (record { answer = answer.Parsed; options = parsedOf (walkOf true false empty s) })) .answer)
         ≡ cond t 8 0
     by-length true = refl
     by-length false = refl

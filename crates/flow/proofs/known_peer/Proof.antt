@@ -1,31 +1,24 @@
-use mathlib.Core.Path.{refl}
+-- `flow::known_peer` meets its contract.
 use Rattle.basis.proofs.Rules.{cases}
 use Rattle.flow.specs.Tcp.{knownPeer}
 use borrow.Author.Needs.{needs}
 use Rattle.flow.proofs.known_peer.Statement.{statement}
 use Rattle.flow.proofs.known_peer.Tie as tie
-use Rattle.flow.proofs.known_peer.Reads as reads
-use Rattle.flow.proofs.known_peer.Lts as lts
 
--- src/lib.rt:376:24
 enum-told : tie.Need-enum-told
 enum-told c = search needs
 
--- src/lib.rt:377:22
 enum-known-peer-mss : tie.Need-enum-known-peer-mss
 enum-known-peer-mss c = search needs
 
--- src/lib.rt:379:17
 returns : tie.Need-returns
 unfolding knownPeer
 returns c = simp (c .before .before .peer-mss .given .1) (search cases)
 
--- src/lib.rt:372:1
 returns-2 : tie.Need-returns-2
 unfolding knownPeer
 returns-2 c = simp (c .enum-told .given .1)
 
--- src/lib.rt:372:1
 returns-3 : tie.Need-returns-3
 unfolding knownPeer
 returns-3 c = simp (c .before .before .peer-mss .given .1) (search cases)

@@ -15,14 +15,12 @@ enum-told-2 c = search needs
 enum-told-3 : tie.Need-enum-told-3
 enum-told-3 c = search needs
 
--- /work/main/target/rlib/quirks.rlib/interface/lang/src/lib.rt:11:37
 enum-told-4 : tie.Need-enum-told-4
 enum-told-4 c = search needs
 
 difference-requires : tie.Need-difference-requires
 difference-requires c κs = search needs
 
--- /work/main/target/rlib/quirks.rlib/interface/lang/src/lib.rt:12:37
 enum-told-5 : tie.Need-enum-told-5
 enum-told-5 c = search needs
 
