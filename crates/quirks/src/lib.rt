@@ -119,7 +119,8 @@ impl QuirkSet {
     pub fn insert(self, quirk: Quirk) -> Self
         ensures { λ r. ⌜ r ≡ with self quirk ⌝ }
     {
-        self.with(quirk)
+        let more = self.with(quirk);
+        more
     }
 
     // The set with one quirk more where a test holds: the original's `if test { quirks.insert(quirk) }`.

@@ -13,6 +13,10 @@ initialOf t = cond (leb t 32) 32 (cond (leb t 64) 64 (cond (leb t 128) 128 255))
 unfoldable pub guessOf : ℕ → ℕ
 guessOf t = initialOf t - t
 
+-- The most hops that are plausible: a TTL "more than 35 below" the initial one is out of range (module 7).
+abbrev pub maxDist : ℕ
+maxDist = 35
+
 -- "Byte 0 is Bad(0); a guess of at most 30 is Distance, else Value."
 unfoldable pub readingOf : ℕ → Ttl
 readingOf t = cond (eqb t 0) (Bad 0) (cond (leb (guessOf t) 30) (Distance t (guessOf t)) (Value t))

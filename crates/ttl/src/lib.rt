@@ -1,6 +1,6 @@
 // ttl.rs: what the TTL byte of a packet is taken for.
 ghost use mathlib.Core.Path.{_≡_};
-ghost use Rattle.ttl.specs.Ttl.{byteOf, guessOf, readingOf};
+ghost use Rattle.ttl.specs.Ttl.{byteOf, guessOf, maxDist, readingOf};
 
 // One of four forms of a TTL reading.
 pub enum Ttl {
@@ -19,6 +19,13 @@ pub const MAX_DIST: u8 = 35;
 
 // The most hops for which a reading is a Distance.
 const MAX_HOPS_ACCEPTABLE: u8 = 30;
+
+// The constant above, which its promise holds to document 01's number.
+pub fn max_dist() -> u8
+    ensures { λ r. ⌜ r ≡ maxDist ⌝ }
+{
+    MAX_DIST
+}
 
 // The TTL byte of a reading, whatever its form.
 pub fn observed_ttl(ttl: Ttl) -> u8
