@@ -1,6 +1,7 @@
 pub mod Flags
 pub mod Ip
 pub mod Observed
+pub mod Opening
 pub mod Parts
 pub mod Peer
 pub mod Refusals

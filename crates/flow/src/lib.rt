@@ -1,6 +1,6 @@
 // flow.rs: from a lent packet to an observation. The IP stage hands on facts and the TCP part; the TCP stage sees nothing else.
 ghost use mathlib.Core.Path.{_≡_};
-ghost use mathlib.Core.Bool.{not, _||_};
+ghost use mathlib.Core.Bool.{not, cond, _||_};
 ghost use Prim.Native.Nat.{_+_, _*_, _/_, _%_, _≤_, min, max};
 ghost use Rattle.rfc.specs.Rfc9293.{dataOffset};
 ghost use lib.Dec.{eqb, ltb};
@@ -383,6 +383,29 @@ fn known_peer(peer_mss: Mss) -> Mss
     }
 }
 
+// A SYN or a SYN+ACK, by its masked type.
+fn is_opening(masked: u8) -> bool
+    ensures { λ r. ⌜ r ≡ eqb masked 2 || eqb masked 18 ⌝ }
+{
+    if masked == SYN {
+        return true;
+    }
+    masked == SYN_ACK
+}
+
+fn opening_answer(syn: bool) -> Answer
+    ensures { λ r. ⌜ r ≡ cond syn Answer.Syn Answer.SynAck ⌝ }
+{
+    if syn { Answer::Syn } else { Answer::SynAck }
+}
+
+// Only a SYN+ACK's observation takes the peer's MSS.
+fn peer_taken(syn: bool, peer_mss: Mss) -> Mss
+    ensures { λ r. ⌜ r ≡ cond syn Mss.Absent «peer_mss» ⌝ }
+{
+    if syn { Mss::Absent } else { peer_mss }
+}
+
 fn visit_tcp(facts: IpFacts, tcp: &[u8], peer_mss: Mss) -> Reading
     requires { ⌜ 20 ≤ length (now tcp) ⌝ }
     ensures { λ r. ⌜ r ≡ readTcp facts (now (tcp .entry)) «peer_mss» ⌝ }
@@ -395,21 +418,16 @@ fn visit_tcp(facts: IpFacts, tcp: &[u8], peer_mss: Mss) -> Reading
         };
     }
     let masked = tcp_type(flags);
-    if masked == SYN {
+    if !is_opening(masked) {
         return Reading {
-            answer: Answer::Syn,
-            observation: observe(facts, tcp, true, Mss::Absent),
+            answer: Answer::Nothing,
+            observation: TcpObservation::empty(),
         };
     }
-    if masked == SYN_ACK {
-        return Reading {
-            answer: Answer::SynAck,
-            observation: observe(facts, tcp, false, known_peer(peer_mss)),
-        };
-    }
+    let syn = masked == SYN;
     Reading {
-        answer: Answer::Nothing,
-        observation: TcpObservation::empty(),
+        answer: opening_answer(syn),
+        observation: observe(facts, tcp, syn, peer_taken(syn, known_peer(peer_mss))),
     }
 }
 

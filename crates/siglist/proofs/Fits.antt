@@ -11,11 +11,12 @@ use Rattle.matching.specs.declared.SignatureFit.{SignatureFit}
 use Rattle.matching.specs.declared.SignatureFit.the-variants as fit
 use Rattle.matching.specs.Gates.{layoutMatches}
 use Rattle.matching.specs.Fit.{scalarGates, toleranceOf, fitOf}
+use Rattle.basis.proofs.Tests.{and-left, and-right}
 use Rattle.matching.proofs.Scalars.{and-false}
 use Rattle.siglist.specs.declared.Areas.{Areas}
 use Rattle.siglist.specs.Record.{signatureOf, firstEntry, entryCount, scalarsGood, entriesGood}
 use Rattle.siglist.specs.List.{recordCount, layoutCount, AreasFit, recordAt, entriesOf, layoutLies, recordGood}
-use Rattle.siglist.specs.Search.{fitAt}
+use Rattle.siglist.specs.Search.{fitAt, fitsNothing}
 use Rattle.siglist.proofs.List.{list-fits}
 
 -- A conjunction in which two parts do not both hold.
@@ -28,6 +29,19 @@ not-both false false x y e = refl
 second-holds : (c g : Bool) → c && g ≡ true → g ≡ true
 second-holds true g e = e
 second-holds false g e = absurd (false≢true e)
+
+is-nothing : (x : SignatureFit) → fitsNothing x ≡ true → x ≡ fit.Nothing
+unfolding fitsNothing
+is-nothing fit.Nothing e = refl
+is-nothing fit.Exact e = absurd (false≢true e)
+is-nothing (fit.Fuzzy r) e = absurd (false≢true e)
+
+falls-through
+    : (g c x : Bool) (t : SignatureFit) → c && x ≡ false → cond x (cond (g && c) t fit.Nothing) fit.Nothing ≡ fit.Nothing
+falls-through g true true t e = absurd (true≢false e)
+falls-through true false true t e = refl
+falls-through false false true t e = refl
+falls-through g c false t e = refl
 
 either-way : (t : Bool) → cond t fit.Nothing fit.Nothing ≡ fit.Nothing
 either-way true = refl
@@ -47,44 +61,69 @@ module _ (f : Features) (kinds bytes l : List ℕ) (a : Areas) (i : ℕ) (fits :
       → fitAt f kinds bytes l i ≡ fit.Nothing
   fits-nothing e = rw (here, e) (either-way (recordGood l i))
 
-  is-bad : recordGood l i ≡ false → fitAt f kinds bytes l i ≡ fit.Nothing
-  is-bad e = rw (here, e)
-
   pub gate-fails
       : eqb (f .count) (entryCount (recordAt l i)) && scalarGates f (signatureOf (recordAt l i)) ≡ false
       → fitAt f kinds bytes l i ≡ fit.Nothing
   unfolding fitOf layoutMatches
   gate-fails e = fits-nothing (rw (not-both (eqb (f .count) (entryCount (recordAt l i))) (scalarGates f (signatureOf (recordAt l i))) _ _ e))
 
-  pub layout-fails
-      : layoutMatches (f .count) kinds bytes (entryCount (recordAt l i)) (entriesOf l (recordAt l i)) ≡ false
+  pub not-tolerated : fitsNothing (toleranceOf f (signatureOf (recordAt l i))) ≡ true → fitAt f kinds bytes l i ≡ fit.Nothing
+  unfolding fitOf
+  not-tolerated e =
+      fits-nothing
+      (rw (is-nothing (toleranceOf f (signatureOf (recordAt l i))) e)
+      (either-way
+      (scalarGates f (signatureOf (recordAt l i))
+      && layoutMatches (f .count) kinds bytes (entryCount (recordAt l i)) (entriesOf l (recordAt l i)))))
+
+  pub not-held
+      : layoutMatches (f .count) kinds bytes (entryCount (recordAt l i)) (entriesOf l (recordAt l i)) && recordGood l i ≡ false
       → fitAt f kinds bytes l i ≡ fit.Nothing
   unfolding fitOf
-  layout-fails e = fits-nothing (simp (e, and-false))
+  not-held e =
+      here
+      ∙ falls-through (scalarGates f (signatureOf (recordAt l i)))
+      (layoutMatches (f .count) kinds bytes (entryCount (recordAt l i)) (entriesOf l (recordAt l i)))
+      (recordGood l i)
+      (toleranceOf f (signatureOf (recordAt l i)))
+      e
+
+  pub held-fit
+      : eqb (f .count) (entryCount (recordAt l i)) && scalarGates f (signatureOf (recordAt l i)) ≡ true
+      → layoutMatches (f .count) kinds bytes (entryCount (recordAt l i)) (entriesOf l (recordAt l i)) && recordGood l i ≡ true
+      → fitAt f kinds bytes l i ≡ toleranceOf f (signatureOf (recordAt l i))
+  unfolding fitOf
+  held-fit gates holds =
+      let open-gates = second-holds (eqb (f .count) (entryCount (recordAt l i))) (scalarGates f (signatureOf (recordAt l i))) gates in
+      let layout = and-left (layoutMatches (f .count) kinds bytes (entryCount (recordAt l i)) (entriesOf l (recordAt l i))) (recordGood l i) holds in
+      let good = and-right (layoutMatches (f .count) kinds bytes (entryCount (recordAt l i)) (entriesOf l (recordAt l i))) (recordGood l i) holds in
+      rw (here, good, open-gates, layout)
+
+-- Whether a record holds: its layout is the observation's, and it is well formed.
+module _ (n : ℕ) (kinds bytes l : List ℕ) (a : Areas) (i : ℕ) (fits : AreasFit l a) where
+  abbrev Holds : Bool
+  Holds = layoutMatches n kinds bytes (entryCount (recordAt l i)) (entriesOf l (recordAt l i)) && recordGood l i
+
+  is-bad : recordGood l i ≡ false → Holds ≡ false
+  is-bad e = rw e (and-false (layoutMatches n kinds bytes (entryCount (recordAt l i)) (entriesOf l (recordAt l i))))
+
+  pub layout-fails : layoutMatches n kinds bytes (entryCount (recordAt l i)) (entriesOf l (recordAt l i)) ≡ false → Holds ≡ false
+  layout-fails e = rw e
 
   pub bad-place
       : leb (entryCount (recordAt l i)) 40 && leb (firstEntry (recordAt l i) + entryCount (recordAt l i)) (a .entries) ≡ false
-      → fitAt f kinds bytes l i ≡ fit.Nothing
+      → Holds ≡ false
   unfolding recordGood layoutLies
   bad-place e = is-bad (rw (← fits .entries, e) (and-false (scalarsGood (recordAt l i))))
 
-  pub bad-scalars : scalarsGood (recordAt l i) ≡ false → fitAt f kinds bytes l i ≡ fit.Nothing
+  pub bad-scalars : scalarsGood (recordAt l i) ≡ false → Holds ≡ false
   unfolding recordGood
   bad-scalars e = is-bad (rw e)
 
-  pub bad-entries
-      : entriesGood (entriesOf l (recordAt l i)) (entryCount (recordAt l i)) ≡ false → fitAt f kinds bytes l i ≡ fit.Nothing
-  unfolding recordGood layoutLies
-  bad-entries e = is-bad (simp (e, and-false))
-
-  pub good-fit
-      : eqb (f .count) (entryCount (recordAt l i)) && scalarGates f (signatureOf (recordAt l i)) ≡ true
-      → leb (entryCount (recordAt l i)) 40 && leb (firstEntry (recordAt l i) + entryCount (recordAt l i)) (a .entries) ≡ true
-      → layoutMatches (f .count) kinds bytes (entryCount (recordAt l i)) (entriesOf l (recordAt l i)) ≡ true
+  pub entries-decide
+      : leb (entryCount (recordAt l i)) 40 && leb (firstEntry (recordAt l i) + entryCount (recordAt l i)) (a .entries) ≡ true
+      → layoutMatches n kinds bytes (entryCount (recordAt l i)) (entriesOf l (recordAt l i)) ≡ true
       → scalarsGood (recordAt l i) ≡ true
-      → entriesGood (entriesOf l (recordAt l i)) (entryCount (recordAt l i)) ≡ true
-      → fitAt f kinds bytes l i ≡ toleranceOf f (signatureOf (recordAt l i))
-  unfolding recordGood layoutLies fitOf
-  good-fit gates lie layout scalars entries =
-      let open-gates = second-holds (eqb (f .count) (entryCount (recordAt l i))) (scalarGates f (signatureOf (recordAt l i))) gates in
-      rw (here, ← fits .entries, lie, scalars, entries, open-gates, layout)
+      → Holds ≡ entriesGood (entriesOf l (recordAt l i)) (entryCount (recordAt l i))
+  unfolding recordGood layoutLies
+  entries-decide lie layout scalars = rw (← fits .entries, lie, scalars, layout)

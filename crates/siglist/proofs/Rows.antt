@@ -22,6 +22,10 @@ keep-nothing (found.Fuzzy l r) label fit.Nothing e = refl
 keep-nothing held label fit.Exact e = absurd (false≢true e)
 keep-nothing held label (fit.Fuzzy r) e = absurd (false≢true e)
 
+fits-nothing-nothing : fitsNothing fit.Nothing ≡ true
+unfolding fitsNothing
+fits-nothing-nothing = refl
+
 module _ (f : Features) (kinds bytes l : List ℕ) where
   -- An exact record ends the search.
   pub stays : (label : ℕ) (is : List ℕ) → searchFrom (found.Exact label) f kinds bytes l is ≡ found.Exact label
@@ -43,6 +47,17 @@ module _ (f : Features) (kinds bytes l : List ℕ) where
       ≡ searchFrom held f kinds bytes l (numbersFrom i (n - i))
   unfolding searchFrom numbersFrom
   one-record held i n inside = let more : n - i ≡ suc (n - (i + 1)) = omega arith in rw more
+
+  -- A record that fits nothing is passed over.
+  pub passed-over
+      : (held : Found) (i n : ℕ)
+      → i < n
+      → fitAt f kinds bytes l i ≡ fit.Nothing
+      → searchFrom held f kinds bytes l (numbersFrom (i + 1) (n - (i + 1))) ≡ searchFrom held f kinds bytes l (numbersFrom i (n - i))
+  passed-over held i n inside e =
+      ap (λ (h : Found). searchFrom h f kinds bytes l (numbersFrom (i + 1) (n - (i + 1))))
+      (sym (keep-nothing held (labelOf (recordAt l i)) (fitAt f kinds bytes l i) (rw e (fits-nothing-nothing))))
+      ∙ one-record held i n inside
 
   pub no-record : (held : Found) (i n : ℕ) → n ≤ i → searchFrom held f kinds bytes l (numbersFrom i (n - i)) ≡ held
   unfolding searchFrom numbersFrom

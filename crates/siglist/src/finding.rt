@@ -3,31 +3,28 @@ ghost use mathlib.Core.Path.{_≡_};
 ghost use mathlib.Core.Bool.{true, _&&_};
 ghost use lib.Dec.{eqb, leb};
 ghost use Rattle.matching.specs.Fit.{scalarGates};
-ghost use Rattle.matching.specs.Gates.{versionMatches, mssMatches, windowMatches, scaleMatches, payloadMatches};
-ghost use Prim.Native.Nat.{_+_, _*_, _<_};
+ghost use Rattle.matching.specs.Gates.{versionMatches, mssMatches, windowMatches, scaleMatches, payloadMatches, layoutMatches};
+ghost use Prim.Native.Nat.{ℕ, _+_, _*_, _-_, _≤_, _<_};
+ghost use mathlib.Core.List.{List};
 ghost use lib.ListN.{length};
 ghost use Rattle.siglist.specs.Record.{entryCount, labelOf, versionOf, mssOf, scaleOf, windowOf, payloadOf, signatureOf};
-ghost use Rattle.siglist.specs.List.{recordAt, AreasFit};
+ghost use Rattle.siglist.specs.List.{recordAt, entriesOf, AreasFit, recordGood};
 ghost use Rattle.siglist.specs.Search.{fitAt, fitsNothing, keep, isExact, searchFrom, numbersFrom};
 use crate::Areas;
 use crate::Found;
 use crate::RECORD;
 use crate::raw::entries_good;
 use crate::raw::mss_of;
-use crate::raw::payload_of;
 use crate::raw::scalars_good;
 use crate::raw::scale_of;
 use crate::raw::signature_of;
-use crate::raw::version_of;
 use crate::raw::wide;
 use crate::raw::window_of;
 use matching::Features;
 use matching::SignatureFit;
-use matching::ip_version_matches;
 use matching::mss_matches;
 use matching::olayout_matches;
 use matching::olen_matches;
-use matching::payload_size_matches;
 use matching::tolerance;
 use matching::window_size_matches;
 use matching::wscale_matches;
@@ -81,13 +78,19 @@ pub(crate) fn keep_fit(held: Found, label: u16, fit: SignatureFit) -> Found
 pub(crate) fn payload_gate(observed: PayloadSize, code: u8) -> bool
     ensures { λ r. ⌜ r ≡ payloadMatches observed (payloadOf code) ⌝ }
 {
-    payload_size_matches(observed, payload_of(code))
+    match observed {
+        PayloadSize::Zero => code != 1,
+        PayloadSize::NonZero => code != 0,
+    }
 }
 
 pub(crate) fn version_gate(observed: IpVersion, code: u8) -> bool
     ensures { λ r. ⌜ r ≡ versionMatches observed (versionOf code) ⌝ }
 {
-    ip_version_matches(observed, version_of(code))
+    match observed {
+        IpVersion::V4 => code != 6,
+        IpVersion::V6 => code != 4,
+    }
 }
 
 pub(crate) fn mss_gate(observed: Mss, present: u8, high: u8, low: u8) -> bool
@@ -122,6 +125,14 @@ pub(crate) fn gates_at(observed: Features, raw: &[u8]) -> bool
     if observed.count != wide(raw[20]) as usize {
         return false;
     }
+    let wscale = observed.wscale;
+    if !scale_gate(wscale, raw[11], raw[12]) {
+        return false;
+    }
+    let mss = observed.mss;
+    if !mss_gate(mss, raw[5], raw[6], raw[7]) {
+        return false;
+    }
     if !olen_matches(observed.olen, raw[4]) {
         return false;
     }
@@ -131,14 +142,6 @@ pub(crate) fn gates_at(observed: Features, raw: &[u8]) -> bool
     }
     let version = observed.version;
     if !version_gate(version, raw[0]) {
-        return false;
-    }
-    let mss = observed.mss;
-    if !mss_gate(mss, raw[5], raw[6], raw[7]) {
-        return false;
-    }
-    let wscale = observed.wscale;
-    if !scale_gate(wscale, raw[11], raw[12]) {
         return false;
     }
     let multiplier = observed.multiplier;
@@ -156,7 +159,39 @@ pub(crate) fn entries_lie(areas: Areas, first: usize, count: usize) -> bool
     first + count <= areas.entries
 }
 
-// How a record fits. Its gates come first: only of a record that passes them is it asked whether it is well formed.
+// Whether a record's layout is the observation's, and the record well formed.
+pub(crate) fn holds_at(
+    count: usize,
+    kinds: &[u8],
+    bytes: &[u8],
+    list: &[u8],
+    areas: Areas,
+    i: usize,
+) -> bool
+    requires { ⌜ AreasFit (now list) areas × (i < areas .records) ⌝ }
+    ensures { λ r. ⌜ r ≡ layoutMatches count (now (kinds .entry)) (now (bytes .entry)) (entryCount (recordAt (now (list .entry)) i)) (entriesOf (now (list .entry)) (recordAt (now (list .entry)) i)) && recordGood (now (list .entry)) i ⌝ }
+{
+    let at = areas.records_offset + RECORD * i;
+    let end_of_record = at + RECORD;
+    let raw = &list[at..end_of_record];
+    let first = be16(raw[18], raw[19]) as usize;
+    let declared = wide(raw[20]) as usize;
+    if !entries_lie(areas, first, declared) {
+        return false;
+    }
+    let start = areas.entries_offset + 2 * first;
+    let end = start + 2 * declared;
+    let entries = &list[start..end];
+    if !olayout_matches(kinds, bytes, count, entries, declared) {
+        return false;
+    }
+    if !scalars_good(raw) {
+        return false;
+    }
+    entries_good(entries, declared)
+}
+
+// How a record fits. Gates, TTL and quirks come first: only of a record that passes them is it asked whether it is well formed.
 pub(crate) fn fit_at(
     observed: Features,
     kinds: &[u8],
@@ -174,24 +209,14 @@ pub(crate) fn fit_at(
     if !gates_at(observed, raw) {
         return SignatureFit::Nothing;
     }
-    let first = be16(raw[18], raw[19]) as usize;
-    let count = wide(raw[20]) as usize;
-    if !entries_lie(areas, first, count) {
+    let fit = tolerance(observed, signature_of(raw));
+    if is_nothing(fit) {
         return SignatureFit::Nothing;
     }
-    let start = areas.entries_offset + 2 * first;
-    let end = start + 2 * count;
-    let entries = &list[start..end];
-    if !olayout_matches(kinds, bytes, observed.count, entries, count) {
+    if !holds_at(observed.count, kinds, bytes, list, areas, i) {
         return SignatureFit::Nothing;
     }
-    if !scalars_good(raw) {
-        return SignatureFit::Nothing;
-    }
-    if !entries_good(entries, count) {
-        return SignatureFit::Nothing;
-    }
-    tolerance(observed, signature_of(raw))
+    fit
 }
 
 pub(crate) fn label_at(list: &[u8], areas: Areas, i: usize) -> u16
@@ -224,6 +249,24 @@ pub(crate) fn search_step(
     keep_fit(held, label_at(list, areas, i), fit)
 }
 
+// The first record from one on that passes the gates, or the end: those before it leave a search as it is.
+pub(crate) fn next_candidate(observed: Features, list: &[u8], areas: Areas, from: usize) -> usize
+    requires { ⌜ AreasFit (now list) areas × (from ≤ areas .records) ⌝ }
+    ensures { λ r. ⌜ (from ≤ r) × (r ≤ areas .records) × ((held : Found) (kinds bytes : List ℕ) → searchFrom held observed kinds bytes (now (list .entry)) (numbersFrom r (areas .records - r)) ≡ searchFrom held observed kinds bytes (now (list .entry)) (numbersFrom from (areas .records - from))) ⌝ }
+{
+    let mut i = from;
+    while i < areas.records {
+        let at = areas.records_offset + RECORD * i;
+        let end_of_record = at + RECORD;
+        let raw = &list[at..end_of_record];
+        if gates_at(observed, raw) {
+            return i;
+        }
+        i += 1;
+    }
+    i
+}
+
 // The records in list order; an exact one ends the search.
 pub(crate) fn search_records(
     observed: Features,
@@ -239,6 +282,10 @@ pub(crate) fn search_records(
     let mut held = Found::Nothing;
     let mut i = 0;
     while i < count {
+        i = next_candidate(observed, list, areas, i);
+        if count <= i {
+            return held;
+        }
         held = search_step(held, observed, kinds, bytes, list, areas, i);
         if is_exact(held) {
             return held;

@@ -1,11 +1,7 @@
 -- `siglist::fit_at` meets its contract.
-use lib.Dec.{leb}
-use Prim.Native.Nat.{_+_, _≤_}
-use Rattle.siglist.proofs.Fits.{gate-fails, layout-fails, bad-place, bad-scalars, bad-entries, good-fit}
+use Rattle.siglist.proofs.Fits.{gate-fails, not-tolerated, not-held, held-fit}
+use Rattle.siglist.specs.Search.{fitsNothing}
 use Rattle.matching.specs.Fit.{toleranceOf}
-use Rattle.basis.proofs.Tests.{and-right}
-use Rattle.basis.specs.Bytes.{be16}
-use borrow.Author.Tests.{leb-true}
 use borrow.Author.Tests.{not-true, not-false}
 use mathlib.Core.Path.{sym, _∙_, ap}
 use borrow.Author.Needs.{needs}
@@ -37,94 +33,8 @@ returns : tie.Need-returns
 returns c =
     let a = c .before .before .before .before .before .before .before .args in
     let fits = c .before .before .before .before .before .before .before .pre .0 in
-    sym (gate-fails (a .observed) (a .kinds .now) (a .bytes .now) (a .list .now) (a .areas) (a .i) fits (c .before .before .before .before .before .before .before .pre .1) (rw (← fits .recordsAt) (sym (c .before .gates-at .ensures) ∙ not-true (c .before .gates-at .result) (c .if1 .taken))))
-
-shared-slice-read-be16 : tie.Need-shared-slice-read-be16
-shared-slice-read-be16 c = search needs
-
-shared-slice-read-be16-2 : tie.Need-shared-slice-read-be16-2
-shared-slice-read-be16-2 c = search needs
-
-be16-requires : tie.Need-be16-requires
-be16-requires c κs = search needs
-
-cast-first : tie.Need-cast-first
-cast-first c = search needs
-
-shared-slice-read-wide : tie.Need-shared-slice-read-wide
-shared-slice-read-wide c = search needs
-
-wide-requires : tie.Need-wide-requires
-wide-requires c κs = search needs
-
-cast-count : tie.Need-cast-count
-cast-count c = search needs
-
-entries-lie-requires : tie.Need-entries-lie-requires
-entries-lie-requires c κs = search needs
-
-returns-2 : tie.Need-returns-2
-unfolding be16
-returns-2 c =
-    let a = c .before .before .before .before .before .before .before .before .before .before .before .before .before .before .args in
-    let fits = c .before .before .before .before .before .before .before .before .before .before .before .before .before .before .pre .0 in
-    sym (bad-place (a .observed) (a .kinds .now) (a .bytes .now) (a .list .now) (a .areas) (a .i) fits (c .before .before .before .before .before .before .before .before .before .before .before .before .before .before .pre .1) (rw (← fits .recordsAt, ← c .before .before .wide .ensures, ← c .before .before .before .before .be16 .ensures) (sym (c .before .entries-lie .ensures) ∙ not-true (c .before .entries-lie .result) (c .if2 .taken))))
-
-mul-start : tie.Need-mul-start
-mul-start c = search needs
-
-add-start : tie.Need-add-start
-add-start c = search needs
-
-mul-end : tie.Need-mul-end
-mul-end c = search needs
-
-add-end : tie.Need-add-end
-add-end c = search needs
-
-sub-entries : tie.Need-sub-entries
-sub-entries c = search needs
-
-part-entries-start : tie.Need-part-entries-start
-part-entries-start c = search needs
-
-part-entries-end : tie.Need-part-entries-end
-part-entries-end c =
-    let fits = c .before .before .before .before .before .before .before .before .before .before .before .before .before .before .before .pre .0 in
-    let lie : c .before .before .before .before .before .be16 .result + c .before .before .before .wide .result ≤ c .before .before .before .before .before .before .before .before .before .before .before .before .before .before .before .args .areas .entries =
-    leb-true (c .before .before .before .before .before .be16 .result + c .before .before .before .wide .result) (c .before .before .before .before .before .before .before .before .before .before .before .before .before .before .before .args .areas .entries)
-    (and-right (leb (c .before .before .before .wide .result) 40) (leb (c .before .before .before .before .before .be16 .result + c .before .before .before .wide .result) (c .before .before .before .before .before .before .before .before .before .before .before .before .before .before .before .args .areas .entries))
-    (sym (c .before .before .entries-lie .ensures) ∙ not-false (c .before .before .entries-lie .result) (c .before .if2 .left))) in
-    search needs
-
-olayout-matches-requires : tie.Need-olayout-matches-requires
-olayout-matches-requires c κs = search needs
-
-returns-3 : tie.Need-returns-3
-unfolding be16
-returns-3 c =
-    let a = c .before .before .before .before .before .before .before .before .before .before .before .before .before .before .before .before .before .before .args in
-    let fits = c .before .before .before .before .before .before .before .before .before .before .before .before .before .before .before .before .before .before .pre .0 in
-    sym (layout-fails (a .observed) (a .kinds .now) (a .bytes .now) (a .list .now) (a .areas) (a .i) fits (c .before .before .before .before .before .before .before .before .before .before .before .before .before .before .before .before .before .before .pre .1) (rw (← fits .recordsAt, ← fits .entriesAt, ← c .before .before .before .before .before .before .wide .ensures, ← c .before .before .before .before .before .before .before .before .be16 .ensures) (sym (c .before .olayout-matches .ensures) ∙ not-true (c .before .olayout-matches .result) (c .if3 .taken))))
-
-scalars-good-requires : tie.Need-scalars-good-requires
-scalars-good-requires c κs = search needs
-
-returns-4 : tie.Need-returns-4
-returns-4 c =
-    let a = c .before .before .before .before .before .before .before .before .before .before .before .before .before .before .before .before .before .before .before .before .args in
-    let fits = c .before .before .before .before .before .before .before .before .before .before .before .before .before .before .before .before .before .before .before .before .pre .0 in
-    sym (bad-scalars (a .observed) (a .kinds .now) (a .bytes .now) (a .list .now) (a .areas) (a .i) fits (c .before .before .before .before .before .before .before .before .before .before .before .before .before .before .before .before .before .before .before .before .pre .1) (rw (← fits .recordsAt) (sym (c .before .scalars-good .ensures) ∙ not-true (c .before .scalars-good .result) (c .if4 .taken))))
-
-entries-good-requires : tie.Need-entries-good-requires
-entries-good-requires c κs = search needs
-
-returns-5 : tie.Need-returns-5
-unfolding be16
-returns-5 c =
-    let a = c .before .before .before .before .before .before .before .before .before .before .before .before .before .before .before .before .before .before .before .before .before .before .args in
-    let fits = c .before .before .before .before .before .before .before .before .before .before .before .before .before .before .before .before .before .before .before .before .before .before .pre .0 in
-    sym (bad-entries (a .observed) (a .kinds .now) (a .bytes .now) (a .list .now) (a .areas) (a .i) fits (c .before .before .before .before .before .before .before .before .before .before .before .before .before .before .before .before .before .before .before .before .before .before .pre .1) (rw (← fits .recordsAt, ← fits .entriesAt, ← c .before .before .before .before .before .before .before .before .before .before .wide .ensures, ← c .before .before .before .before .before .before .before .before .before .before .before .before .be16 .ensures) (sym (c .before .entries-good .ensures) ∙ not-true (c .before .entries-good .result) (c .if5 .taken))))
+    let inside = c .before .before .before .before .before .before .before .pre .1 in
+    sym (gate-fails (a .observed) (a .kinds .now) (a .bytes .now) (a .list .now) (a .areas) (a .i) fits inside (rw (← fits .recordsAt) (sym (c .before .gates-at .ensures) ∙ not-true (c .before .gates-at .result) (c .if1 .taken))))
 
 signature-of-requires : tie.Need-signature-of-requires
 signature-of-requires c κs = search needs
@@ -132,20 +42,36 @@ signature-of-requires c κs = search needs
 tolerance-requires : tie.Need-tolerance-requires
 tolerance-requires c κs = search needs
 
-returns-6 : tie.Need-returns-6
-unfolding be16
-returns-6 c =
-    let a = c .before .before .before .before .before .before .before .before .before .before .before .before .before .before .before .before .before .before .before .before .before .before .before .before .args in
-    let fits = c .before .before .before .before .before .before .before .before .before .before .before .before .before .before .before .before .before .before .before .before .before .before .before .before .pre .0 in
-    let r = c .tolerance .ensures ∙ ap (toleranceOf (a .observed)) (c .before .signature-of .ensures) in
-    r
+is-nothing-requires : tie.Need-is-nothing-requires
+is-nothing-requires c κs = search needs
+
+returns-2 : tie.Need-returns-2
+returns-2 c =
+    let a = c .before .before .before .before .before .before .before .before .before .before .before .args in
+    let fits = c .before .before .before .before .before .before .before .before .before .before .before .pre .0 in
+    let inside = c .before .before .before .before .before .before .before .before .before .before .before .pre .1 in
+    sym (not-tolerated (a .observed) (a .kinds .now) (a .bytes .now) (a .list .now) (a .areas) (a .i) fits inside (rw (← fits .recordsAt) (ap fitsNothing (sym (c .before .before .tolerance .ensures ∙ ap (toleranceOf (a .observed)) (c .before .before .before .signature-of .ensures))) ∙ sym (c .before .is-nothing .ensures) ∙ c .if2 .taken)))
+
+holds-at-requires : tie.Need-holds-at-requires
+holds-at-requires c κs = search needs
+
+returns-3 : tie.Need-returns-3
+returns-3 c =
+    let a = c .before .before .before .before .before .before .before .before .before .before .before .before .before .args in
+    let fits = c .before .before .before .before .before .before .before .before .before .before .before .before .before .pre .0 in
+    let inside = c .before .before .before .before .before .before .before .before .before .before .before .before .before .pre .1 in
+    sym (not-held (a .observed) (a .kinds .now) (a .bytes .now) (a .list .now) (a .areas) (a .i) fits inside (sym (c .before .holds-at .ensures) ∙ not-true (c .before .holds-at .result) (c .if3 .taken)))
+
+returns-4 : tie.Need-returns-4
+returns-4 c =
+    let a = c .before .before .before .before .before .before .before .before .before .before .before .before .before .args in
+    let fits = c .before .before .before .before .before .before .before .before .before .before .before .before .before .pre .0 in
+    let inside = c .before .before .before .before .before .before .before .before .before .before .before .before .before .pre .1 in
+    (c .before .before .before .before .tolerance .ensures ∙ ap (toleranceOf (a .observed)) (c .before .before .before .before .before .signature-of .ensures))
     ∙ sym
-    (good-fit (a .observed) (a .kinds .now) (a .bytes .now) (a .list .now) (a .areas) (a .i) fits (c .before .before .before .before .before .before .before .before .before .before .before .before .before .before .before .before .before .before .before .before .before .before .before .before .pre .1)
-    (rw (← fits .recordsAt) (sym (c .before .before .before .before .before .before .before .before .before .before .before .before .before .before .before .before .before .before .gates-at .ensures) ∙ not-false (c .before .before .before .before .before .before .before .before .before .before .before .before .before .before .before .before .before .before .gates-at .result) (c .before .before .before .before .before .before .before .before .before .before .before .before .before .before .before .before .before .if1 .left)))
-    (rw (← fits .recordsAt, ← c .before .before .before .before .before .before .before .before .before .before .before .before .wide .ensures, ← c .before .before .before .before .before .before .before .before .before .before .before .before .before .before .be16 .ensures) (sym (c .before .before .before .before .before .before .before .before .before .before .before .entries-lie .ensures) ∙ not-false (c .before .before .before .before .before .before .before .before .before .before .before .entries-lie .result) (c .before .before .before .before .before .before .before .before .before .before .if2 .left)))
-    (rw (← fits .recordsAt, ← fits .entriesAt, ← c .before .before .before .before .before .before .before .before .before .before .before .before .wide .ensures, ← c .before .before .before .before .before .before .before .before .before .before .before .before .before .before .be16 .ensures) (sym (c .before .before .before .before .before .before .before .olayout-matches .ensures) ∙ not-false (c .before .before .before .before .before .before .before .olayout-matches .result) (c .before .before .before .before .before .before .if3 .left)))
-    (rw (← fits .recordsAt) (sym (c .before .before .before .before .before .scalars-good .ensures) ∙ not-false (c .before .before .before .before .before .scalars-good .result) (c .before .before .before .before .if4 .left)))
-    (rw (← fits .recordsAt, ← fits .entriesAt, ← c .before .before .before .before .before .before .before .before .before .before .before .before .wide .ensures, ← c .before .before .before .before .before .before .before .before .before .before .before .before .before .before .be16 .ensures) (sym (c .before .before .before .entries-good .ensures) ∙ not-false (c .before .before .before .entries-good .result) (c .before .before .if5 .left)))
+    (held-fit (a .observed) (a .kinds .now) (a .bytes .now) (a .list .now) (a .areas) (a .i) fits inside
+    (rw (← fits .recordsAt) (sym (c .before .before .before .before .before .before .before .gates-at .ensures) ∙ not-false (c .before .before .before .before .before .before .before .gates-at .result) (c .before .before .before .before .before .before .if1 .left)))
+    (sym (c .before .holds-at .ensures) ∙ not-false (c .before .holds-at .result) (c .if3 .left))
     ∙ rw (← fits .recordsAt))
 
 pub fit-at-spec : {M : Type 1} → statement M
@@ -160,28 +86,10 @@ fit-at-spec =
     part-raw-end
     gates-at-requires
     returns
-    shared-slice-read-be16
-    shared-slice-read-be16-2
-    be16-requires
-    cast-first
-    shared-slice-read-wide
-    wide-requires
-    cast-count
-    entries-lie-requires
-    returns-2
-    mul-start
-    add-start
-    mul-end
-    add-end
-    sub-entries
-    part-entries-start
-    part-entries-end
-    olayout-matches-requires
-    returns-3
-    scalars-good-requires
-    returns-4
-    entries-good-requires
-    returns-5
     signature-of-requires
     tolerance-requires
-    returns-6)
+    is-nothing-requires
+    returns-2
+    holds-at-requires
+    returns-3
+    returns-4)

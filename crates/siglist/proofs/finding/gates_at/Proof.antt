@@ -21,35 +21,20 @@ cast-if1 c = search needs
 returns : tie.Need-returns
 returns c = rw (ne-eqb (c .before .before .before .before .before .args .observed .count) (entryCount (c .before .before .before .before .before .args .raw .now)) (λ e. c .if1 .taken (e ∙ sym (c .before .before .wide .ensures))))
 
-shared-slice-read-olen-matches : tie.Need-shared-slice-read-olen-matches
-shared-slice-read-olen-matches c = search needs
+shared-slice-read-scale-gate : tie.Need-shared-slice-read-scale-gate
+shared-slice-read-scale-gate c = search needs
 
-olen-matches-requires : tie.Need-olen-matches-requires
-olen-matches-requires c κs = search needs
+shared-slice-read-scale-gate-2 : tie.Need-shared-slice-read-scale-gate-2
+shared-slice-read-scale-gate-2 c = search needs
+
+scale-gate-requires : tie.Need-scale-gate-requires
+scale-gate-requires c κs = search needs
 
 returns-2 : tie.Need-returns-2
 unfolding signatureOf be16
-returns-2 c = rw (fails-olen (c .before .before .before .before .before .before .before .before .args .observed) (signatureOf (c .before .before .before .before .before .before .before .before .args .raw .now)) (sym (c .before .olen-matches .ensures) ∙ not-true (c .before .olen-matches .result) (c .if2 .taken))) (sym (and-false (eqb (c .before .before .before .before .before .before .before .before .args .observed .count) (entryCount (c .before .before .before .before .before .before .before .before .args .raw .now)))))
-
-shared-slice-read-payload-gate : tie.Need-shared-slice-read-payload-gate
-shared-slice-read-payload-gate c = search needs
-
-payload-gate-requires : tie.Need-payload-gate-requires
-payload-gate-requires c κs = search needs
-
-returns-3 : tie.Need-returns-3
-unfolding signatureOf be16
-returns-3 c = rw (fails-payload (c .before .before .before .before .before .before .before .before .before .before .before .args .observed) (signatureOf (c .before .before .before .before .before .before .before .before .before .before .before .args .raw .now)) (sym (c .before .payload-gate .ensures) ∙ not-true (c .before .payload-gate .result) (c .if3 .taken))) (sym (and-false (eqb (c .before .before .before .before .before .before .before .before .before .before .before .args .observed .count) (entryCount (c .before .before .before .before .before .before .before .before .before .before .before .args .raw .now)))))
-
-shared-slice-read-version-gate : tie.Need-shared-slice-read-version-gate
-shared-slice-read-version-gate c = search needs
-
-version-gate-requires : tie.Need-version-gate-requires
-version-gate-requires c κs = search needs
-
-returns-4 : tie.Need-returns-4
-unfolding signatureOf be16
-returns-4 c = rw (fails-version (c .before .before .before .before .before .before .before .before .before .before .before .before .before .before .args .observed) (signatureOf (c .before .before .before .before .before .before .before .before .before .before .before .before .before .before .args .raw .now)) (sym (c .before .version-gate .ensures) ∙ not-true (c .before .version-gate .result) (c .if4 .taken))) (sym (and-false (eqb (c .before .before .before .before .before .before .before .before .before .before .before .before .before .before .args .observed .count) (entryCount (c .before .before .before .before .before .before .before .before .before .before .before .before .before .before .args .raw .now)))))
+returns-2 c =
+    let a = c .before .before .before .before .before .before .before .before .before .args in
+    rw (fails-scale (a .observed) (signatureOf (a .raw .now)) (sym (c .before .scale-gate .ensures) ∙ not-true (c .before .scale-gate .result) (c .if2 .taken))) (sym (and-false (eqb (a .observed .count) (entryCount (a .raw .now)))))
 
 shared-slice-read-mss-gate : tie.Need-shared-slice-read-mss-gate
 shared-slice-read-mss-gate c = search needs
@@ -63,22 +48,47 @@ shared-slice-read-mss-gate-3 c = search needs
 mss-gate-requires : tie.Need-mss-gate-requires
 mss-gate-requires c κs = search needs
 
+returns-3 : tie.Need-returns-3
+unfolding signatureOf be16
+returns-3 c =
+    let a = c .before .before .before .before .before .before .before .before .before .before .before .before .before .before .args in
+    rw (fails-mss (a .observed) (signatureOf (a .raw .now)) (sym (c .before .mss-gate .ensures) ∙ not-true (c .before .mss-gate .result) (c .if3 .taken))) (sym (and-false (eqb (a .observed .count) (entryCount (a .raw .now)))))
+
+shared-slice-read-olen-matches : tie.Need-shared-slice-read-olen-matches
+shared-slice-read-olen-matches c = search needs
+
+olen-matches-requires : tie.Need-olen-matches-requires
+olen-matches-requires c κs = search needs
+
+returns-4 : tie.Need-returns-4
+unfolding signatureOf be16
+returns-4 c =
+    let a = c .before .before .before .before .before .before .before .before .before .before .before .before .before .before .before .before .before .args in
+    rw (fails-olen (a .observed) (signatureOf (a .raw .now)) (sym (c .before .olen-matches .ensures) ∙ not-true (c .before .olen-matches .result) (c .if4 .taken))) (sym (and-false (eqb (a .observed .count) (entryCount (a .raw .now)))))
+
+shared-slice-read-payload-gate : tie.Need-shared-slice-read-payload-gate
+shared-slice-read-payload-gate c = search needs
+
+payload-gate-requires : tie.Need-payload-gate-requires
+payload-gate-requires c κs = search needs
+
 returns-5 : tie.Need-returns-5
 unfolding signatureOf be16
-returns-5 c = rw (fails-mss (c .before .before .before .before .before .before .before .before .before .before .before .before .before .before .before .before .before .before .before .args .observed) (signatureOf (c .before .before .before .before .before .before .before .before .before .before .before .before .before .before .before .before .before .before .before .args .raw .now)) (sym (c .before .mss-gate .ensures) ∙ not-true (c .before .mss-gate .result) (c .if5 .taken))) (sym (and-false (eqb (c .before .before .before .before .before .before .before .before .before .before .before .before .before .before .before .before .before .before .before .args .observed .count) (entryCount (c .before .before .before .before .before .before .before .before .before .before .before .before .before .before .before .before .before .before .before .args .raw .now)))))
+returns-5 c =
+    let a = c .before .before .before .before .before .before .before .before .before .before .before .before .before .before .before .before .before .before .before .before .args in
+    rw (fails-payload (a .observed) (signatureOf (a .raw .now)) (sym (c .before .payload-gate .ensures) ∙ not-true (c .before .payload-gate .result) (c .if5 .taken))) (sym (and-false (eqb (a .observed .count) (entryCount (a .raw .now)))))
 
-shared-slice-read-scale-gate : tie.Need-shared-slice-read-scale-gate
-shared-slice-read-scale-gate c = search needs
+shared-slice-read-version-gate : tie.Need-shared-slice-read-version-gate
+shared-slice-read-version-gate c = search needs
 
-shared-slice-read-scale-gate-2 : tie.Need-shared-slice-read-scale-gate-2
-shared-slice-read-scale-gate-2 c = search needs
-
-scale-gate-requires : tie.Need-scale-gate-requires
-scale-gate-requires c κs = search needs
+version-gate-requires : tie.Need-version-gate-requires
+version-gate-requires c κs = search needs
 
 returns-6 : tie.Need-returns-6
 unfolding signatureOf be16
-returns-6 c = rw (fails-scale (c .before .before .before .before .before .before .before .before .before .before .before .before .before .before .before .before .before .before .before .before .before .before .before .args .observed) (signatureOf (c .before .before .before .before .before .before .before .before .before .before .before .before .before .before .before .before .before .before .before .before .before .before .before .args .raw .now)) (sym (c .before .scale-gate .ensures) ∙ not-true (c .before .scale-gate .result) (c .if6 .taken))) (sym (and-false (eqb (c .before .before .before .before .before .before .before .before .before .before .before .before .before .before .before .before .before .before .before .before .before .before .before .args .observed .count) (entryCount (c .before .before .before .before .before .before .before .before .before .before .before .before .before .before .before .before .before .before .before .before .before .before .before .args .raw .now)))))
+returns-6 c =
+    let a = c .before .before .before .before .before .before .before .before .before .before .before .before .before .before .before .before .before .before .before .before .before .before .before .args in
+    rw (fails-version (a .observed) (signatureOf (a .raw .now)) (sym (c .before .version-gate .ensures) ∙ not-true (c .before .version-gate .result) (c .if6 .taken))) (sym (and-false (eqb (a .observed .count) (entryCount (a .raw .now)))))
 
 shared-slice-read-window-gate : tie.Need-shared-slice-read-window-gate
 shared-slice-read-window-gate c = search needs
@@ -95,9 +105,15 @@ window-gate-requires c κs = search needs
 returns-7 : tie.Need-returns-7
 unfolding signatureOf be16
 returns-7 c =
+    let a = c .before .before .before .before .before .before .before .before .before .before .before .before .before .before .before .before .before .before .before .before .before .before .before .before .before .before .before .args in
     rw (
-      window-decides (c .before .before .before .before .before .before .before .before .before .before .before .before .before .before .before .before .before .before .before .before .before .before .before .before .before .before .before .args .observed) (signatureOf (c .before .before .before .before .before .before .before .before .before .before .before .before .before .before .before .before .before .before .before .before .before .before .before .before .before .before .before .args .raw .now)) (sym (c .before .before .before .before .before .before .before .before .before .before .before .before .before .before .version-gate .ensures) ∙ not-false (c .before .before .before .before .before .before .before .before .before .before .before .before .before .before .version-gate .result) (c .before .before .before .before .before .before .before .before .before .before .before .before .before .if4 .left)) (sym (c .before .before .before .before .before .before .before .before .before .before .before .before .before .before .before .before .before .before .before .before .olen-matches .ensures) ∙ not-false (c .before .before .before .before .before .before .before .before .before .before .before .before .before .before .before .before .before .before .before .before .olen-matches .result) (c .before .before .before .before .before .before .before .before .before .before .before .before .before .before .before .before .before .before .before .if2 .left)) (sym (c .before .before .before .before .before .before .before .before .before .mss-gate .ensures) ∙ not-false (c .before .before .before .before .before .before .before .before .before .mss-gate .result) (c .before .before .before .before .before .before .before .before .if5 .left)) (sym (c .before .before .before .before .before .scale-gate .ensures) ∙ not-false (c .before .before .before .before .before .scale-gate .result) (c .before .before .before .before .if6 .left)) (sym (c .before .before .before .before .before .before .before .before .before .before .before .before .before .before .before .before .before .payload-gate .ensures) ∙ not-false (c .before .before .before .before .before .before .before .before .before .before .before .before .before .before .before .before .before .payload-gate .result) (c .before .before .before .before .before .before .before .before .before .before .before .before .before .before .before .before .if3 .left)),
-      eq-eqb (c .before .before .before .before .before .before .before .before .before .before .before .before .before .before .before .before .before .before .before .before .before .before .before .before .before .before .before .args .observed .count) (entryCount (c .before .before .before .before .before .before .before .before .before .before .before .before .before .before .before .before .before .before .before .before .before .before .before .before .before .before .before .args .raw .now)) (c .before .before .before .before .before .before .before .before .before .before .before .before .before .before .before .before .before .before .before .before .before .before .if1 .left ∙ c .before .before .before .before .before .before .before .before .before .before .before .before .before .before .before .before .before .before .before .before .before .before .before .before .wide .ensures),
+      window-decides (a .observed) (signatureOf (a .raw .now))
+          (sym (c .before .before .before .before .before .version-gate .ensures) ∙ not-false (c .before .before .before .before .before .version-gate .result) (c .before .before .before .before .if6 .left))
+          (sym (c .before .before .before .before .before .before .before .before .before .before .before .olen-matches .ensures) ∙ not-false (c .before .before .before .before .before .before .before .before .before .before .before .olen-matches .result) (c .before .before .before .before .before .before .before .before .before .before .if4 .left))
+          (sym (c .before .before .before .before .before .before .before .before .before .before .before .before .before .before .mss-gate .ensures) ∙ not-false (c .before .before .before .before .before .before .before .before .before .before .before .before .before .before .mss-gate .result) (c .before .before .before .before .before .before .before .before .before .before .before .before .before .if3 .left))
+          (sym (c .before .before .before .before .before .before .before .before .before .before .before .before .before .before .before .before .before .before .before .scale-gate .ensures) ∙ not-false (c .before .before .before .before .before .before .before .before .before .before .before .before .before .before .before .before .before .before .before .scale-gate .result) (c .before .before .before .before .before .before .before .before .before .before .before .before .before .before .before .before .before .before .if2 .left))
+          (sym (c .before .before .before .before .before .before .before .before .payload-gate .ensures) ∙ not-false (c .before .before .before .before .before .before .before .before .payload-gate .result) (c .before .before .before .before .before .before .before .if5 .left)),
+      eq-eqb (a .observed .count) (entryCount (a .raw .now)) (c .before .before .before .before .before .before .before .before .before .before .before .before .before .before .before .before .before .before .before .before .before .before .if1 .left ∙ c .before .before .before .before .before .before .before .before .before .before .before .before .before .before .before .before .before .before .before .before .before .before .before .before .wide .ensures),
       c .window-gate .ensures,
     )
 
@@ -109,23 +125,23 @@ gates-at-spec =
     wide-requires
     cast-if1
     returns
-    shared-slice-read-olen-matches
-    olen-matches-requires
+    shared-slice-read-scale-gate
+    shared-slice-read-scale-gate-2
+    scale-gate-requires
     returns-2
-    shared-slice-read-payload-gate
-    payload-gate-requires
-    returns-3
-    shared-slice-read-version-gate
-    version-gate-requires
-    returns-4
     shared-slice-read-mss-gate
     shared-slice-read-mss-gate-2
     shared-slice-read-mss-gate-3
     mss-gate-requires
+    returns-3
+    shared-slice-read-olen-matches
+    olen-matches-requires
+    returns-4
+    shared-slice-read-payload-gate
+    payload-gate-requires
     returns-5
-    shared-slice-read-scale-gate
-    shared-slice-read-scale-gate-2
-    scale-gate-requires
+    shared-slice-read-version-gate
+    version-gate-requires
     returns-6
     shared-slice-read-window-gate
     shared-slice-read-window-gate-2

@@ -22,17 +22,37 @@ abbrev μ-loop : tie.MeasureT-loop
 loop-holds : tie.Need-loop-holds Inv-loop μ-loop
 loop-holds c = (search needs, refl, c .before .pre, rw sub-zero)
 
+next-candidate-requires : tie.Need-next-candidate-requires Inv-loop μ-loop
+next-candidate-requires c κs = search needs
+
+returns : tie.Need-returns Inv-loop μ-loop
+returns c =
+    let a = c .before .before .before .before .before .args in
+    let l = c .before .before .before .loop in
+    let next = c .before .next-candidate in
+    sym
+    (sym (next .ensures .2 (l .held) (a .kinds .now) (a .bytes .now) ∙ l .inv .3)
+    ∙ no-record (a .observed) (a .kinds .now) (a .bytes .now) (a .list .now) (l .held) (next .result) (a .areas .records) (c .if1 .taken))
+
 search-step-requires : tie.Need-search-step-requires Inv-loop μ-loop
 search-step-requires c κs = search needs
 
 is-exact-requires : tie.Need-is-exact-requires Inv-loop μ-loop
 is-exact-requires c κs = search needs
 
-returns : tie.Need-returns Inv-loop μ-loop
-returns c =
-    sym (sym (ap (λ (h : Found). searchFrom h (c .before .before .before .before .before .before .before .before .args .observed) (c .before .before .before .before .before .before .before .before .args .kinds .now) (c .before .before .before .before .before .before .before .before .args .bytes .now) (c .before .before .before .before .before .before .before .before .args .list .now) (numbersFrom (c .before .before .before .before .before .before .loop .i + 1) (c .before .before .before .before .before .before .before .before .args .areas .records - (c .before .before .before .before .before .before .loop .i + 1)))) (c .before .before .search-step .ensures)
-    ∙ one-record (c .before .before .before .before .before .before .before .before .args .observed) (c .before .before .before .before .before .before .before .before .args .kinds .now) (c .before .before .before .before .before .before .before .before .args .bytes .now) (c .before .before .before .before .before .before .before .before .args .list .now) (c .before .before .before .before .before .before .loop .held) (c .before .before .before .before .before .before .loop .i) (c .before .before .before .before .before .before .before .before .args .areas .records) (c .before .before .before .before .before .loop-test .taken)
-    ∙ c .before .before .before .before .before .before .loop .inv .3) ∙ exact-ends (c .before .before .before .before .before .before .before .before .args .observed) (c .before .before .before .before .before .before .before .before .args .kinds .now) (c .before .before .before .before .before .before .before .before .args .bytes .now) (c .before .before .before .before .before .before .before .before .args .list .now) (c .before .before .search-step .result) (numbersFrom (c .before .before .before .before .before .before .loop .i + 1) (c .before .before .before .before .before .before .before .before .args .areas .records - (c .before .before .before .before .before .before .loop .i + 1))) (sym (c .before .is-exact .ensures) ∙ c .if1 .taken))
+returns-2 : tie.Need-returns-2 Inv-loop μ-loop
+returns-2 c =
+    let a = c .before .before .before .before .before .before .before .before .before .before .args in
+    let l = c .before .before .before .before .before .before .before .before .loop in
+    let next = c .before .before .before .before .before .before .next-candidate in
+    let step = c .before .before .search-step in
+    sym
+    (sym
+    (ap (λ (h : Found). searchFrom h (a .observed) (a .kinds .now) (a .bytes .now) (a .list .now) (numbersFrom (next .result + 1) (a .areas .records - (next .result + 1)))) (step .ensures)
+    ∙ one-record (a .observed) (a .kinds .now) (a .bytes .now) (a .list .now) (l .held) (next .result) (a .areas .records) ((c .before .before .before .before .before .if1 .left))
+    ∙ next .ensures .2 (l .held) (a .kinds .now) (a .bytes .now)
+    ∙ l .inv .3)
+    ∙ exact-ends (a .observed) (a .kinds .now) (a .bytes .now) (a .list .now) (step .result) (numbersFrom (next .result + 1) (a .areas .records - (next .result + 1))) (sym (c .before .is-exact .ensures) ∙ c .if2 .taken))
 
 add-i : tie.Need-add-i Inv-loop μ-loop
 add-i c = search needs
@@ -41,17 +61,25 @@ loop-less : tie.Need-loop-less Inv-loop μ-loop
 loop-less c = search needs
 
 loop-again : tie.Need-loop-again Inv-loop μ-loop
-loop-again c = (
-  search needs,
-  c .before .before .before .before .before .before .loop .inv .1,
-  c .before .before .before .before .before .before .loop .inv .2,
-  (ap (λ (h : Found). searchFrom h (c .before .before .before .before .before .before .before .before .args .observed) (c .before .before .before .before .before .before .before .before .args .kinds .now) (c .before .before .before .before .before .before .before .before .args .bytes .now) (c .before .before .before .before .before .before .before .before .args .list .now) (numbersFrom (c .before .before .before .before .before .before .loop .i + 1) (c .before .before .before .before .before .before .before .before .args .areas .records - (c .before .before .before .before .before .before .loop .i + 1)))) (c .before .before .search-step .ensures)
-      ∙ one-record (c .before .before .before .before .before .before .before .before .args .observed) (c .before .before .before .before .before .before .before .before .args .kinds .now) (c .before .before .before .before .before .before .before .before .args .bytes .now) (c .before .before .before .before .before .before .before .before .args .list .now) (c .before .before .before .before .before .before .loop .held) (c .before .before .before .before .before .before .loop .i) (c .before .before .before .before .before .before .before .before .args .areas .records) (c .before .before .before .before .before .loop-test .taken)
-      ∙ c .before .before .before .before .before .before .loop .inv .3),
-)
+loop-again c =
+    let a = c .before .before .before .before .before .before .before .before .before .before .args in
+    let l = c .before .before .before .before .before .before .before .before .loop in
+    let next = c .before .before .before .before .before .before .next-candidate in
+    let step = c .before .before .search-step in (
+      search needs,
+      l .inv .1,
+      l .inv .2,
+      ap (λ (h : Found). searchFrom h (a .observed) (a .kinds .now) (a .bytes .now) (a .list .now) (numbersFrom (next .result + 1) (a .areas .records - (next .result + 1)))) (step .ensures)
+          ∙ one-record (a .observed) (a .kinds .now) (a .bytes .now) (a .list .now) (l .held) (next .result) (a .areas .records) ((c .before .before .before .before .before .if1 .left))
+          ∙ next .ensures .2 (l .held) (a .kinds .now) (a .bytes .now)
+          ∙ l .inv .3,
+    )
 
-returns-2 : tie.Need-returns-2 Inv-loop μ-loop
-returns-2 c = sym (sym (c .before .loop .inv .3) ∙ no-record (c .before .before .before .args .observed) (c .before .before .before .args .kinds .now) (c .before .before .before .args .bytes .now) (c .before .before .before .args .list .now) (c .before .loop .held) (c .before .loop .i) (c .before .before .before .args .areas .records) (c .loop-test .left))
+returns-3 : tie.Need-returns-3 Inv-loop μ-loop
+returns-3 c =
+    let a = c .before .before .before .args in
+    let l = c .before .loop in
+    sym (sym (l .inv .3) ∙ no-record (a .observed) (a .kinds .now) (a .bytes .now) (a .list .now) (l .held) (l .i) (a .areas .records) (c .loop-test .left))
 
 pub search-records-spec : {M : Type 1} → statement M
 search-records-spec =
@@ -60,10 +88,12 @@ search-records-spec =
     Inv-loop
     μ-loop
     loop-holds
+    next-candidate-requires
+    returns
     search-step-requires
     is-exact-requires
-    returns
+    returns-2
     add-i
     loop-less
     loop-again
-    returns-2)
+    returns-3)
