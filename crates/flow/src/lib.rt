@@ -401,9 +401,12 @@ fn opening_answer(syn: bool) -> Answer
 
 // Only a SYN+ACK's observation takes the peer's MSS.
 fn peer_taken(syn: bool, peer_mss: Mss) -> Mss
-    ensures { λ r. ⌜ r ≡ cond syn Mss.Absent «peer_mss» ⌝ }
+    ensures { λ r. ⌜ r ≡ cond syn Mss.Absent (knownPeer «peer_mss») ⌝ }
 {
-    if syn { Mss::Absent } else { peer_mss }
+    if syn {
+        return Mss::Absent;
+    }
+    known_peer(peer_mss)
 }
 
 fn visit_tcp(facts: IpFacts, tcp: &[u8], peer_mss: Mss) -> Reading
@@ -427,7 +430,7 @@ fn visit_tcp(facts: IpFacts, tcp: &[u8], peer_mss: Mss) -> Reading
     let syn = masked == SYN;
     Reading {
         answer: opening_answer(syn),
-        observation: observe(facts, tcp, syn, peer_taken(syn, known_peer(peer_mss))),
+        observation: observe(facts, tcp, syn, peer_taken(syn, peer_mss)),
     }
 }
 

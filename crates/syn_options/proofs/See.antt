@@ -8,12 +8,14 @@ use native.Mathlib.Numerals.{add-one}
 use lib.Dec.{eqb, leb, ltb}
 use lib.ListN.{length, getD, drop, length-drop, drop-of-length-le}
 use lib.Seq.{getD-drop, drop-cons}
-use borrow.Author.Tests.{le-leb, lt-leb, ne-eqb}
+use borrow.Author.Tests.{le-leb, lt-leb, eq-eqb, ne-eqb}
 use Rattle.basis.specs.Bytes.{byteAt, be16, be32, anyNonzero}
 use Rattle.quirks.specs.declared.Quirk.the-variants as quirk
 use Rattle.quirks.specs.declared.QuirkSet.{QuirkSet}
 use Rattle.quirks.specs.Quirks.{addIf}
+use Rattle.tcp.specs.declared.Mss.{Mss}
 use Rattle.tcp.specs.declared.Mss.the-variants as mss
+use Rattle.tcp.specs.declared.Wscale.{Wscale}
 use Rattle.tcp.specs.declared.Wscale.the-variants as wscale
 use Rattle.syn_options.specs.declared.Seen.{Seen}
 use Rattle.syn_options.specs.Options.{Opt}
@@ -101,3 +103,44 @@ module _ (syn : Bool) (s : Seen) (own : List ℕ) where
       }
   unfolding seeOption laterMss laterScale trailingNonzero excessiveScaling ownTimestampZero peerTimestampNonzero shownQuirks addIf be32 be16
   stamps-both h = simp (data-enough own 4 (omega arith), data-enough own 8 h, getD-drop)
+
+-- ---- field by field
+
+-- A quirk set among what has been seen, for the laws above.
+abbrev pub just : QuirkSet → Seen
+just q = record { mss = mss.Absent; wscale = wscale.Absent; quirks = q }
+
+module _ (syn : Bool) (q : QuirkSet) (own : List ℕ) where
+  pub other-quirks : (kind : ℕ) → (kind ≡ 0 → ⊥) → (kind ≡ 3 → ⊥) → (kind ≡ 8 → ⊥) → shownQuirks syn q (opt kind own) ≡ q
+  unfolding trailingNonzero excessiveScaling ownTimestampZero peerTimestampNonzero shownQuirks addIf
+  other-quirks kind n0 n3 n8 = simp (ne-eqb kind 0 n0, ne-eqb kind 3 n3, ne-eqb kind 8 n8)
+
+  pub quirks-of : (o : Opt) {t : Seen} → seeOption syn (just q) o ≡ t → shownQuirks syn q o ≡ t .quirks
+  unfolding seeOption
+  quirks-of o e = ap (λ (x : Seen). x .quirks) e
+
+module _ (m : Mss) (kind : ℕ) (own : List ℕ) where
+  pub no-mss : (kind ≡ 2 → ⊥) → laterMss m (opt kind own) ≡ m
+  unfolding laterMss
+  no-mss n = rw (ne-eqb kind 2 n)
+
+  pub short-mss : kind ≡ 2 → length own ≤ 2 → laterMss m (opt kind own) ≡ m
+  unfolding laterMss
+  short-mss e h = rw (eq-eqb kind 2 e, data-short own 1 h)
+
+  pub enough-mss : kind ≡ 2 → 2 < length own → laterMss m (opt kind own) ≡ mss.Present (byteAt own 1 * 256 + byteAt own 2)
+  unfolding laterMss be16
+  enough-mss e h = simp (eq-eqb kind 2 e, data-enough own 2 h, getD-drop)
+
+module _ (w : Wscale) (kind : ℕ) (own : List ℕ) where
+  pub no-scale : (kind ≡ 3 → ⊥) → laterScale w (opt kind own) ≡ w
+  unfolding laterScale
+  no-scale n = rw (ne-eqb kind 3 n)
+
+  pub short-scale : kind ≡ 3 → length own ≤ 1 → laterScale w (opt kind own) ≡ w
+  unfolding laterScale
+  short-scale e h = rw (eq-eqb kind 3 e, data-short own 0 h)
+
+  pub enough-scale : kind ≡ 3 → 1 < length own → laterScale w (opt kind own) ≡ wscale.Present (byteAt own 1)
+  unfolding laterScale
+  enough-scale e h = simp (eq-eqb kind 3 e, data-enough own 1 h, getD-drop)

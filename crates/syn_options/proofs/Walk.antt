@@ -8,7 +8,7 @@ use native.Mathlib.Numerals.{add-one}
 use native.Mathlib.Decide.{decLe, ℕ-discrete}
 use lib.Dec.{eqb, ltb}
 use lib.ListN.{length, getD, take, drop, set, length-take, length-drop, drop-of-length-le}
-use lib.Seq.{drop-cons, drop-drop, take-all, getD-take}
+use lib.Seq.{drop-cons, drop-drop, take-all, getD-take, getD-drop}
 use borrow.Author.Tests.{lt-ltb, le-ltb, eq-eqb, ne-eqb}
 use Rattle.basis.specs.Bytes.{byteAt}
 use Rattle.tcp.specs.declared.Layout.{Layout}
@@ -175,3 +175,31 @@ pub forty : (s : List ℕ) (end : ℕ) → end ≡ min (length s) 40 → take (e
 forty s end e =
     let cut : end - 0 ≡ min 40 (length s) = omega arith in
     rw cut (sym (clipped-take 40 s))
+
+-- ---- where an option ends, in the terms of the code
+
+module _ (kind : ℕ) (s : List ℕ) (at : ℕ) (inside : at < length s) where
+  abbrev End : ℕ
+  End = at + 1 + min (asked kind (drop (at + 1) s)) (length s - (at + 1))
+
+  next-byte : byteAt (drop (at + 1) s) 0 ≡ byteAt s (at + 1)
+  next-byte = let same : at + 1 + 0 ≡ at + 1 = omega arith in getD-drop (at + 1) s 0 0 ∙ ap (λ (k : ℕ). byteAt s k) same
+
+  pub last-end : kind ≡ 0 → length s ≡ End
+  unfolding asked
+  last-end e = rw (eq-eqb kind 0 e, length-drop (at + 1) s) (omega arith)
+
+  pub nop-end : kind ≡ 1 → at + 1 ≡ End
+  unfolding asked
+  nop-end e = rw (ne-eqb kind 0 (λ z. omega arith), eq-eqb kind 1 e) (omega arith)
+
+  pub none-left : length s ≤ at + 1 → at + 1 ≡ End
+  none-left h = omega arith
+
+  pub short-end : (kind ≡ 0 → ⊥) → (kind ≡ 1 → ⊥) → at + 1 < length s → byteAt s (at + 1) < 2 → at + 1 + 1 ≡ End
+  unfolding asked
+  short-end n0 n1 h short = rw (ne-eqb kind 0 n0, ne-eqb kind 1 n1, next-byte) (omega arith)
+
+  pub sized-end : (kind ≡ 0 → ⊥) → (kind ≡ 1 → ⊥) → at + 1 < length s → 2 ≤ byteAt s (at + 1) → min (at + byteAt s (at + 1)) (length s) ≡ End
+  unfolding asked
+  sized-end n0 n1 h sized = rw (ne-eqb kind 0 n0, ne-eqb kind 1 n1, next-byte) (omega arith)

@@ -2,13 +2,13 @@
 // after clipping it.
 ghost use mathlib.Core.Path.{_≡_};
 ghost use mathlib.Core.Bool.{_&&_};
-ghost use Prim.Native.Nat.{_≤_};
+ghost use Prim.Native.Nat.{_+_, _-_, _<_, _≤_, min};
 ghost use lib.Dec.{ltb};
-ghost use lib.ListN.{length};
+ghost use lib.ListN.{length, drop};
 ghost use Rattle.basis.specs.Bytes.{anyNonzero};
 ghost use Rattle.syn_options.specs.Options.{asked, optionsOf};
 ghost use Rattle.quirks.specs.Named.{empty};
-ghost use Rattle.syn_options.specs.Walk.{entryByte, seeOption, startWalk, walkFrom, walkOf, parsedOf, parseOptionsRaw};
+ghost use Rattle.syn_options.specs.Walk.{entryByte, laterMss, laterScale, shownQuirks, startWalk, walkFrom, walkOf, parsedOf, parseOptionsRaw};
 use numbers::be16;
 use numbers::be32;
 use numbers::least;
@@ -109,95 +109,75 @@ fn any_nonzero(s: &[u8]) -> bool
     false
 }
 
-fn see_end(own: &[u8], syn: bool, seen: Seen) -> Seen
-    ensures { λ r. ⌜ r ≡ seeOption syn seen (record { kind = 0; own = now (own .entry) }) ⌝ }
+// The MSS after one option more: a later one replaces an earlier one only if its data suffices.
+fn later_mss(kind: u8, own: &[u8], mss: Mss) -> Mss
+    ensures { λ r. ⌜ r ≡ laterMss mss (record { kind = kind; own = now (own .entry) }) ⌝ }
 {
-    let mss = seen.mss;
-    let wscale = seen.wscale;
-    let quirks = seen.quirks;
-    Seen {
-        mss,
-        wscale,
-        quirks: quirks.add_if(any_nonzero(own), Quirk::TrailinigNonZero),
+    if kind != MSS {
+        return mss;
     }
-}
-
-fn see_mss(own: &[u8], syn: bool, seen: Seen) -> Seen
-    ensures { λ r. ⌜ r ≡ seeOption syn seen (record { kind = 2; own = now (own .entry) }) ⌝ }
-{
     if own.len() < 3 {
-        return seen;
+        return mss;
     }
-    let wscale = seen.wscale;
-    let quirks = seen.quirks;
-    Seen {
-        mss: Mss::Present(be16(own[1], own[2])),
-        wscale,
-        quirks,
-    }
+    Mss::Present(be16(own[1], own[2]))
 }
 
-fn see_scale(own: &[u8], syn: bool, seen: Seen) -> Seen
-    ensures { λ r. ⌜ r ≡ seeOption syn seen (record { kind = 3; own = now (own .entry) }) ⌝ }
+fn later_scale(kind: u8, own: &[u8], wscale: Wscale) -> Wscale
+    ensures { λ r. ⌜ r ≡ laterScale wscale (record { kind = kind; own = now (own .entry) }) ⌝ }
+{
+    if kind != WSCALE {
+        return wscale;
+    }
+    if own.len() < 2 {
+        return wscale;
+    }
+    Wscale::Present(own[1])
+}
+
+fn end_quirks(own: &[u8], syn: bool, quirks: QuirkSet) -> QuirkSet
+    ensures { λ r. ⌜ r ≡ shownQuirks syn quirks (record { kind = 0; own = now (own .entry) }) ⌝ }
+{
+    quirks.add_if(any_nonzero(own), Quirk::TrailinigNonZero)
+}
+
+fn scale_quirks(own: &[u8], syn: bool, quirks: QuirkSet) -> QuirkSet
+    ensures { λ r. ⌜ r ≡ shownQuirks syn quirks (record { kind = 3; own = now (own .entry) }) ⌝ }
 {
     if own.len() < 2 {
-        return seen;
+        return quirks;
     }
-    let mss = seen.mss;
-    let quirks = seen.quirks;
     let scale = own[1];
-    Seen {
-        mss,
-        wscale: Wscale::Present(scale),
-        quirks: quirks.add_if(14 < scale, Quirk::ExcessiveWindowScaling),
-    }
+    quirks.add_if(14 < scale, Quirk::ExcessiveWindowScaling)
 }
 
-fn see_timestamps(own: &[u8], syn: bool, seen: Seen) -> Seen
-    ensures { λ r. ⌜ r ≡ seeOption syn seen (record { kind = 8; own = now (own .entry) }) ⌝ }
+fn stamp_quirks(own: &[u8], syn: bool, before: QuirkSet) -> QuirkSet
+    ensures { λ r. ⌜ r ≡ shownQuirks syn before (record { kind = 8; own = now (own .entry) }) ⌝ }
 {
     if own.len() < 5 {
-        return seen;
+        return before;
     }
-    let mss = seen.mss;
-    let wscale = seen.wscale;
-    let before = seen.quirks;
     let own_stamp = be32(be16(own[1], own[2]), be16(own[3], own[4]));
     let quirks = before.add_if(own_stamp == 0, Quirk::OwnTimestampZero);
     if own.len() < 9 {
-        return Seen {
-            mss,
-            wscale,
-            quirks,
-        };
+        return quirks;
     }
     let peer_stamp = be32(be16(own[5], own[6]), be16(own[7], own[8]));
-    Seen {
-        mss,
-        wscale,
-        quirks: quirks.add_if(syn & (peer_stamp != 0), Quirk::PeerTimestampNonZero),
-    }
+    quirks.add_if(syn & (peer_stamp != 0), Quirk::PeerTimestampNonZero)
 }
 
-fn see_option(kind: u8, own: &[u8], syn: bool, seen: Seen) -> Seen
-    ensures { λ r. ⌜ r ≡ seeOption syn seen (record { kind = kind; own = now (own .entry) }) ⌝ }
+fn later_quirks(kind: u8, own: &[u8], syn: bool, quirks: QuirkSet) -> QuirkSet
+    ensures { λ r. ⌜ r ≡ shownQuirks syn quirks (record { kind = kind; own = now (own .entry) }) ⌝ }
 {
-    if kind == NOP {
-        return seen;
-    }
-    if kind == MSS {
-        return see_mss(own, syn, seen);
+    if kind == TIMESTAMPS {
+        return stamp_quirks(own, syn, quirks);
     }
     if kind == WSCALE {
-        return see_scale(own, syn, seen);
-    }
-    if kind == TIMESTAMPS {
-        return see_timestamps(own, syn, seen);
+        return scale_quirks(own, syn, quirks);
     }
     if kind == EOL {
-        return see_end(own, syn, seen);
+        return end_quirks(own, syn, quirks);
     }
-    seen
+    quirks
 }
 
 // ---- the walk
@@ -209,19 +189,42 @@ fn stops(stop: bool, asked: usize, left: usize) -> bool
     if stop { left < asked } else { false }
 }
 
+// Where an option ends, clipped to what is left: all kept in places of the whole, so that a turn of the walk adds once.
+fn option_end(kind: u8, options: &[u8], at: usize) -> usize
+    requires { ⌜ at < length (now options) ⌝ }
+    ensures { λ r. ⌜ r ≡ at + 1 + min (asked kind (drop (at + 1) (now (options .entry)))) (length (now (options .entry)) - (at + 1)) ⌝ }
+{
+    let start = at + 1;
+    if kind == EOL {
+        return options.len();
+    }
+    if kind == NOP {
+        return start;
+    }
+    if options.len() <= start {
+        return start;
+    }
+    let length = options[start] as usize;
+    if length < 2 {
+        return start + 1;
+    }
+    least(at + length, options.len())
+}
+
 // The walk of at most forty bytes. Each option fills one entry of the layout, so that the entries never outnumber the bytes.
 fn walk_part(options: &[u8], stop: bool, syn: bool, quirks: QuirkSet) -> Walked
     requires { ⌜ length (now options) ≤ 40 ⌝ }
     ensures { λ r. ⌜ r ≡ walkFrom stop syn (startWalk quirks) (optionsOf (now (options .entry))) ⌝ }
 {
-    let mut kinds = [0u8; 40];
-    let mut bytes = [0u8; 40];
-    let mut count = 0;
-    let mut seen = Seen {
-        mss: Mss::Absent,
-        wscale: Wscale::Absent,
-        quirks,
+    let mut olayout = Layout {
+        kinds: [0u8; 40],
+        bytes: [0u8; 40],
+        count: 0,
     };
+    let mut count = 0;
+    let mut mss = Mss::Absent;
+    let mut wscale = Wscale::Absent;
+    let mut shown = quirks;
     let mut malformed = false;
     let mut at = 0;
     while at < options.len() {
@@ -233,20 +236,23 @@ fn walk_part(options: &[u8], stop: bool, syn: bool, quirks: QuirkSet) -> Walked
             malformed = true;
             break;
         }
-        let next = start + least(asked, left);
-        kinds[count] = kind;
-        bytes[count] = entry_byte(kind, next - start);
+        let next = option_end(kind, options, at);
+        olayout.kinds[count] = kind;
+        olayout.bytes[count] = entry_byte(kind, next - start);
         count += 1;
-        seen = see_option(kind, &options[start..next], syn, seen);
+        mss = later_mss(kind, &options[start..next], mss);
+        wscale = later_scale(kind, &options[start..next], wscale);
+        shown = later_quirks(kind, &options[start..next], syn, shown);
         at = next;
     }
+    olayout.count = count;
     Walked {
-        olayout: Layout {
-            kinds,
-            bytes,
-            count,
+        olayout,
+        seen: Seen {
+            mss,
+            wscale,
+            quirks: shown,
         },
-        seen,
         malformed,
     }
 }

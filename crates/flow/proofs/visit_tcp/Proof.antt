@@ -54,9 +54,6 @@ returns-2 c =
 opening-answer-requires : tie.Need-opening-answer-requires
 opening-answer-requires c κs = search needs
 
-known-peer-requires : tie.Need-known-peer-requires
-known-peer-requires c κs = search needs
-
 peer-taken-requires : tie.Need-peer-taken-requires
 peer-taken-requires c κs = search needs
 
@@ -66,11 +63,11 @@ observe-requires c κs = search needs
 returns-3 : tie.Need-returns-3
 unfolding readTcp isSynType isSynAckType
 returns-3 c =
-    let a = c .before .before .before .before .before .before .before .before .before .before .before .args in
-    let flags = control (c .before .before .before .before .before .before .before .before .before .before .before .args .tcp .now) in
-    let sound : flagsInvalid flags ≡ false = not-true (flagsInvalid flags) (sym (c .before .before .before .before .before .before .before .before .is-valid .ensures) ∙ not-false (c .before .before .before .before .before .before .before .before .is-valid .result) (c .before .before .before .before .before .before .before .if1 .left)) in
-    let one : eqb (maskedType flags) 2 || eqb (maskedType flags) 18 ≡ true = rw (← c .before .before .before .before .before .before .tcp-type .ensures) (sym (c .before .before .before .before .before .is-opening .ensures) ∙ not-false (c .before .before .before .before .before .is-opening .result) (c .before .before .before .before .if2 .left)) in
-    simp (c .observe .ensures, c .before .before .before .opening-answer .ensures, c .before .peer-taken .ensures, c .before .before .known-peer .ensures, c .before .before .before .before .before .before .tcp-type .ensures, sound)
+    let a = c .before .before .before .before .before .before .before .before .before .before .args in
+    let flags = control (c .before .before .before .before .before .before .before .before .before .before .args .tcp .now) in
+    let sound : flagsInvalid flags ≡ false = not-true (flagsInvalid flags) (sym (c .before .before .before .before .before .before .before .is-valid .ensures) ∙ not-false (c .before .before .before .before .before .before .before .is-valid .result) (c .before .before .before .before .before .before .if1 .left)) in
+    let one : eqb (maskedType flags) 2 || eqb (maskedType flags) 18 ≡ true = rw (← c .before .before .before .before .before .tcp-type .ensures) (sym (c .before .before .before .before .is-opening .ensures) ∙ not-false (c .before .before .before .before .is-opening .result) (c .before .before .before .if2 .left)) in
+    simp (c .observe .ensures, c .before .before .opening-answer .ensures, c .before .peer-taken .ensures, c .before .before .before .before .before .tcp-type .ensures, sound)
     (opens (a .facts) (a .tcp .now) (knownPeer (a .peer-mss)) (record { answer = answer.Nothing; observation = emptyObservation }) (eqb (maskedType flags) 2) (eqb (maskedType flags) 18) one)
 
 pub visit-tcp-spec : {M : Type 1} → statement M
@@ -86,7 +83,6 @@ visit-tcp-spec =
     empty-requires-2
     returns-2
     opening-answer-requires
-    known-peer-requires
     peer-taken-requires
     observe-requires
     returns-3)

@@ -3,27 +3,29 @@ use Rattle.syn_options.specs.Options.{asked, optionsOf}
 use Rattle.basis.proofs.Bytes.{rest-of}
 use Rattle.basis.specs.Bytes.{byteAt}
 use lib.ListN.{length, drop, length-set}
-use Prim.Native.Nat.{_+_, _≤_, _-_}
+use Prim.Native.Nat.{ℕ, _+_, _≤_, _-_, min}
 use mathlib.Core.Path.{_≡_, sym, _∙_, ap}
 use mathlib.Core.Bool.{Bool, false}
-use Rattle.syn_options.specs.Walk.{walkFrom}
+use Rattle.syn_options.specs.declared.Seen.{Seen}
+use Rattle.syn_options.specs.Walk.{walkFrom, seeOption}
 use Rattle.syn_options.proofs.Walk.{soFar, turn-stops, turn-goes-on, walk-ends}
 use borrow.Author.Needs.{needs}
 use Rattle.syn_options.proofs.walk_part.Statement.{statement}
 use Rattle.syn_options.proofs.walk_part.Tie as tie
 
 abbrev Inv-loop : tie.InvT-loop
-Inv-loop options stop syn kinds₀ bytes₀ count₀ seen₀ malformed₀ at₀ kinds bytes count seen malformed at =
+Inv-loop options stop syn olayout₀ count₀ mss₀ wscale₀ shown₀ malformed₀ at₀ olayout count mss wscale shown malformed at =
     (at ≤ length options)
     × (count ≤ at)
-    × (length kinds ≡ 40)
-    × (length bytes ≡ 40)
+    × (length (olayout .kinds) ≡ 40)
+    × (length (olayout .bytes) ≡ 40)
     × (malformed ≡ false)
-    × (walkFrom stop syn (soFar kinds bytes count seen false) (optionsOf (drop at options))
-    ≡ walkFrom stop syn (soFar kinds₀ bytes₀ count₀ seen₀ false) (optionsOf options))
+    × (walkFrom stop syn (soFar (olayout .kinds) (olayout .bytes) count (record { mss = mss; wscale = wscale; quirks = shown }) false) (optionsOf (drop at options))
+    ≡ walkFrom stop syn (soFar (olayout₀ .kinds) (olayout₀ .bytes) count₀ (record { mss = mss₀; wscale = wscale₀; quirks = shown₀ }) false) (optionsOf options))
 
 abbrev μ-loop : tie.MeasureT-loop
-μ-loop options stop syn kinds₀ bytes₀ count₀ seen₀ malformed₀ at₀ kinds bytes count seen malformed at = length options - at
+μ-loop options stop syn olayout₀ count₀ mss₀ wscale₀ shown₀ malformed₀ at₀ olayout count mss wscale shown malformed at =
+    length options - at
 
 loop-holds : tie.Need-loop-holds Inv-loop μ-loop
 loop-holds c = search needs
@@ -52,14 +54,11 @@ asked-bytes-requires c κs = search needs
 stops-requires : tie.Need-stops-requires Inv-loop μ-loop
 stops-requires c κs = search needs
 
-least-requires : tie.Need-least-requires Inv-loop μ-loop
-least-requires c κs = search needs
+option-end-requires : tie.Need-option-end-requires Inv-loop μ-loop
+option-end-requires c κs = search needs
 
-add-next : tie.Need-add-next Inv-loop μ-loop
-add-next c = search needs
-
-array-write-kinds : tie.Need-array-write-kinds Inv-loop μ-loop
-array-write-kinds c = search needs
+element-write-olayout : tie.Need-element-write-olayout Inv-loop μ-loop
+element-write-olayout c = search needs
 
 sub-entry-byte : tie.Need-sub-entry-byte Inv-loop μ-loop
 sub-entry-byte c = search needs
@@ -67,51 +66,80 @@ sub-entry-byte c = search needs
 entry-byte-requires : tie.Need-entry-byte-requires Inv-loop μ-loop
 entry-byte-requires c κs = search needs
 
-array-write-bytes : tie.Need-array-write-bytes Inv-loop μ-loop
-array-write-bytes c = search needs
+element-write-olayout-2 : tie.Need-element-write-olayout-2 Inv-loop μ-loop
+element-write-olayout-2 c = search needs
 
 add-count : tie.Need-add-count Inv-loop μ-loop
 add-count c = search needs
 
-sub-see-option : tie.Need-sub-see-option Inv-loop μ-loop
-sub-see-option c = search needs
+sub-later-mss : tie.Need-sub-later-mss Inv-loop μ-loop
+sub-later-mss c = search needs
 
-part-see-option-start : tie.Need-part-see-option-start Inv-loop μ-loop
-part-see-option-start c = search needs
+part-later-mss-start : tie.Need-part-later-mss-start Inv-loop μ-loop
+part-later-mss-start c = search needs
 
-part-see-option-end : tie.Need-part-see-option-end Inv-loop μ-loop
-part-see-option-end c = search needs
+part-later-mss-end : tie.Need-part-later-mss-end Inv-loop μ-loop
+part-later-mss-end c = search needs
 
-see-option-requires : tie.Need-see-option-requires Inv-loop μ-loop
-see-option-requires c κs = search needs
+later-mss-requires : tie.Need-later-mss-requires Inv-loop μ-loop
+later-mss-requires c κs = search needs
+
+sub-later-scale : tie.Need-sub-later-scale Inv-loop μ-loop
+sub-later-scale c = search needs
+
+part-later-scale-start : tie.Need-part-later-scale-start Inv-loop μ-loop
+part-later-scale-start c = search needs
+
+part-later-scale-end : tie.Need-part-later-scale-end Inv-loop μ-loop
+part-later-scale-end c = search needs
+
+later-scale-requires : tie.Need-later-scale-requires Inv-loop μ-loop
+later-scale-requires c κs = search needs
+
+sub-later-quirks : tie.Need-sub-later-quirks Inv-loop μ-loop
+sub-later-quirks c = search needs
+
+part-later-quirks-start : tie.Need-part-later-quirks-start Inv-loop μ-loop
+part-later-quirks-start c = search needs
+
+part-later-quirks-end : tie.Need-part-later-quirks-end Inv-loop μ-loop
+part-later-quirks-end c = search needs
+
+later-quirks-requires : tie.Need-later-quirks-requires Inv-loop μ-loop
+later-quirks-requires c κs = search needs
 
 loop-less : tie.Need-loop-less Inv-loop μ-loop
 loop-less c = search needs
 
 loop-again : tie.Need-loop-again Inv-loop μ-loop
+unfolding seeOption
 loop-again c =
-    let l = c .before .before .before .before .before .before .before .before .before .before .loop in
-    let a = c .before .before .before .before .before .before .before .before .before .before .before .before .args in
+    let l = c .before .before .before .before .before .before .before .before .before .before .before .before .before .before .loop in
+    let a = c .before .before .before .before .before .before .before .before .before .before .before .before .before .before .before .before .args in
     let s = a .options .now in
-    let n = c .before .before .before .before .before .before .asked-bytes .result in
-    let asks = c .before .before .before .before .before .before .asked-bytes .ensures ∙ ap (asked (byteAt s (l .at))) (rest-of s (l .at + 1)) in
+    let seen : Seen = record { mss = l .mss; wscale = l .wscale; quirks = l .shown } in
+    let n = c .before .before .before .before .before .before .before .before .before .before .asked-bytes .result in
+    let asks = c .before .before .before .before .before .before .before .before .before .before .asked-bytes .ensures ∙ ap (asked (byteAt s (l .at))) (rest-of s (l .at + 1)) in
+    let ends : c .before .before .before .before .before .before .before .option-end .result ≡ l .at + 1 + min n (length s - (l .at + 1)) =
+    c .before .before .before .before .before .before .before .option-end .ensures ∙ ap (λ (k : ℕ). l .at + 1 + min k (length s - (l .at + 1))) (sym asks) in
     let goes-on =
-    turn-goes-on (a .stop) (a .syn) (l .kinds) (l .bytes) (l .count) (l .seen) s (l .at) n (c .before .before .before .before .before .before .before .before .before .loop-test .taken) asks
-    (sym (c .before .before .before .before .before .stops .ensures) ∙ c .before .before .before .before .if1 .left) in (
+    turn-goes-on (a .stop) (a .syn) (l .olayout .kinds) (l .olayout .bytes) (l .count) seen s (l .at) n (c .before .before .before .before .before .before .before .before .before .before .before .before .before .loop-test .taken) asks
+    (sym (c .before .before .before .before .before .before .before .before .before .stops .ensures) ∙ c .before .before .before .before .before .before .before .before .if1 .left) in (
       search needs,
       search needs,
       simp length-set (l .inv .2),
       simp length-set (l .inv .3),
       l .inv .4,
-      simp (c .see-option .ensures, c .before .before .entry-byte .ensures, c .before .before .before .least .ensures) (goes-on ∙ l .inv .5),
+      simp (c .later-quirks .ensures, c .before .before .later-scale .ensures, c .before .before .before .before .later-mss .ensures, c .before .before .before .before .before .before .entry-byte .ensures, ends) (goes-on ∙ l .inv .5),
     )
 
 returns : tie.Need-returns Inv-loop μ-loop
 returns c =
     let l = c .before .loop in
     let a = c .before .before .before .args in
-    ap (λ (m : Bool). soFar (l .kinds) (l .bytes) (l .count) (l .seen) m) (l .inv .4)
-    ∙ sym (walk-ends (a .stop) (a .syn) (soFar (l .kinds) (l .bytes) (l .count) (l .seen) false) (a .options .now) (l .at) (c .loop-test .left))
+    let seen : Seen = record { mss = l .mss; wscale = l .wscale; quirks = l .shown } in
+    ap (λ (m : Bool). soFar (l .olayout .kinds) (l .olayout .bytes) (l .count) seen m) (l .inv .4)
+    ∙ sym (walk-ends (a .stop) (a .syn) (soFar (l .olayout .kinds) (l .olayout .bytes) (l .count) seen false) (a .options .now) (l .at) (c .loop-test .left))
     ∙ l .inv .5
 
 returns-2 : tie.Need-returns-2 Inv-loop μ-loop
@@ -119,9 +147,10 @@ returns-2 c =
     let l = c .before .before .before .before .before .before .loop in
     let a = c .before .before .before .before .before .before .before .before .args in
     let s = a .options .now in
+    let seen : Seen = record { mss = l .mss; wscale = l .wscale; quirks = l .shown } in
     let asks = c .before .before .asked-bytes .ensures ∙ ap (asked (byteAt s (l .at))) (rest-of s (l .at + 1)) in
     sym
-    (turn-stops (a .stop) (a .syn) (l .kinds) (l .bytes) (l .count) (l .seen) s (l .at) (c .before .before .asked-bytes .result) (c .before .before .before .before .before .loop-test .taken) asks
+    (turn-stops (a .stop) (a .syn) (l .olayout .kinds) (l .olayout .bytes) (l .count) seen s (l .at) (c .before .before .asked-bytes .result) (c .before .before .before .before .before .loop-test .taken) asks
     (sym (c .before .stops .ensures) ∙ c .if1 .taken))
     ∙ l .inv .5
 
@@ -140,17 +169,24 @@ walk-part-spec =
     part-asked-bytes-end
     asked-bytes-requires
     stops-requires
-    least-requires
-    add-next
-    array-write-kinds
+    option-end-requires
+    element-write-olayout
     sub-entry-byte
     entry-byte-requires
-    array-write-bytes
+    element-write-olayout-2
     add-count
-    sub-see-option
-    part-see-option-start
-    part-see-option-end
-    see-option-requires
+    sub-later-mss
+    part-later-mss-start
+    part-later-mss-end
+    later-mss-requires
+    sub-later-scale
+    part-later-scale-start
+    part-later-scale-end
+    later-scale-requires
+    sub-later-quirks
+    part-later-quirks-start
+    part-later-quirks-end
+    later-quirks-requires
     loop-less
     loop-again
     returns

@@ -1,16 +1,19 @@
--- `syn_options::see_timestamps` meets its contract.
-use Rattle.syn_options.proofs.See.{stamps-none, stamps-own, stamps-both}
+-- `syn_options::stamp_quirks` meets its contract.
+use Rattle.syn_options.proofs.See.{stamps-none, stamps-own, stamps-both, quirks-of, opt, just}
 use Rattle.basis.specs.Bytes.{be16, be32}
-use lib.ListN.{length}
 use Prim.Native.Nat.{_<_, _≤_}
-use mathlib.Core.Path.{sym}
+use lib.ListN.{length}
 use native.Mathlib.Omega.{arith}
+use mathlib.Core.Path.{sym, _∙_}
 use borrow.Author.Needs.{needs}
-use Rattle.syn_options.proofs.see_timestamps.Statement.{statement}
-use Rattle.syn_options.proofs.see_timestamps.Tie as tie
+use Rattle.syn_options.proofs.stamp_quirks.Statement.{statement}
+use Rattle.syn_options.proofs.stamp_quirks.Tie as tie
 
 returns : tie.Need-returns
-returns c = sym (stamps-none _ _ _ (omega arith))
+returns c =
+    let a = c .before .before .args in
+    let few : length (a .own .now) ≤ 4 = omega arith in
+    sym (quirks-of (a .syn) (a .before) (a .own .now) (opt 8 (a .own .now)) (stamps-none (a .syn) (just (a .before)) (a .own .now) few))
 
 shared-slice-read-be16 : tie.Need-shared-slice-read-be16
 shared-slice-read-be16 c = search needs
@@ -39,11 +42,11 @@ add-if-requires c κs = search needs
 returns-2 : tie.Need-returns-2
 unfolding be32 be16
 returns-2 c =
-    let a = c .before .before .before .before .before .before .before .before .before .before .before .before .args in
+    let a = c .before .before .before .before .before .before .before .before .before .before .before .args in
     let some : 4 < length (a .own .now) = omega arith in
     let few : length (a .own .now) ≤ 8 = omega arith in
     simp (
-      stamps-own (a .syn) (a .seen) (a .own .now) some few,
+      quirks-of (a .syn) (a .before) (a .own .now) (opt 8 (a .own .now)) (stamps-own (a .syn) (just (a .before)) (a .own .now) some few),
       c .before .add-if .ensures,
       c .before .before .be32 .ensures,
       c .before .before .before .be162 .ensures,
@@ -77,10 +80,10 @@ add-if-requires-2 c κs = search needs
 returns-3 : tie.Need-returns-3
 unfolding be32 be16
 returns-3 c =
-    let a = c .before .before .before .before .before .before .before .before .before .before .before .before .before .before .before .before .before .before .before .before .args in
+    let a = c .before .before .before .before .before .before .before .before .before .before .before .before .before .before .before .before .before .before .before .args in
     let enough : 8 < length (a .own .now) = omega arith in
     simp (
-      stamps-both (a .syn) (a .seen) (a .own .now) enough,
+      quirks-of (a .syn) (a .before) (a .own .now) (opt 8 (a .own .now)) (stamps-both (a .syn) (just (a .before)) (a .own .now) enough),
       c .add-if2 .ensures,
       c .before .be322 .ensures,
       c .before .before .be164 .ensures,
@@ -91,8 +94,8 @@ returns-3 c =
       c .before .before .before .before .before .before .before .before .before .before .before .before .before .before .be16 .ensures,
     )
 
-pub see-timestamps-spec : {M : Type 1} → statement M
-see-timestamps-spec =
+pub stamp-quirks-spec : {M : Type 1} → statement M
+stamp-quirks-spec =
     tie.close
     (tie.spec
     returns
