@@ -1,0 +1,62 @@
+-- Laws of a bundle's packets: where one lies that fits, and one turn of the loop over them.
+use mathlib.Core.Path.{_≡_, refl, sym, _∙_}
+use mathlib.Core.Bool.{Bool, true, false, cond, _&&_}
+use mathlib.Core.List.{List}
+use Prim.Native.Nat.{ℕ, zero, suc, _+_, _-_, _<_, _≤_}
+use native.Mathlib.Omega.{arith}
+use lib.Dec.{leb}
+use lib.ListN.{length}
+use borrow.Author.Tests.{leb-true}
+use Rattle.basis.proofs.Tests.{and-left, and-right}
+use Rattle.bundle.specs.Bundle.{listLength, listOffset, packetEnd, packetFits, packetsFit, packetsOffset, packetCount, bundleFits}
+
+module _ (b : List ℕ) (at : ℕ) (fits : packetFits b at ≡ true) where
+  pub head-within : at + 4 ≤ length b
+  unfolding packetFits
+  head-within = leb-true (at + 4) (length b) (and-left (leb (at + 4) (length b)) _ fits)
+
+  pub end-within : packetEnd b at ≤ length b
+  unfolding packetFits
+  end-within = leb-true (packetEnd b at) (length b) (and-right (leb (at + 4) (length b)) _ fits)
+
+pub head-before-end : (b : List ℕ) (at : ℕ) → at + 4 ≤ packetEnd b at
+unfolding packetEnd
+head-before-end b at = omega arith
+
+-- ---- the loop that asks whether all packets fit
+
+module _ (b : List ℕ) (at i n : ℕ) (inside : i < n) where
+  more : n - i ≡ suc (n - (i + 1))
+  more = omega arith
+
+  pub packet-fits-turn : packetFits b at ≡ true → packetsFit b (packetEnd b at) (n - (i + 1)) ≡ packetsFit b at (n - i)
+  unfolding packetsFit
+  packet-fits-turn e = rw (more, e)
+
+  pub packet-fails-turn : packetFits b at ≡ false → packetsFit b at (n - i) ≡ false
+  unfolding packetsFit
+  packet-fails-turn e = rw (more, e)
+
+pub packets-end : (b : List ℕ) (at i n : ℕ) → n ≤ i → packetsFit b at (n - i) ≡ leb at (length b)
+unfolding packetsFit
+packets-end b at i n h = let none : n - i ≡ 0 = omega arith in rw none
+
+-- ---- a bundle that fits
+
+module _ (b : List ℕ) (fits : bundleFits b ≡ true) where
+  areas : (leb (length b) 65535 && leb 8 (length b)) && leb (listOffset b + listLength b) (length b) ≡ true
+  unfolding bundleFits
+  areas = and-left _ (packetsFit b (packetsOffset b) (packetCount b)) fits
+
+  pub packets-within : packetsFit b (packetsOffset b) (packetCount b) ≡ true
+  unfolding bundleFits
+  packets-within = and-right ((leb (length b) 65535 && leb 8 (length b)) && leb (listOffset b + listLength b) (length b)) _ fits
+
+  pub at-most : length b ≤ 65535
+  at-most = leb-true (length b) 65535 (and-left (leb (length b) 65535) (leb 8 (length b)) (and-left _ (leb (listOffset b + listLength b) (length b)) areas))
+
+  pub list-within : (8 ≤ length b) × (listOffset b + listLength b ≤ length b)
+  list-within = (
+    leb-true 8 (length b) (and-right (leb (length b) 65535) (leb 8 (length b)) (and-left _ (leb (listOffset b + listLength b) (length b)) areas)),
+    leb-true (listOffset b + listLength b) (length b) (and-right (leb (length b) 65535 && leb 8 (length b)) _ areas),
+  )

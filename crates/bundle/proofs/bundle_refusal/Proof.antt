@@ -1,0 +1,39 @@
+use Rattle.bundle.specs.Bundle.{bundleRefusal}
+use borrow.Author.Needs.{needs}
+use Rattle.bundle.proofs.bundle_refusal.Statement.{statement}
+use Rattle.bundle.proofs.bundle_refusal.Tie as tie
+use Rattle.bundle.proofs.bundle_refusal.Reads as reads
+use Rattle.bundle.proofs.bundle_refusal.Lts as lts
+
+enum-told : tie.Need-enum-told
+enum-told c = search needs
+
+enum-told-2 : tie.Need-enum-told-2
+enum-told-2 c = search needs
+
+enum-told-3 : tie.Need-enum-told-3
+enum-told-3 c = search needs
+
+enum-told-4 : tie.Need-enum-told-4
+enum-told-4 c = search needs
+
+returns : tie.Need-returns
+unfolding bundleRefusal
+returns c = rw (c .enum-told .given .1)
+
+returns-2 : tie.Need-returns-2
+unfolding bundleRefusal
+returns-2 c = rw (c .enum-told2 .given .1)
+
+returns-3 : tie.Need-returns-3
+unfolding bundleRefusal
+returns-3 c = rw (c .enum-told3 .given .1)
+
+returns-4 : tie.Need-returns-4
+unfolding bundleRefusal
+returns-4 c = rw (c .enum-told4 .given .1)
+
+pub bundle-refusal-spec : {M : Type 1} → statement M
+bundle-refusal-spec =
+    tie.close
+    (tie.spec enum-told enum-told-2 enum-told-3 enum-told-4 returns returns-2 returns-3 returns-4)

@@ -1,0 +1,58 @@
+-- The answer of a packet against a list, of a bundle's packet, and of the whole bundle as the list of its answers.
+use Prim.Native.Nat.{ℕ, zero, suc}
+use mathlib.Core.Bool.{cond}
+use mathlib.Core.List.{List, [], _∷_}
+use Rattle.tcp.specs.declared.Mss.{Mss}
+use Rattle.observable.specs.declared.TcpObservation.{TcpObservation}
+use Rattle.flow.specs.declared.Answer.{Answer}
+use Rattle.flow.specs.declared.Answer.the-variants as reading
+use Rattle.flow.specs.declared.Reading.{Reading}
+use Rattle.flow.specs.Reading.{readPacket}
+use Rattle.siglist.specs.Search.{searchAll}
+use Rattle.bundle.specs.declared.BundleCheck.{BundleCheck}
+use Rattle.bundle.specs.declared.BundleCheck.the-variants as check
+use Rattle.bundle.specs.declared.PacketAnswer.{PacketAnswer}
+use Rattle.bundle.specs.declared.PacketAnswer.the-variants as packet
+use Rattle.bundle.specs.Bundle.{packetCount, packetsOffset, listOf, packetBytes, packetPeer, packetEnd, packetFits, checkBundle}
+
+-- A SYN or SYN+ACK is searched for in the list; nothing and a refusal stay what they are.
+abbrev pub judged : Answer → TcpObservation → List ℕ → PacketAnswer
+judged reading.Syn o l = packet.Syn (searchAll o l)
+judged reading.SynAck o l = packet.SynAck (searchAll o l)
+judged reading.Nothing o l = packet.Nothing
+judged (reading.Refused r) o l = packet.Refused r
+
+abbrev pub afterReading : Reading → List ℕ → PacketAnswer
+afterReading r l = judged (r .answer) (r .observation) l
+
+-- The answer of a packet, with the peer's MSS, against a well-formed list.
+unfoldable pub answerOf : List ℕ → Mss → List ℕ → PacketAnswer
+answerOf p peer l = afterReading (readPacket p peer) l
+
+-- The answer of the packet that starts at a place.
+unfoldable pub answerAt : List ℕ → ℕ → PacketAnswer
+answerAt b at = answerOf (packetBytes b at) (packetPeer b at) (listOf b)
+
+-- Where packet i starts.
+unfoldable pub startOf : List ℕ → ℕ → ℕ
+startOf b zero = packetsOffset b
+startOf b (suc i) = packetEnd b (startOf b i)
+
+-- The answers of so many packets from a place on. A packet that does not fit ends the row; no bundle that passes its check has one.
+unfoldable pub answersFrom : List ℕ → ℕ → ℕ → List PacketAnswer
+answersFrom b at zero = []
+answersFrom b at (suc n) = cond (packetFits b at) (answerAt b at ∷ answersFrom b (packetEnd b at) n) []
+
+-- The answer of a whole bundle: how its check ends, and the answers of its packets; none beside a refusal.
+pub record BundleAnswer : Type 0 where
+  pub check : BundleCheck
+  pub answers : List PacketAnswer
+
+abbrev pub afterCheck : BundleCheck → List ℕ → BundleAnswer
+afterCheck check.Good b = record { check = check.Good; answers = answersFrom b (packetsOffset b) (packetCount b) }
+afterCheck check.DoesNotFit b = record { check = check.DoesNotFit; answers = [] }
+afterCheck check.ListDoesNotFit b = record { check = check.ListDoesNotFit; answers = [] }
+afterCheck (check.BadRecord i) b = record { check = check.BadRecord i; answers = [] }
+
+unfoldable pub bundleAnswer : List ℕ → BundleAnswer
+bundleAnswer b = afterCheck (checkBundle b) b

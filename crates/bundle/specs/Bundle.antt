@@ -1,0 +1,83 @@
+-- The bundle (document 01, "The bundle program"): its header, its list and its packets, and when it is refused.
+use Prim.Native.Nat.{ℕ, zero, suc, _+_}
+use mathlib.Core.Bool.{Bool, cond, _&&_}
+use mathlib.Core.List.{List}
+use lib.Dec.{eqb, leb}
+use lib.ListN.{length}
+use Rattle.basis.specs.Bytes.{be16, part}
+use Rattle.tcp.specs.declared.Mss.{Mss}
+use Rattle.tcp.specs.declared.Mss.the-variants as mss
+use Rattle.siglist.specs.declared.ListAnswer.{ListAnswer}
+use Rattle.siglist.specs.declared.ListAnswer.the-variants as list
+use Rattle.siglist.specs.List.{areaFits, checkList}
+use Rattle.bundle.specs.declared.BundleCheck.{BundleCheck}
+use Rattle.bundle.specs.declared.BundleCheck.the-variants as check
+
+-- ---- the header
+
+-- "Header of 8 bytes, big-endian: packet count, offset of packets, list length, list offset."
+abbrev pub packetCount : List ℕ → ℕ
+packetCount b = be16 b 0
+
+abbrev pub packetsOffset : List ℕ → ℕ
+packetsOffset b = be16 b 2
+
+abbrev pub listLength : List ℕ → ℕ
+listLength b = be16 b 4
+
+abbrev pub listOffset : List ℕ → ℕ
+listOffset b = be16 b 6
+
+-- The list's bytes.
+abbrev pub listOf : List ℕ → List ℕ
+listOf b = part (listOffset b) (listOffset b + listLength b) b
+
+-- ---- a packet, by the place where it starts
+
+-- "A packet is peer MSS (two bytes, 0 absent), length (two), bytes."
+unfoldable pub peerOf : ℕ → Mss
+peerOf n = cond (eqb n 0) mss.Absent (mss.Present n)
+
+unfoldable pub packetEnd : List ℕ → ℕ → ℕ
+packetEnd b at = at + 4 + be16 b (at + 2)
+
+abbrev pub packetBytes : List ℕ → ℕ → List ℕ
+packetBytes b at = part (at + 4) (packetEnd b at) b
+
+abbrev pub packetPeer : List ℕ → ℕ → Mss
+packetPeer b at = peerOf (be16 b at)
+
+-- A packet fits if its four bytes and then its own lie within the bundle.
+unfoldable pub packetFits : List ℕ → ℕ → Bool
+packetFits b at = leb (at + 4) (length b) && leb (packetEnd b at) (length b)
+
+-- So many packets, each where the one before it ends. The offset of packets is within the bundle "also at count 0".
+unfoldable pub packetsFit : List ℕ → ℕ → ℕ → Bool
+packetsFit b at zero = leb at (length b)
+packetsFit b at (suc n) = packetFits b at && packetsFit b (packetEnd b at) n
+
+-- ---- refusals
+
+-- Refusal 12: "bundle over 65,535 bytes, or its header, list area or a packet does not fit".
+unfoldable pub bundleFits : List ℕ → Bool
+bundleFits b =
+    leb (length b) 65535
+    && leb 8 (length b)
+    && areaFits (listOffset b) (listLength b) b
+    && packetsFit b (packetsOffset b) (packetCount b)
+
+abbrev pub ofList : ListAnswer → BundleCheck
+ofList list.Good = check.Good
+ofList list.DoesNotFit = check.ListDoesNotFit
+ofList (list.BadRecord i) = check.BadRecord i
+
+-- "A bundle meets 12, then 9, then 10, before any packet."
+unfoldable pub checkBundle : List ℕ → BundleCheck
+checkBundle b = cond (bundleFits b) (ofList (checkList (listOf b))) check.DoesNotFit
+
+-- The number of a bundle's refusal; 0 if it is none. Refusal 10 gives the index of the first bad record.
+unfoldable pub bundleRefusal : BundleCheck → ℕ
+bundleRefusal check.Good = 0
+bundleRefusal check.DoesNotFit = 12
+bundleRefusal check.ListDoesNotFit = 9
+bundleRefusal (check.BadRecord i) = 10

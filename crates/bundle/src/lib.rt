@@ -1,0 +1,162 @@
+// The bundle (document 01, "The bundle program"): added by the port. A bundle is checked first, then each packet has its answer.
+ghost use mathlib.Core.Path.{_≡_};
+ghost use mathlib.Core.Bool.{_&&_};
+ghost use Prim.Native.Nat.{_+_, _≤_};
+ghost use lib.ListN.{length};
+ghost use Rattle.basis.specs.Bytes.{be16};
+ghost use Rattle.siglist.specs.List.{areaFits, checkList};
+ghost use Rattle.bundle.specs.Bundle.{listLength, listOffset, listOf, peerOf, packetEnd, packetFits, packetsFit, bundleFits, checkBundle, bundleRefusal};
+ghost use Rattle.bundle.specs.Answers.{answerOf, answerAt};
+use flow::Answer;
+use flow::Refusal;
+use flow::read_packet;
+use numbers::be16;
+use siglist::Found;
+use siglist::ListAnswer;
+use siglist::check_list;
+use siglist::search_checked;
+use tcp::Mss;
+
+// A bundle is well formed, or refused: 12, 9, or 10 with the index of its list's first bad record.
+pub enum BundleCheck {
+    Good,
+    DoesNotFit,
+    ListDoesNotFit,
+    BadRecord(usize),
+}
+
+// The answer of a packet: what its search finds, nothing, or a refusal 1 to 7.
+pub enum PacketAnswer {
+    Syn(Found),
+    SynAck(Found),
+    Nothing,
+    Refused(Refusal),
+}
+
+const MOST: usize = 65535;
+
+const HEADER: usize = 8;
+
+// What stands before a packet's bytes: its peer's MSS and its length.
+const BEFORE: usize = 4;
+
+// ---- the check
+
+// The end of the packet that starts at a place.
+fn packet_end(bundle: &[u8], at: usize) -> usize
+    requires { ⌜ at + 4 ≤ length (now bundle) ⌝ }
+    ensures { λ r. ⌜ r ≡ packetEnd (now (bundle .entry)) at ⌝ }
+{
+    let length_at = at + 2;
+    at + BEFORE + be16(bundle[length_at], bundle[length_at + 1]) as usize
+}
+
+fn packet_fits(bundle: &[u8], at: usize) -> bool
+    ensures { λ r. ⌜ r ≡ packetFits (now (bundle .entry)) at ⌝ }
+{
+    if bundle.len() < BEFORE {
+        return false;
+    }
+    if bundle.len() - BEFORE < at {
+        return false;
+    }
+    packet_end(bundle, at) <= bundle.len()
+}
+
+// Whether so many packets fit, each where the one before it ends.
+fn packets_fit(bundle: &[u8], offset: usize, count: usize) -> bool
+    ensures { λ r. ⌜ r ≡ packetsFit (now (bundle .entry)) offset count ⌝ }
+{
+    let mut at = offset;
+    let mut i = 0;
+    while i < count {
+        if !packet_fits(bundle, at) {
+            return false;
+        }
+        at = packet_end(bundle, at);
+        i += 1;
+    }
+    at <= bundle.len()
+}
+
+fn bundle_fits(bundle: &[u8]) -> bool
+    ensures { λ r. ⌜ r ≡ bundleFits (now (bundle .entry)) ⌝ }
+{
+    if MOST < bundle.len() {
+        return false;
+    }
+    if bundle.len() < HEADER {
+        return false;
+    }
+    let list_length = be16(bundle[4], bundle[5]) as usize;
+    let list_offset = be16(bundle[6], bundle[7]) as usize;
+    if bundle.len() < list_offset + list_length {
+        return false;
+    }
+    let count = be16(bundle[0], bundle[1]) as usize;
+    let offset = be16(bundle[2], bundle[3]) as usize;
+    packets_fit(bundle, offset, count)
+}
+
+// The list's bytes lie where the header says.
+fn check_list_of(bundle: &[u8]) -> ListAnswer
+    requires { ⌜ (8 ≤ length (now bundle)) × (listOffset (now bundle) + listLength (now bundle) ≤ length (now bundle)) ⌝ }
+    ensures { λ r. ⌜ r ≡ checkList (listOf (now (bundle .entry))) ⌝ }
+{
+    let start = be16(bundle[6], bundle[7]) as usize;
+    let end = start + be16(bundle[4], bundle[5]) as usize;
+    check_list(&bundle[start..end])
+}
+
+// A bundle is well formed, or refused: 12, then 9, then 10.
+pub fn check_bundle(bundle: &[u8]) -> BundleCheck
+    ensures { λ r. ⌜ r ≡ checkBundle (now (bundle .entry)) ⌝ }
+{
+    if !bundle_fits(bundle) {
+        return BundleCheck::DoesNotFit;
+    }
+    match check_list_of(bundle) {
+        ListAnswer::Good => BundleCheck::Good,
+        ListAnswer::DoesNotFit => BundleCheck::ListDoesNotFit,
+        ListAnswer::BadRecord(i) => BundleCheck::BadRecord(i),
+    }
+}
+
+// The number of a bundle's refusal in document 01's table; 0 if it is none.
+pub fn bundle_refusal(check: BundleCheck) -> u16
+    ensures { λ r. ⌜ r ≡ bundleRefusal check ⌝ }
+{
+    match check {
+        BundleCheck::Good => 0,
+        BundleCheck::DoesNotFit => 12,
+        BundleCheck::ListDoesNotFit => 9,
+        BundleCheck::BadRecord(_) => 10,
+    }
+}
+
+// ---- the answers
+
+// A peer's MSS of 0 is absent.
+pub fn peer_of(number: u16) -> Mss
+    ensures { λ r. ⌜ r ≡ peerOf number ⌝ }
+{
+    if number == 0 {
+        return Mss::Absent;
+    }
+    Mss::Present(number)
+}
+
+// The answer of a packet against a list that was checked: what is not a well-formed record of the list fits nothing.
+pub fn answer_packet(packet: &[u8], peer: Mss, list: &[u8]) -> PacketAnswer
+    ensures { λ r. ⌜ r ≡ answerOf (now (packet .entry)) peer (now (list .entry)) ⌝ }
+{
+    let reading = read_packet(packet, peer);
+    let observation = reading.observation;
+    let answer = reading.answer;
+    match answer {
+        Answer::Syn => PacketAnswer::Syn(search_checked(observation, list)),
+        Answer::SynAck => PacketAnswer::SynAck(search_checked(observation, list)),
+        Answer::Nothing => PacketAnswer::Nothing,
+        Answer::Refused(refusal) => PacketAnswer::Refused(refusal),
+    }
+}
