@@ -1,2 +1,4 @@
 pub mod Answers
 pub mod Bundle
+pub mod Pages
+pub mod Text

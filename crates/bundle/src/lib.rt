@@ -17,12 +17,23 @@ use siglist::check_list;
 use siglist::search_checked;
 use tcp::Mss;
 
+mod pages;
+mod text;
+
 // A bundle is well formed, or refused: 12, 9, or 10 with the index of its list's first bad record.
 pub enum BundleCheck {
     Good,
     DoesNotFit,
     ListDoesNotFit,
     BadRecord(usize),
+}
+
+// How far the output of a bundle is: the bytes of the page, and the packets that are left, by their number and the place of the
+// first.
+pub struct Progress {
+    pub filled: usize,
+    pub left: usize,
+    pub at: usize,
 }
 
 // The answer of a packet: what its search finds, nothing, or a refusal 1 to 7.
@@ -43,7 +54,7 @@ const BEFORE: usize = 4;
 // ---- the check
 
 // The end of the packet that starts at a place.
-fn packet_end(bundle: &[u8], at: usize) -> usize
+pub(crate) fn packet_end(bundle: &[u8], at: usize) -> usize
     requires { ⌜ at + 4 ≤ length (now bundle) ⌝ }
     ensures { λ r. ⌜ r ≡ packetEnd (now (bundle .entry)) at ⌝ }
 {
@@ -51,7 +62,7 @@ fn packet_end(bundle: &[u8], at: usize) -> usize
     at + BEFORE + be16(bundle[length_at], bundle[length_at + 1]) as usize
 }
 
-fn packet_fits(bundle: &[u8], at: usize) -> bool
+pub(crate) fn packet_fits(bundle: &[u8], at: usize) -> bool
     ensures { λ r. ⌜ r ≡ packetFits (now (bundle .entry)) at ⌝ }
 {
     if bundle.len() < BEFORE {
@@ -159,4 +170,21 @@ pub fn answer_packet(packet: &[u8], peer: Mss, list: &[u8]) -> PacketAnswer
         Answer::Nothing => PacketAnswer::Nothing,
         Answer::Refused(refusal) => PacketAnswer::Refused(refusal),
     }
+}
+
+// The answer of the packet that starts at a place.
+pub(crate) fn answer_at_place(bundle: &[u8], at: usize) -> PacketAnswer
+    requires { ⌜ (8 ≤ length (now bundle)) × (listOffset (now bundle) + listLength (now bundle) ≤ length (now bundle)) × (at + 4 ≤ length (now bundle)) × (packetEnd (now bundle) at ≤ length (now bundle)) ⌝ }
+    ensures { λ r. ⌜ r ≡ answerAt (now (bundle .entry)) at ⌝ }
+{
+    let peer = peer_of(be16(bundle[at], bundle[at + 1]));
+    let start = at + BEFORE;
+    let end = packet_end(bundle, at);
+    let list_start = be16(bundle[6], bundle[7]) as usize;
+    let list_end = list_start + be16(bundle[4], bundle[5]) as usize;
+    answer_packet(
+        &bundle[start..end],
+        peer,
+        &bundle[list_start..list_end],
+    )
 }

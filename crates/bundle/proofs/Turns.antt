@@ -1,0 +1,60 @@
+-- Laws of a page: one line more, and its end.
+use mathlib.Core.Path.{_≡_, refl, sym, _∙_, ap, subst}
+use mathlib.Core.Bool.{true, false}
+use mathlib.Core.List.{List, [], _++_, append-nil}
+use Prim.Native.Nat.{ℕ, zero, suc, _+_, _-_, _<_, _≤_}
+use native.Mathlib.Omega.{arith}
+use native.Mathlib.Nat.{add-zero}
+use lib.Dec.{leb}
+use lib.ListN.{length, take, drop, take-append-drop}
+use borrow.Author.Tests.{le-leb, lt-leb}
+use Rattle.bundle.specs.declared.Progress.{Progress}
+use Rattle.bundle.specs.Bundle.{packetEnd, packetFits}
+use Rattle.bundle.specs.Answers.{answerAt}
+use Rattle.bundle.specs.Text.{lineOf}
+use Rattle.bundle.specs.Pages.{written, Put, Filled, Page, pageFrom, fullPage, behind}
+use Rattle.bundle.proofs.Writing.{both}
+
+-- Nothing more is put.
+pub filled-full : (page : List ℕ) (filled left at : ℕ) → Filled page filled (fullPage left at) (record { filled = filled; left = left; at = at }) page
+unfolding written
+filled-full page filled left at = (
+  (omega arith, sym (rw (append-nil (take filled page), add-zero filled) (take-append-drop filled page))),
+  refl,
+  refl,
+)
+
+module _ (b : List ℕ) (size filled at m : ℕ) where
+  full-here : size - filled < 19 → pageFrom b size filled at (suc m) ≡ fullPage (suc m) at
+  unfolding pageFrom
+  full-here h = rw (lt-leb (filled + 19) size (omega arith))
+
+  ended-here : 19 ≤ size - filled → packetFits b at ≡ false → pageFrom b size filled at (suc m) ≡ fullPage 0 at
+  unfolding pageFrom
+  ended-here h e = rw (le-leb (filled + 19) size (omega arith), e)
+
+  line-here : 19 ≤ size - filled → packetFits b at ≡ true → pageFrom b size filled at (suc m) ≡ behind (lineOf (answerAt b at)) (pageFrom b size (filled + length (lineOf (answerAt b at))) (packetEnd b at) m)
+  unfolding pageFrom
+  line-here h e = rw (le-leb (filled + 19) size (omega arith), e)
+
+module _ (b page : List ℕ) (size filled at n : ℕ) (some : 0 < n) where
+  more : n ≡ suc (n - 1)
+  more = omega arith
+
+  pub no-room : size - filled < 19 → pageFrom b size filled at n ≡ fullPage n at
+  no-room h =
+      ap (pageFrom b size filled at) more
+      ∙ full-here b size filled at (n - 1) h
+      ∙ ap (λ (k : ℕ). fullPage k at) (sym more)
+
+  pub no-packet : 19 ≤ size - filled → packetFits b at ≡ false → pageFrom b size filled at n ≡ fullPage 0 at
+  no-packet h e = ap (pageFrom b size filled at) more ∙ ended-here b size filled at (n - 1) h e
+
+  pub one-line : 19 ≤ size - filled → packetFits b at ≡ true → filled ≤ length page → (page' page'' : List ℕ) (next : ℕ) (r : Progress) → Put page filled (lineOf (answerAt b at)) next page' → Filled page' next (pageFrom b size next (packetEnd b at) (n - 1)) r page'' → Filled page filled (pageFrom b size filled at n) r page''
+  one-line h e inside page' page'' next r line rest =
+      rw (ap (pageFrom b size filled at) more ∙ line-here b size filled at (n - 1) h e, sym (line .0))
+      (both page page' page'' _ _ filled next (r .filled) inside line (rest .0), rest .1, rest .2)
+
+pub no-more : (b : List ℕ) (size filled at n : ℕ) → n ≤ 0 → pageFrom b size filled at n ≡ fullPage 0 at
+unfolding pageFrom
+no-more b size filled at n h = let none : n ≡ 0 = omega arith in rw none

@@ -1,0 +1,98 @@
+-- The output of a bundle, and how it is cut into pages of 4,096 bytes.
+use mathlib.Core.Path.{_≡_}
+use Prim.Native.Nat.{ℕ, zero, suc, _+_}
+use mathlib.Core.Bool.{Bool, cond, _&&_}
+use mathlib.Core.List.{List, [], _∷_, _++_}
+use lib.Dec.{leb}
+use lib.ListN.{length, take, drop}
+use Rattle.siglist.specs.List.{areaFits}
+use Rattle.bundle.specs.declared.BundleCheck.{BundleCheck}
+use Rattle.bundle.specs.declared.BundleCheck.the-variants as check
+use Rattle.bundle.specs.declared.PacketAnswer.{PacketAnswer}
+use Rattle.bundle.specs.declared.Progress.{Progress}
+use Rattle.bundle.specs.Bundle.{packetCount, packetsOffset, listLength, listOffset, packetEnd, packetFits, checkBundle}
+use Rattle.bundle.specs.Answers.{BundleAnswer, answerAt, bundleAnswer}
+use Rattle.bundle.specs.Text.{lineOf, headLine, refusedLine}
+
+-- ---- the whole output
+
+unfoldable pub linesOf : List PacketAnswer → List ℕ
+linesOf [] = []
+linesOf (a ∷ rest) = lineOf a ++ linesOf rest
+
+-- "Output: `packets N`, then a line each. A refused bundle or list prints only `refused N`."
+abbrev pub textOf : BundleCheck → ℕ → List PacketAnswer → List ℕ
+textOf check.Good n answers = headLine n ++ linesOf answers
+textOf check.DoesNotFit n answers = refusedLine 12
+textOf check.ListDoesNotFit n answers = refusedLine 9
+textOf (check.BadRecord i) n answers = refusedLine 10
+
+unfoldable pub outputOf : List ℕ → List ℕ
+outputOf b = textOf (bundleAnswer b .check) (packetCount b) (bundleAnswer b .answers)
+
+-- Input that goes on past the buffer is over 65,535 bytes: refusal 12.
+unfoldable pub outputOfInput : List ℕ → Bool → List ℕ
+outputOfInput b longer = cond longer (refusedLine 12) (outputOf b)
+
+-- ---- pages
+
+-- A page's bytes from a place on are written over.
+unfoldable pub written : List ℕ → ℕ → List ℕ → List ℕ
+written page at text = take at page ++ text ++ drop (at + length text) page
+
+-- What a page takes: its text, and the packets that are left, by their number and the place of the first.
+pub record Page : Type 0 where
+  pub text : List ℕ
+  pub left : ℕ
+  pub at : ℕ
+
+abbrev pub behind : List ℕ → Page → Page
+behind line p = record { text = line ++ p .text; left = p .left; at = p .at }
+
+abbrev pub fullPage : ℕ → ℕ → Page
+fullPage left at = record { text = []; left = left; at = at }
+
+-- The lines of so many packets from a place on, as long as the longest line, of 19 bytes, finds room behind what fills the page.
+unfoldable pub pageFrom : List ℕ → ℕ → ℕ → ℕ → ℕ → Page
+pageFrom b size filled at zero = fullPage 0 at
+pageFrom b size filled at (suc n) =
+    cond (leb (filled + 19) size)
+    (cond (packetFits b at)
+    (behind (lineOf (answerAt b at)) (pageFrom b size (filled + length (lineOf (answerAt b at))) (packetEnd b at) n))
+    (fullPage 0 at))
+    (fullPage (suc n) at)
+
+-- The list lies within the bundle: in every bundle that passes its check.
+unfoldable pub listLies : List ℕ → Bool
+listLies b = leb 8 (length b) && areaFits (listOffset b) (listLength b) b
+
+-- A page of the packets that are left.
+unfoldable pub nextPage : List ℕ → ℕ → ℕ → ℕ → Page
+nextPage b size left at = cond (listLies b) (pageFrom b size 0 at left) (fullPage 0 at)
+
+-- The first page: the line that comes first, and as many of the packets' as find room.
+abbrev pub firstOf : BundleCheck → List ℕ → ℕ → Page
+firstOf check.Good b size =
+    behind (headLine (packetCount b)) (pageFrom b size (length (headLine (packetCount b))) (packetsOffset b) (packetCount b))
+firstOf check.DoesNotFit b size = record { text = refusedLine 12; left = 0; at = 0 }
+firstOf check.ListDoesNotFit b size = record { text = refusedLine 9; left = 0; at = 0 }
+firstOf (check.BadRecord i) b size = record { text = refusedLine 10; left = 0; at = 0 }
+
+-- A page of under 19 bytes takes nothing.
+unfoldable pub firstPage : List ℕ → Bool → ℕ → Page
+firstPage b longer size =
+    cond (leb 19 size)
+    (cond longer (record { text = refusedLine 12; left = 0; at = 0 }) (firstOf (checkBundle b) b size))
+    (fullPage 0 0)
+
+-- What a function hands back of a page: how many bytes it has, and what is left.
+abbrev pub progressOf : Page → Progress
+progressOf p = record { filled = length (p .text); left = p .left; at = p .at }
+
+-- A text was put at a place: the place behind it, and the page.
+abbrev pub Put : List ℕ → ℕ → List ℕ → ℕ → List ℕ → Type 0
+Put page at text next page' = (next ≡ at + length text) × (page' ≡ written page at text)
+
+-- A page's text was put behind what filled the page before.
+abbrev pub Filled : List ℕ → ℕ → Page → Progress → List ℕ → Type 0
+Filled page filled p r page' = Put page filled (p .text) (r .filled) page' × (r .left ≡ p .left) × (r .at ≡ p .at)
