@@ -1,5 +1,5 @@
 -- Laws of a bundle's packets: where one lies that fits, and one turn of the loop over them.
-use mathlib.Core.Path.{_≡_, refl, sym, _∙_}
+use mathlib.Core.Path.{_≡_, refl, sym, _∙_, ap}
 use mathlib.Core.Bool.{Bool, true, false, cond, _&&_}
 use mathlib.Core.List.{List}
 use Prim.Native.Nat.{ℕ, zero, suc, _+_, _-_, _<_, _≤_}
@@ -8,7 +8,11 @@ use lib.Dec.{leb}
 use lib.ListN.{length}
 use borrow.Author.Tests.{leb-true}
 use Rattle.basis.proofs.Tests.{and-left, and-right}
-use Rattle.bundle.specs.Bundle.{listLength, listOffset, packetEnd, packetFits, packetsFit, packetsOffset, packetCount, bundleFits}
+use Rattle.siglist.specs.List.{checkList}
+use Rattle.bundle.specs.declared.BundleCheck.{BundleCheck}
+use Rattle.bundle.specs.declared.BundleCheck.the-variants as check
+use Rattle.bundle.specs.Pages.{listLies}
+use Rattle.bundle.specs.Bundle.{listLength, listOffset, packetEnd, packetFits, packetsFit, packetsOffset, packetCount, bundleFits, checkBundle, bundleRefusal, ofList, listOf}
 
 module _ (b : List ℕ) (at : ℕ) (fits : packetFits b at ≡ true) where
   pub head-within : at + 4 ≤ length b
@@ -60,3 +64,24 @@ module _ (b : List ℕ) (fits : bundleFits b ≡ true) where
     leb-true 8 (length b) (and-right (leb (length b) 65535) (leb 8 (length b)) (and-left _ (leb (listOffset b + listLength b) (length b)) areas)),
     leb-true (listOffset b + listLength b) (length b) (and-right (leb (length b) 65535 && leb 8 (length b)) _ areas),
   )
+
+refused-number : (b : List ℕ) → checkBundle b ≡ check.Good → bundleFits b ≡ false → _≡_ {A = ℕ} 12 0
+unfolding checkBundle bundleRefusal
+refused-number b good e =
+    sym (ap (λ (t : Bool). bundleRefusal (cond t (ofList (checkList (listOf b))) check.DoesNotFit)) e) ∙ ap bundleRefusal good
+
+-- A bundle that passes its check fits: a refusal has another number.
+pub good-fits : (b : List ℕ) → checkBundle b ≡ check.Good → bundleFits b ≡ true
+good-fits b good = by-fit (bundleFits b) refl
+  where
+    by-fit : (t : Bool) → bundleFits b ≡ t → t ≡ true
+    by-fit true e = refl
+    by-fit false e = absurd (let z : _≡_ {A = ℕ} 12 0 = refused-number b good e in omega arith)
+
+-- The list lies within the bundle.
+pub lies-within : (b : List ℕ) → listLies b ≡ true → (8 ≤ length b) × (listOffset b + listLength b ≤ length b)
+unfolding listLies
+lies-within b e = (
+  leb-true 8 (length b) (and-left (leb 8 (length b)) _ e),
+  leb-true (listOffset b + listLength b) (length b) (and-right (leb 8 (length b)) _ e),
+)

@@ -4,16 +4,16 @@ use mathlib.Core.Bool.{true, false}
 use mathlib.Core.List.{List, [], _++_, append-nil}
 use Prim.Native.Nat.{ℕ, zero, suc, _+_, _-_, _<_, _≤_}
 use native.Mathlib.Omega.{arith}
-use native.Mathlib.Nat.{add-zero}
+use native.Mathlib.Nat.{add-zero, zero-add}
 use lib.Dec.{leb}
 use lib.ListN.{length, take, drop, take-append-drop}
 use borrow.Author.Tests.{le-leb, lt-leb}
 use Rattle.bundle.specs.declared.Progress.{Progress}
-use Rattle.bundle.specs.Bundle.{packetEnd, packetFits}
+use Rattle.bundle.specs.Bundle.{packetCount, packetsOffset, packetEnd, packetFits}
 use Rattle.bundle.specs.Answers.{answerAt}
-use Rattle.bundle.specs.Text.{lineOf}
-use Rattle.bundle.specs.Pages.{written, Put, Filled, Page, pageFrom, fullPage, behind}
-use Rattle.bundle.proofs.Writing.{both}
+use Rattle.bundle.specs.Text.{packetsWord, decimal, newline, lineOf, headLine}
+use Rattle.bundle.specs.Pages.{written, Put, Filled, Paged, progressOf, Page, pageFrom, fullPage, behind, headPage}
+use Rattle.bundle.proofs.Writing.{both, written-length, numbered-length}
 
 -- Nothing more is put.
 pub filled-full : (page : List ℕ) (filled left at : ℕ) → Filled page filled (fullPage left at) (record { filled = filled; left = left; at = at }) page
@@ -58,3 +58,31 @@ module _ (b page : List ℕ) (size filled at n : ℕ) (some : 0 < n) where
 pub no-more : (b : List ℕ) (size filled at n : ℕ) → n ≤ 0 → pageFrom b size filled at n ≡ fullPage 0 at
 unfolding pageFrom
 no-more b size filled at n h = let none : n ≡ 0 = omega arith in rw none
+
+-- ---- from a page's numbers to its progress
+
+pub paged : (page page' : List ℕ) (p : Page) (r : Progress) → Filled page 0 p r page' → Paged page p r page'
+paged page page' p r h = (
+  ap (λ (n : ℕ). record { filled = n; left = r .left; at = r .at }) (h .0 .0 ∙ zero-add (length (p .text)))
+      ∙ ap (λ (n : ℕ). record { filled = length (p .text); left = n; at = r .at }) (h .1)
+      ∙ ap (λ (n : ℕ). record { filled = length (p .text); left = p .left; at = n }) (h .2),
+  h .0 .1,
+)
+
+-- The first line, and the packets' lines behind it.
+module _ (b page page' page'' : List ℕ) (n offset filled : ℕ) (r : Progress) (large : 19 ≤ length page) where
+  pub head-room : filled ≡ length (packetsWord ++ decimal n ++ newline) → page' ≡ written page 0 (packetsWord ++ decimal n ++ newline) → length page' ≡ length page
+  head-room f w =
+      ap length w
+      ∙ written-length page (packetsWord ++ decimal n ++ newline) 0 (omega (arith, numbered-length packetsWord n))
+
+  pub head-paged : n ≡ packetCount b → offset ≡ packetsOffset b → filled ≡ length (packetsWord ++ decimal n ++ newline) → page' ≡ written page 0 (packetsWord ++ decimal n ++ newline) → Filled page' filled (pageFrom b (length page') filled offset n) r page'' → Paged page (headPage b (length page)) r page''
+  unfolding headLine
+  head-paged count at f w rest =
+      let whole = subst (λ (k : ℕ). Filled page' filled (pageFrom b k filled offset n) r page'') (head-room f w) rest in
+      rw (sym count, sym at, sym f)
+      (paged page page'' (behind (packetsWord ++ decimal n ++ newline) (pageFrom b (length page) filled offset n)) r (
+        both page page' page'' _ _ 0 filled (r .filled) (omega arith) (f ∙ sym (zero-add _), w) (whole .0),
+        whole .1,
+        whole .2,
+      ))

@@ -74,6 +74,10 @@ pub line-length : (a : PacketAnswer) → length (lineOf a) ≤ 19
 unfolding lineOf
 line-length a = omega (arith, length-append (answerText a) newline, answer-length a)
 
+pub numbered-length : (word : List ℕ) (n : ℕ) → length (word ++ decimal n ++ newline) ≤ length word + 6
+numbered-length word n =
+    omega (arith, length-append (word ++ decimal n) newline, length-append word (decimal n), decimal-length n)
+
 -- One text, and another behind it.
 pub both : (page page' page'' t u : List ℕ) (at next last : ℕ) → at ≤ length page → Put page at t next page' → Put page' next u last page'' → Put page at (t ++ u) last page''
 both page page' page'' t u at next last inside first second =

@@ -70,19 +70,25 @@ listLies b = leb 8 (length b) && areaFits (listOffset b) (listLength b) b
 unfoldable pub nextPage : List ℕ → ℕ → ℕ → ℕ → Page
 nextPage b size left at = cond (listLies b) (pageFrom b size 0 at left) (fullPage 0 at)
 
+abbrev pub refusedPage : ℕ → Page
+refusedPage n = record { text = refusedLine n; left = 0; at = 0 }
+
 -- The first page: the line that comes first, and as many of the packets' as find room.
-abbrev pub firstOf : BundleCheck → List ℕ → ℕ → Page
-firstOf check.Good b size =
+abbrev pub headPage : List ℕ → ℕ → Page
+headPage b size =
     behind (headLine (packetCount b)) (pageFrom b size (length (headLine (packetCount b))) (packetsOffset b) (packetCount b))
-firstOf check.DoesNotFit b size = record { text = refusedLine 12; left = 0; at = 0 }
-firstOf check.ListDoesNotFit b size = record { text = refusedLine 9; left = 0; at = 0 }
-firstOf (check.BadRecord i) b size = record { text = refusedLine 10; left = 0; at = 0 }
+
+abbrev pub firstOf : BundleCheck → List ℕ → ℕ → Page
+firstOf check.Good b size = headPage b size
+firstOf check.DoesNotFit b size = refusedPage 12
+firstOf check.ListDoesNotFit b size = refusedPage 9
+firstOf (check.BadRecord i) b size = refusedPage 10
 
 -- A page of under 19 bytes takes nothing.
 unfoldable pub firstPage : List ℕ → Bool → ℕ → Page
 firstPage b longer size =
     cond (leb 19 size)
-    (cond longer (record { text = refusedLine 12; left = 0; at = 0 }) (firstOf (checkBundle b) b size))
+    (cond longer (refusedPage 12) (firstOf (checkBundle b) b size))
     (fullPage 0 0)
 
 -- What a function hands back of a page: how many bytes it has, and what is left.
@@ -96,3 +102,7 @@ Put page at text next page' = (next ≡ at + length text) × (page' ≡ written 
 -- A page's text was put behind what filled the page before.
 abbrev pub Filled : List ℕ → ℕ → Page → Progress → List ℕ → Type 0
 Filled page filled p r page' = Put page filled (p .text) (r .filled) page' × (r .left ≡ p .left) × (r .at ≡ p .at)
+
+-- A page's text was put at the start of the page, and the progress is the page's.
+abbrev pub Paged : List ℕ → Page → Progress → List ℕ → Type 0
+Paged page p r page' = (r ≡ progressOf p) × (page' ≡ written page 0 (p .text))

@@ -20,6 +20,9 @@ use tcp::Mss;
 mod pages;
 mod text;
 
+pub use pages::first_page;
+pub use pages::next_page;
+
 // A bundle is well formed, or refused: 12, 9, or 10 with the index of its list's first bad record.
 pub enum BundleCheck {
     Good,
@@ -182,9 +185,5 @@ pub(crate) fn answer_at_place(bundle: &[u8], at: usize) -> PacketAnswer
     let end = packet_end(bundle, at);
     let list_start = be16(bundle[6], bundle[7]) as usize;
     let list_end = list_start + be16(bundle[4], bundle[5]) as usize;
-    answer_packet(
-        &bundle[start..end],
-        peer,
-        &bundle[list_start..list_end],
-    )
+    answer_packet(&bundle[start..end], peer, &bundle[list_start..list_end])
 }

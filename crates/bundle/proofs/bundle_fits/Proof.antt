@@ -50,7 +50,7 @@ add-if3 c = search needs
 
 returns-3 : tie.Need-returns-3
 unfolding bundleFits be16
-returns-3 c = 
+returns-3 c =
     let b = c .before .before .before .before .before .before .before .before .before .before .args .bundle .now in
     rw (le-leb (length b) 65535 (omega arith), le-leb 8 (length b) (omega arith), lt-leb (listOffset b + listLength b) (length b) (omega arith))
 
@@ -83,7 +83,7 @@ packets-fit-requires c κs = search needs
 
 returns-4 : tie.Need-returns-4
 unfolding bundleFits be16
-returns-4 c = 
+returns-4 c =
     let b = c .before .before .before .before .before .before .before .before .before .before .before .before .before .before .before .before .before .args .bundle .now in
     rw (le-leb (length b) 65535 (omega arith), le-leb 8 (length b) (omega arith), le-leb (listOffset b + listLength b) (length b) (omega arith), c .packets-fit .ensures, c .before .be164 .ensures, c .before .before .before .before .be163 .ensures)
 

@@ -25,7 +25,7 @@ use Rattle.bundle.proofs.packet_fits.Reads as packet-fits-reads
 use Rattle.bundle.proofs.text.put_line.Reads as put-line-reads
 
 abbrev Inv-loop : tie.InvT-loop
-Inv-loop bundle page₀ filled₀ left₀ at₀ page filled left at = 
+Inv-loop bundle page₀ filled₀ left₀ at₀ page filled left at =
     (filled ≤ length page)
     × (length page ≡ length page₀)
     × ((r : Progress) (p : List ℕ) → Filled page filled (pageFrom bundle (length page₀) filled at left) r p → Filled page₀ filled₀ (pageFrom bundle (length page₀) filled₀ at₀ left₀) r p)
@@ -70,8 +70,8 @@ loop-less : tie.Need-loop-less Inv-loop μ-loop
 loop-less c = search needs
 
 loop-again : tie.Need-loop-again Inv-loop μ-loop
-loop-again c = 
-    let a = c .before .before .before .before .before .before .before .before .before .before .before .before .before .args in 
+loop-again c =
+    let a = c .before .before .before .before .before .before .before .before .before .before .before .before .before .args in
     let l = c .before .before .before .before .before .before .before .before .before .before .loop in
     let put = c .before .before .before .put-line in
     let line = c .before .before .before .before .answer-at-place .result in
