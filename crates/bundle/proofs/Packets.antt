@@ -4,6 +4,7 @@ use mathlib.Core.Bool.{Bool, true, false, cond, _&&_}
 use mathlib.Core.List.{List}
 use Prim.Native.Nat.{ℕ, zero, suc, _+_, _-_, _<_, _≤_}
 use native.Mathlib.Omega.{arith}
+use native.Mathlib.Numerals.{add-one}
 use lib.Dec.{leb}
 use lib.ListN.{length}
 use borrow.Author.Tests.{leb-true}
@@ -12,6 +13,7 @@ use Rattle.siglist.specs.List.{checkList}
 use Rattle.bundle.specs.declared.BundleCheck.{BundleCheck}
 use Rattle.bundle.specs.declared.BundleCheck.the-variants as check
 use Rattle.bundle.specs.Pages.{listLies}
+use Rattle.bundle.specs.Answers.{startOf}
 use Rattle.bundle.specs.Bundle.{listLength, listOffset, packetEnd, packetFits, packetsFit, packetsOffset, packetCount, bundleFits, checkBundle, bundleRefusal, ofList, listOf}
 
 module _ (b : List ℕ) (at : ℕ) (fits : packetFits b at ≡ true) where
@@ -44,6 +46,16 @@ module _ (b : List ℕ) (at i n : ℕ) (inside : i < n) where
 pub packets-end : (b : List ℕ) (at i n : ℕ) → n ≤ i → packetsFit b at (n - i) ≡ leb at (length b)
 unfolding packetsFit
 packets-end b at i n h = let none : n - i ≡ 0 = omega arith in rw none
+
+-- Of some packets that fit, the first does, and so do the others.
+module _ (b : List ℕ) (at i n : ℕ) (inside : i < n) (fit : packetsFit b at (n - i) ≡ true) where
+  pub first-fits : packetFits b at ≡ true
+  unfolding packetsFit
+  first-fits = and-left (packetFits b at) _ (sym (ap (packetsFit b at) (more b at i n inside)) ∙ fit)
+
+  pub rest-fits : packetsFit b (packetEnd b at) (n - (i + 1)) ≡ true
+  unfolding packetsFit
+  rest-fits = and-right (packetFits b at) _ (sym (ap (packetsFit b at) (more b at i n inside)) ∙ fit)
 
 -- ---- a bundle that fits
 
@@ -85,3 +97,11 @@ lies-within b e = (
   leb-true 8 (length b) (and-left (leb 8 (length b)) _ e),
   leb-true (listOffset b + listLength b) (length b) (and-right (leb 8 (length b)) _ e),
 )
+
+pub start-next : (b : List ℕ) (i : ℕ) → startOf b (i + 1) ≡ packetEnd b (startOf b i)
+unfolding startOf
+start-next b i = rw add-one
+
+pub start-first : (b : List ℕ) → startOf b 0 ≡ packetsOffset b
+unfolding startOf
+start-first b = refl

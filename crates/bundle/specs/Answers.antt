@@ -1,5 +1,6 @@
 -- The answer of a packet against a list, of a bundle's packet, and of the whole bundle as the list of its answers.
 use Prim.Native.Nat.{ℕ, zero, suc}
+use lib.Dec.{ltb}
 use mathlib.Core.Bool.{cond}
 use mathlib.Core.List.{List, [], _∷_}
 use Rattle.tcp.specs.declared.Mss.{Mss}
@@ -13,6 +14,8 @@ use Rattle.bundle.specs.declared.BundleCheck.{BundleCheck}
 use Rattle.bundle.specs.declared.BundleCheck.the-variants as check
 use Rattle.bundle.specs.declared.PacketAnswer.{PacketAnswer}
 use Rattle.bundle.specs.declared.PacketAnswer.the-variants as packet
+use Rattle.bundle.specs.declared.AnswerAt.{AnswerAt}
+use Rattle.bundle.specs.declared.AnswerAt.the-variants as at
 use Rattle.bundle.specs.Bundle.{packetCount, packetsOffset, listOf, packetBytes, packetPeer, packetEnd, packetFits, checkBundle}
 
 -- A SYN or SYN+ACK is searched for in the list; nothing and a refusal stay what they are.
@@ -37,6 +40,16 @@ answerAt b at = answerOf (packetBytes b at) (packetPeer b at) (listOf b)
 unfoldable pub startOf : List ℕ → ℕ → ℕ
 startOf b zero = packetsOffset b
 startOf b (suc i) = packetEnd b (startOf b i)
+
+-- The answer of a bundle's packet i.
+abbrev pub packetAfter : BundleCheck → List ℕ → ℕ → AnswerAt
+packetAfter check.Good b i = cond (ltb i (packetCount b)) (at.Answer (answerAt b (startOf b i))) at.NoPacket
+packetAfter check.DoesNotFit b i = at.Refused check.DoesNotFit
+packetAfter check.ListDoesNotFit b i = at.Refused check.ListDoesNotFit
+packetAfter (check.BadRecord j) b i = at.Refused (check.BadRecord j)
+
+unfoldable pub packetAnswer : List ℕ → ℕ → AnswerAt
+packetAnswer b i = packetAfter (checkBundle b) b i
 
 -- The answers of so many packets from a place on. A packet that does not fit ends the row; no bundle that passes its check has one.
 unfoldable pub answersFrom : List ℕ → ℕ → ℕ → List PacketAnswer

@@ -1,12 +1,12 @@
 // The bundle (document 01, "The bundle program"): added by the port. A bundle is checked first, then each packet has its answer.
 ghost use mathlib.Core.Path.{_≡_};
-ghost use mathlib.Core.Bool.{_&&_};
-ghost use Prim.Native.Nat.{_+_, _≤_};
+ghost use mathlib.Core.Bool.{true};
+ghost use Prim.Native.Nat.{_+_, _≤_, _<_};
 ghost use lib.ListN.{length};
 ghost use Rattle.basis.specs.Bytes.{be16};
 ghost use Rattle.siglist.specs.List.{areaFits, checkList};
-ghost use Rattle.bundle.specs.Bundle.{listLength, listOffset, listOf, peerOf, packetEnd, packetFits, packetsFit, bundleFits, checkBundle, bundleRefusal};
-ghost use Rattle.bundle.specs.Answers.{answerOf, answerAt};
+ghost use Rattle.bundle.specs.Bundle.{packetCount, listLength, listOffset, listOf, peerOf, packetEnd, packetFits, packetsFit, bundleFits, checkBundle, bundleRefusal};
+ghost use Rattle.bundle.specs.Answers.{answerOf, answerAt, startOf, packetAfter, packetAnswer};
 use flow::Answer;
 use flow::Refusal;
 use flow::read_packet;
@@ -45,6 +45,13 @@ pub enum PacketAnswer {
     SynAck(Found),
     Nothing,
     Refused(Refusal),
+}
+
+// The answer of a bundle's packet, or why there is none: the bundle is refused, or has no such packet.
+pub enum AnswerAt {
+    Answer(PacketAnswer),
+    NoPacket,
+    Refused(BundleCheck),
 }
 
 const MOST: usize = 65535;
@@ -186,4 +193,41 @@ pub(crate) fn answer_at_place(bundle: &[u8], at: usize) -> PacketAnswer
     let list_start = be16(bundle[6], bundle[7]) as usize;
     let list_end = list_start + be16(bundle[4], bundle[5]) as usize;
     answer_packet(&bundle[start..end], peer, &bundle[list_start..list_end])
+}
+
+// Where a packet starts, in a bundle that fits.
+fn place_of(bundle: &[u8], i: usize) -> usize
+    requires { ⌜ (bundleFits (now bundle) ≡ true) × (i < packetCount (now bundle)) ⌝ }
+    ensures { λ r. ⌜ (r ≡ startOf (now (bundle .entry)) i) × (packetFits (now (bundle .entry)) r ≡ true) ⌝ }
+{
+    let mut at = be16(bundle[2], bundle[3]) as usize;
+    let mut k = 0;
+    while k < i {
+        at = packet_end(bundle, at);
+        k += 1;
+    }
+    at
+}
+
+fn answer_of(bundle: &[u8], i: usize) -> AnswerAt
+    requires { ⌜ bundleFits (now bundle) ≡ true ⌝ }
+    ensures { λ r. ⌜ r ≡ packetAfter BundleCheck.Good (now (bundle .entry)) i ⌝ }
+{
+    let count = be16(bundle[0], bundle[1]) as usize;
+    if count <= i {
+        return AnswerAt::NoPacket;
+    }
+    AnswerAt::Answer(answer_at_place(bundle, place_of(bundle, i)))
+}
+
+// The answer of a bundle's packet, counted from 0.
+pub fn answer_at(bundle: &[u8], i: usize) -> AnswerAt
+    ensures { λ r. ⌜ r ≡ packetAnswer (now (bundle .entry)) i ⌝ }
+{
+    match check_bundle(bundle) {
+        BundleCheck::Good => answer_of(bundle, i),
+        BundleCheck::DoesNotFit => AnswerAt::Refused(BundleCheck::DoesNotFit),
+        BundleCheck::ListDoesNotFit => AnswerAt::Refused(BundleCheck::ListDoesNotFit),
+        BundleCheck::BadRecord(j) => AnswerAt::Refused(BundleCheck::BadRecord(j)),
+    }
 }
