@@ -1,9 +1,9 @@
--- `matching::window_size_matches` meets its contract.
+-- `distances::window_size_matches` meets its contract.
 use Rattle.basis.proofs.Rules.{cases}
-use Rattle.matching.specs.Gates.{windowMatches}
+use Rattle.distances.specs.Gates.{windowMatches}
 use borrow.Author.Needs.{needs}
-use Rattle.matching.proofs.window_size_matches.Statement.{statement}
-use Rattle.matching.proofs.window_size_matches.Tie as tie
+use Rattle.distances.proofs.window_size_matches.Statement.{statement}
+use Rattle.distances.proofs.window_size_matches.Tie as tie
 
 enum-told : tie.Need-enum-told
 enum-told c = search needs

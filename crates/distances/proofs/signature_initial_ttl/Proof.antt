@@ -1,8 +1,8 @@
--- `matching::signature_initial_ttl` meets its contract.
+-- `distances::signature_initial_ttl` meets its contract.
 use Rattle.basis.proofs.Rules.{cases}
 use borrow.Author.Needs.{needs}
-use Rattle.matching.proofs.signature_initial_ttl.Statement.{statement}
-use Rattle.matching.proofs.signature_initial_ttl.Tie as tie
+use Rattle.distances.proofs.signature_initial_ttl.Statement.{statement}
+use Rattle.distances.proofs.signature_initial_ttl.Tie as tie
 
 enum-known-signature : tie.Need-enum-known-signature
 enum-known-signature c = search needs

@@ -1,8 +1,8 @@
--- `matching::payload_size_matches` meets its contract.
-use Rattle.matching.specs.Gates.{payloadMatches}
+-- `distances::payload_size_matches` meets its contract.
+use Rattle.distances.specs.Gates.{payloadMatches}
 use borrow.Author.Needs.{needs}
-use Rattle.matching.proofs.payload_size_matches.Statement.{statement}
-use Rattle.matching.proofs.payload_size_matches.Tie as tie
+use Rattle.distances.proofs.payload_size_matches.Statement.{statement}
+use Rattle.distances.proofs.payload_size_matches.Tie as tie
 
 enum-told : tie.Need-enum-told
 enum-told c = search needs

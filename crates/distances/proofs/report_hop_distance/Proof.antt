@@ -1,9 +1,9 @@
--- `matching::report_hop_distance` meets its contract.
+-- `distances::report_hop_distance` meets its contract.
 use Rattle.basis.proofs.Rules.{cases}
-use Rattle.matching.specs.Tolerance.{reportedHops}
+use Rattle.distances.specs.Distances.{reportedHops}
 use borrow.Author.Needs.{needs}
-use Rattle.matching.proofs.report_hop_distance.Statement.{statement}
-use Rattle.matching.proofs.report_hop_distance.Tie as tie
+use Rattle.distances.proofs.report_hop_distance.Statement.{statement}
+use Rattle.distances.proofs.report_hop_distance.Tie as tie
 
 observed-ttl-requires : tie.Need-observed-ttl-requires
 observed-ttl-requires c κs = search needs

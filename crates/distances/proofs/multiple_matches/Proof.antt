@@ -1,8 +1,8 @@
--- `matching::multiple_matches` meets its contract.
+-- `distances::multiple_matches` meets its contract.
 use Rattle.basis.proofs.Rules.{cases}
 use borrow.Author.Needs.{needs}
-use Rattle.matching.proofs.multiple_matches.Statement.{statement}
-use Rattle.matching.proofs.multiple_matches.Tie as tie
+use Rattle.distances.proofs.multiple_matches.Statement.{statement}
+use Rattle.distances.proofs.multiple_matches.Tie as tie
 
 enum-told : tie.Need-enum-told
 enum-told c = search needs

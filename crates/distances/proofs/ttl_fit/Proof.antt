@@ -1,12 +1,12 @@
--- `matching::ttl_fit` meets its contract.
+-- `distances::ttl_fit` meets its contract.
 use native.Mathlib.Omega.{arith}
 use Prim.Native.Nat.{_-_}
 use mathlib.Core.Path.{_≡_}
 use Rattle.basis.proofs.Rules.{cases}
-use Rattle.matching.specs.Tolerance.{ttlFit}
+use Rattle.distances.specs.Distances.{ttlFit}
 use borrow.Author.Needs.{needs}
-use Rattle.matching.proofs.ttl_fit.Statement.{statement}
-use Rattle.matching.proofs.ttl_fit.Tie as tie
+use Rattle.distances.proofs.ttl_fit.Statement.{statement}
+use Rattle.distances.proofs.ttl_fit.Tie as tie
 
 signature-initial-ttl-requires : tie.Need-signature-initial-ttl-requires
 signature-initial-ttl-requires c κs = search needs

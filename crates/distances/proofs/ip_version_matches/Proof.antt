@@ -1,8 +1,8 @@
--- `matching::ip_version_matches` meets its contract.
-use Rattle.matching.specs.Gates.{versionMatches}
+-- `distances::ip_version_matches` meets its contract.
+use Rattle.distances.specs.Gates.{versionMatches}
 use borrow.Author.Needs.{needs}
-use Rattle.matching.proofs.ip_version_matches.Statement.{statement}
-use Rattle.matching.proofs.ip_version_matches.Tie as tie
+use Rattle.distances.proofs.ip_version_matches.Statement.{statement}
+use Rattle.distances.proofs.ip_version_matches.Tie as tie
 
 enum-told : tie.Need-enum-told
 enum-told c = search needs
