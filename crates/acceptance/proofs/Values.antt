@@ -13,7 +13,7 @@ use Rattle.syn_options.specs.Options.{asked, runsPast, optionsAfter}
 use Rattle.syn_options.specs.Walk.{entryByte, putEntry, laterMss, laterScale, trailingNonzero, excessiveScaling, ownTimestampZero, peerTimestampNonzero, shownQuirks, seeOption, walkFrom, walkOf, parseOptionsRaw}
 use Rattle.observable.specs.Observation.{holdsKind, ownTimestampNonzero, windowMultiplier}
 use Rattle.flow.specs.Flags.{maskedType, flagsInvalid, isSynType}
-use Rattle.flow.specs.Ip.{ipv4Quirks, ipv4Facts, readIpv4, readIp}
+use Rattle.ip.specs.Ip.{ipv4Quirks, ipv4Facts, readIpv4, readIp}
 use Rattle.flow.specs.Tcp.{headerQuirks, shownQuirks as showing, payloadClass, observationOf, observed, readTcp}
 use Rattle.flow.specs.Reading.{readPacket}
 use Rattle.distances.specs.Gates.{versionMatches, windowMatches, payloadMatches}

@@ -139,7 +139,7 @@ fn answer_packet(packet: &[u8], list: &[u8]) {
         Answer::Nothing => print(b"nothing\n"),
         Answer::Refused(refusal) => {
             print(b"refused ");
-            print_number(flow::refusal_number(refusal) as u64);
+            print_number(ip::refusal_number(refusal) as u64);
         }
     }
 }

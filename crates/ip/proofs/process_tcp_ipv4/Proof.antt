@@ -1,18 +1,18 @@
--- `flow::process_tcp_ipv4` meets its contract.
-use Rattle.flow.proofs.Ip.{v4-short, v4-facts}
-use Rattle.flow.specs.Ip.{ipv4Facts}
-use Rattle.flow.specs.declared.IpRead.the-variants.{Facts}
+-- `ip::process_tcp_ipv4` meets its contract.
+use Rattle.ip.proofs.Ip.{v4-short, v4-facts}
+use Rattle.ip.specs.Ip.{ipv4Facts}
+use Rattle.ip.specs.declared.IpRead.the-variants.{Facts}
 use Prim.Native.Nat.{_*_}
 use mathlib.Core.Path.{_≡_, ap₂}
-use Rattle.flow.specs.Ip.{readIpv4}
+use Rattle.ip.specs.Ip.{readIpv4}
 use Rattle.rfc.specs.Rfc791.{dataStart, dataEnd}
 use Rattle.basis.proofs.Rules.{cases}
 use Rattle.basis.specs.Bytes.{be16}
 use mathlib.Core.Path.{sym, _∙_, ap}
 use native.Mathlib.Omega.{arith}
 use borrow.Author.Needs.{needs}
-use Rattle.flow.proofs.process_tcp_ipv4.Statement.{statement}
-use Rattle.flow.proofs.process_tcp_ipv4.Tie as tie
+use Rattle.ip.proofs.process_tcp_ipv4.Statement.{statement}
+use Rattle.ip.proofs.process_tcp_ipv4.Tie as tie
 
 returns : tie.Need-returns
 unfolding readIpv4

@@ -1,10 +1,10 @@
--- `flow::ipv6_facts` meets its contract.
+-- `ip::ipv6_facts` meets its contract.
 use native.Mathlib.Omega.{arith}
-use Rattle.flow.specs.Ip.{ipv6Facts}
+use Rattle.ip.specs.Ip.{ipv6Facts}
 use Rattle.basis.specs.Bytes.{be16, be32}
 use borrow.Author.Needs.{needs}
-use Rattle.flow.proofs.ipv6_facts.Statement.{statement}
-use Rattle.flow.proofs.ipv6_facts.Tie as tie
+use Rattle.ip.proofs.ipv6_facts.Statement.{statement}
+use Rattle.ip.proofs.ipv6_facts.Tie as tie
 
 shared-slice-read-first : tie.Need-shared-slice-read-first
 shared-slice-read-first c = search needs

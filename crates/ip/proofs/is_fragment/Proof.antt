@@ -1,9 +1,9 @@
--- `flow::is_fragment` meets its contract.
-use Rattle.flow.proofs.Flags.{fragment-high, fragment-low}
+-- `ip::is_fragment` meets its contract.
+use Rattle.ip.proofs.Fragments.{fragment-high, fragment-low}
 use mathlib.Core.Path.{sym}
 use borrow.Author.Needs.{needs}
-use Rattle.flow.proofs.is_fragment.Statement.{statement}
-use Rattle.flow.proofs.is_fragment.Tie as tie
+use Rattle.ip.proofs.is_fragment.Statement.{statement}
+use Rattle.ip.proofs.is_fragment.Tie as tie
 
 returns : tie.Need-returns
 returns c = sym (fragment-high _ _ (c .if1 .taken))

@@ -14,10 +14,10 @@ use Rattle.rfc.specs.Rfc8200 as v6
 use Rattle.tcp.specs.declared.IpVersion.the-variants as version
 use Rattle.ttl.specs.Ttl.{readingOf}
 use Rattle.ip_options.specs.IpOptions.{ipv4OptionLength, ipv6ExtensionLength}
-use Rattle.flow.specs.declared.IpFacts.{IpFacts}
-use Rattle.flow.specs.declared.IpRead.{IpRead}
-use Rattle.flow.specs.declared.IpRead.the-variants as ip
-use Rattle.flow.specs.declared.Refusal.the-variants as refusal
+use Rattle.ip.specs.declared.IpFacts.{IpFacts}
+use Rattle.ip.specs.declared.IpRead.{IpRead}
+use Rattle.ip.specs.declared.IpRead.the-variants as ip
+use Rattle.ip.specs.declared.Refusal.the-variants as refusal
 
 -- ---- IPv4
 

@@ -1,17 +1,17 @@
--- `flow::process_tcp_ipv6` meets its contract.
-use Rattle.flow.proofs.Ip.{v6-short, v6-facts}
-use Rattle.flow.specs.Ip.{ipv6Facts}
-use Rattle.flow.specs.declared.IpRead.the-variants.{Facts}
+-- `ip::process_tcp_ipv6` meets its contract.
+use Rattle.ip.proofs.Ip.{v6-short, v6-facts}
+use Rattle.ip.specs.Ip.{ipv6Facts}
+use Rattle.ip.specs.declared.IpRead.the-variants.{Facts}
 use mathlib.Core.Path.{_≡_}
-use Rattle.flow.specs.Ip.{readIpv6}
+use Rattle.ip.specs.Ip.{readIpv6}
 use Rattle.rfc.specs.Rfc8200.{payloadEnd}
 use Rattle.basis.proofs.Rules.{cases}
 use Rattle.basis.specs.Bytes.{be16}
 use mathlib.Core.Path.{sym, _∙_, ap}
 use native.Mathlib.Omega.{arith}
 use borrow.Author.Needs.{needs}
-use Rattle.flow.proofs.process_tcp_ipv6.Statement.{statement}
-use Rattle.flow.proofs.process_tcp_ipv6.Tie as tie
+use Rattle.ip.proofs.process_tcp_ipv6.Statement.{statement}
+use Rattle.ip.proofs.process_tcp_ipv6.Tie as tie
 
 returns : tie.Need-returns
 unfolding readIpv6

@@ -1,9 +1,9 @@
--- `flow::ipv6_quirks` meets its contract.
-use Rattle.flow.specs.Ip.{ipv6Quirks}
+-- `ip::ipv6_quirks` meets its contract.
+use Rattle.ip.specs.Ip.{ipv6Quirks}
 use Rattle.quirks.proofs.Named.{empty-bits}
 use borrow.Author.Needs.{needs}
-use Rattle.flow.proofs.ipv6_quirks.Statement.{statement}
-use Rattle.flow.proofs.ipv6_quirks.Tie as tie
+use Rattle.ip.proofs.ipv6_quirks.Statement.{statement}
+use Rattle.ip.proofs.ipv6_quirks.Tie as tie
 
 add-if-requires : tie.Need-add-if-requires
 add-if-requires c κs = search needs

@@ -1,9 +1,9 @@
--- `flow::read_ip` meets its contract.
-use Rattle.flow.specs.Ip.{readIp}
+-- `ip::read_ip` meets its contract.
+use Rattle.ip.specs.Ip.{readIp}
 use Rattle.basis.proofs.Rules.{cases}
 use borrow.Author.Needs.{needs}
-use Rattle.flow.proofs.read_ip.Statement.{statement}
-use Rattle.flow.proofs.read_ip.Tie as tie
+use Rattle.ip.proofs.read_ip.Statement.{statement}
+use Rattle.ip.proofs.read_ip.Tie as tie
 
 returns : tie.Need-returns
 unfolding readIp

@@ -1,8 +1,8 @@
--- `flow::refusal_number` meets its contract.
-use Rattle.flow.specs.Reading.{number}
+-- `ip::refusal_number` meets its contract.
+use Rattle.ip.specs.Numbers.{number}
 use borrow.Author.Needs.{needs}
-use Rattle.flow.proofs.refusal_number.Statement.{statement}
-use Rattle.flow.proofs.refusal_number.Tie as tie
+use Rattle.ip.proofs.refusal_number.Statement.{statement}
+use Rattle.ip.proofs.refusal_number.Tie as tie
 
 enum-told : tie.Need-enum-told
 enum-told c = search needs

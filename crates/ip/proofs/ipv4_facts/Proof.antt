@@ -1,9 +1,9 @@
--- `flow::ipv4_facts` meets its contract.
-use Rattle.flow.specs.Ip.{ipv4Facts}
+-- `ip::ipv4_facts` meets its contract.
+use Rattle.ip.specs.Ip.{ipv4Facts}
 use Rattle.basis.specs.Bytes.{be16}
 use borrow.Author.Needs.{needs}
-use Rattle.flow.proofs.ipv4_facts.Statement.{statement}
-use Rattle.flow.proofs.ipv4_facts.Tie as tie
+use Rattle.ip.proofs.ipv4_facts.Statement.{statement}
+use Rattle.ip.proofs.ipv4_facts.Tie as tie
 
 shared-slice-read-fields : tie.Need-shared-slice-read-fields
 shared-slice-read-fields c = search needs
