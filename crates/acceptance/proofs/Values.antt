@@ -9,8 +9,9 @@ use Rattle.basis.specs.Tests.{allBelow}
 use Rattle.quirks.specs.Quirks.{placeOf, bitOf, holds, contains, isEmpty, with, addIf, difference}
 use Rattle.quirks.specs.Named.{fromQuirks, displayOrder, empty, fuzzyDeletable, fuzzyAddable, maskWhenObsV4, maskWhenObsV6, seventeen}
 use Rattle.ip_options.specs.IpOptions.{ipv4OptionLength}
-use Rattle.syn_options.specs.Options.{asked, runsPast, optionsAfter}
-use Rattle.syn_options.specs.Walk.{entryByte, putEntry, laterMss, laterScale, trailingNonzero, excessiveScaling, ownTimestampZero, peerTimestampNonzero, shownQuirks, seeOption, walkFrom, walkOf, parseOptionsRaw}
+use Rattle.one_option.specs.Options.{asked, runsPast, optionsAfter}
+use Rattle.one_option.specs.See.{laterMss, laterScale, trailingNonzero, excessiveScaling, ownTimestampZero, peerTimestampNonzero, shownQuirks, seeOption}
+use Rattle.syn_options.specs.Walk.{entryByte, putEntry, walkFrom, walkOf, parseOptionsRaw}
 use Rattle.observable.specs.Observation.{holdsKind, ownTimestampNonzero, windowMultiplier}
 use Rattle.flow.specs.Flags.{maskedType, flagsInvalid, isSynType}
 use Rattle.ip.specs.Ip.{ipv4Quirks, ipv4Facts, readIpv4, readIp}

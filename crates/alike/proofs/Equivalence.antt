@@ -7,7 +7,7 @@ use lib.ListN.{length}
 use Rattle.basis.specs.Bytes.{byteAt}
 use Rattle.rfc.specs.Rfc791.{version}
 use Rattle.rfc.specs.Rfc9293.{options}
-use Rattle.syn_options.specs.Options.{Opt, optionsOf}
+use Rattle.one_option.specs.Options.{Opt, optionsOf}
 use Rattle.ip.specs.declared.IpRead.{IpRead}
 use Rattle.ip.specs.Ip.{readIp}
 use Rattle.alike.specs.Options.{Agree, AlikeStamps, AlikeOption, AlikeRow}

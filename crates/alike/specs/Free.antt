@@ -8,7 +8,7 @@ use Rattle.basis.specs.Bytes.{byteAt, be32}
 use Rattle.rfc.specs.Rfc791 as v4
 use Rattle.rfc.specs.Rfc8200 as v6
 use Rattle.rfc.specs.Rfc9293 as tcp
-use Rattle.syn_options.specs.Options.{asked}
+use Rattle.one_option.specs.Options.{asked}
 use Rattle.ip.specs.declared.IpFacts.{IpFacts}
 use Rattle.ip.specs.declared.IpRead.the-variants as ip
 use Rattle.ip.specs.Ip.{readIp}

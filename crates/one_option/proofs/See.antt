@@ -17,9 +17,9 @@ use Rattle.tcp.specs.declared.Mss.{Mss}
 use Rattle.tcp.specs.declared.Mss.the-variants as mss
 use Rattle.tcp.specs.declared.Wscale.{Wscale}
 use Rattle.tcp.specs.declared.Wscale.the-variants as wscale
-use Rattle.syn_options.specs.declared.Seen.{Seen}
-use Rattle.syn_options.specs.Options.{Opt}
-use Rattle.syn_options.specs.Walk.{laterMss, laterScale, trailingNonzero, excessiveScaling, ownTimestampZero, peerTimestampNonzero, shownQuirks, seeOption}
+use Rattle.one_option.specs.declared.Seen.{Seen}
+use Rattle.one_option.specs.Options.{Opt}
+use Rattle.one_option.specs.See.{laterMss, laterScale, trailingNonzero, excessiveScaling, ownTimestampZero, peerTimestampNonzero, shownQuirks, seeOption}
 
 -- An option of a kind with these own bytes.
 abbrev pub opt : ℕ → List ℕ → Opt

@@ -1,11 +1,11 @@
--- `syn_options::later_quirks` meets its contract.
-use Rattle.syn_options.proofs.See.{opt, other-quirks}
-use Rattle.syn_options.specs.Walk.{shownQuirks}
+-- `one_option::later_quirks` meets its contract.
+use Rattle.one_option.proofs.See.{opt, other-quirks}
+use Rattle.one_option.specs.See.{shownQuirks}
 use Prim.Native.Nat.{ℕ}
 use mathlib.Core.Path.{sym, _∙_, ap}
 use borrow.Author.Needs.{needs}
-use Rattle.syn_options.proofs.later_quirks.Statement.{statement}
-use Rattle.syn_options.proofs.later_quirks.Tie as tie
+use Rattle.one_option.proofs.later_quirks.Statement.{statement}
+use Rattle.one_option.proofs.later_quirks.Tie as tie
 
 stamp-quirks-requires : tie.Need-stamp-quirks-requires
 stamp-quirks-requires c κs = search needs

@@ -1,12 +1,12 @@
--- `syn_options::later_mss` meets its contract.
-use Rattle.syn_options.proofs.See.{no-mss, short-mss, enough-mss}
+-- `one_option::later_mss` meets its contract.
+use Rattle.one_option.proofs.See.{no-mss, short-mss, enough-mss}
 use Prim.Native.Nat.{_<_, _≤_}
 use lib.ListN.{length}
 use native.Mathlib.Omega.{arith}
 use mathlib.Core.Path.{sym, _∙_}
 use borrow.Author.Needs.{needs}
-use Rattle.syn_options.proofs.later_mss.Statement.{statement}
-use Rattle.syn_options.proofs.later_mss.Tie as tie
+use Rattle.one_option.proofs.later_mss.Statement.{statement}
+use Rattle.one_option.proofs.later_mss.Tie as tie
 
 returns : tie.Need-returns
 returns c =

@@ -1,12 +1,12 @@
--- `syn_options::later_scale` meets its contract.
-use Rattle.syn_options.proofs.See.{no-scale, short-scale, enough-scale}
+-- `one_option::later_scale` meets its contract.
+use Rattle.one_option.proofs.See.{no-scale, short-scale, enough-scale}
 use Prim.Native.Nat.{_<_, _≤_}
 use lib.ListN.{length}
 use native.Mathlib.Omega.{arith}
 use mathlib.Core.Path.{sym, _∙_}
 use borrow.Author.Needs.{needs}
-use Rattle.syn_options.proofs.later_scale.Statement.{statement}
-use Rattle.syn_options.proofs.later_scale.Tie as tie
+use Rattle.one_option.proofs.later_scale.Statement.{statement}
+use Rattle.one_option.proofs.later_scale.Tie as tie
 
 returns : tie.Need-returns
 returns c =

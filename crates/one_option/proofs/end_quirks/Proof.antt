@@ -1,9 +1,9 @@
--- `syn_options::end_quirks` meets its contract.
-use Rattle.syn_options.proofs.See.{end-of-options, quirks-of, opt, just}
+-- `one_option::end_quirks` meets its contract.
+use Rattle.one_option.proofs.See.{end-of-options, quirks-of, opt, just}
 use mathlib.Core.Path.{sym, _∙_}
 use borrow.Author.Needs.{needs}
-use Rattle.syn_options.proofs.end_quirks.Statement.{statement}
-use Rattle.syn_options.proofs.end_quirks.Tie as tie
+use Rattle.one_option.proofs.end_quirks.Statement.{statement}
+use Rattle.one_option.proofs.end_quirks.Tie as tie
 
 any-nonzero-requires : tie.Need-any-nonzero-requires
 any-nonzero-requires c κs = search needs

@@ -1,12 +1,12 @@
--- `syn_options::scale_quirks` meets its contract.
-use Rattle.syn_options.proofs.See.{scale-short, scale-enough, quirks-of, opt, just}
+-- `one_option::scale_quirks` meets its contract.
+use Rattle.one_option.proofs.See.{scale-short, scale-enough, quirks-of, opt, just}
 use Prim.Native.Nat.{_<_, _≤_}
 use lib.ListN.{length}
 use native.Mathlib.Omega.{arith}
 use mathlib.Core.Path.{sym, _∙_}
 use borrow.Author.Needs.{needs}
-use Rattle.syn_options.proofs.scale_quirks.Statement.{statement}
-use Rattle.syn_options.proofs.scale_quirks.Tie as tie
+use Rattle.one_option.proofs.scale_quirks.Statement.{statement}
+use Rattle.one_option.proofs.scale_quirks.Tie as tie
 
 returns : tie.Need-returns
 returns c =

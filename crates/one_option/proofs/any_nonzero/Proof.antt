@@ -1,4 +1,4 @@
--- `syn_options::any_nonzero` meets its contract.
+-- `one_option::any_nonzero` meets its contract.
 use mathlib.Core.Path.{_≡_, sym, _∙_}
 use Prim.Native.Nat.{_≤_, _-_}
 use native.Mathlib.Omega.{arith}
@@ -6,8 +6,8 @@ use lib.ListN.{length, drop}
 use Rattle.basis.specs.Bytes.{anyNonzero}
 use Rattle.basis.proofs.Bytes.{nonzero-here, zero-here, nonzero-end}
 use borrow.Author.Needs.{needs}
-use Rattle.syn_options.proofs.any_nonzero.Statement.{statement}
-use Rattle.syn_options.proofs.any_nonzero.Tie as tie
+use Rattle.one_option.proofs.any_nonzero.Statement.{statement}
+use Rattle.one_option.proofs.any_nonzero.Tie as tie
 
 abbrev Inv-loop : tie.InvT-loop
 Inv-loop s i₀ i = (i ≤ length s) × (anyNonzero (drop i s) ≡ anyNonzero s)

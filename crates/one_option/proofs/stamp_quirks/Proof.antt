@@ -1,13 +1,13 @@
--- `syn_options::stamp_quirks` meets its contract.
-use Rattle.syn_options.proofs.See.{stamps-none, stamps-own, stamps-both, quirks-of, opt, just}
+-- `one_option::stamp_quirks` meets its contract.
+use Rattle.one_option.proofs.See.{stamps-none, stamps-own, stamps-both, quirks-of, opt, just}
 use Rattle.basis.specs.Bytes.{be16, be32}
 use Prim.Native.Nat.{_<_, _≤_}
 use lib.ListN.{length}
 use native.Mathlib.Omega.{arith}
 use mathlib.Core.Path.{sym, _∙_}
 use borrow.Author.Needs.{needs}
-use Rattle.syn_options.proofs.stamp_quirks.Statement.{statement}
-use Rattle.syn_options.proofs.stamp_quirks.Tie as tie
+use Rattle.one_option.proofs.stamp_quirks.Statement.{statement}
+use Rattle.one_option.proofs.stamp_quirks.Tie as tie
 
 returns : tie.Need-returns
 returns c =

@@ -1,12 +1,12 @@
--- `syn_options::asked_bytes` meets its contract.
+-- `one_option::asked_bytes` meets its contract.
 use borrow.Author.Tests.{ne-eqb}
 use lib.ListN.{List·getD-eq-default}
-use Rattle.syn_options.specs.Options.{asked}
+use Rattle.one_option.specs.Options.{asked}
 use native.Mathlib.Omega.{arith}
 use Rattle.basis.proofs.Rules.{cases}
 use borrow.Author.Needs.{needs}
-use Rattle.syn_options.proofs.asked_bytes.Statement.{statement}
-use Rattle.syn_options.proofs.asked_bytes.Tie as tie
+use Rattle.one_option.proofs.asked_bytes.Statement.{statement}
+use Rattle.one_option.proofs.asked_bytes.Tie as tie
 
 returns : tie.Need-returns
 unfolding asked
