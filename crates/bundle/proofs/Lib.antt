@@ -1,3 +1,1 @@
 pub mod Packets
-pub mod Turns
-pub mod Writing

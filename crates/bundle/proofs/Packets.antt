@@ -12,9 +12,11 @@ use Rattle.basis.proofs.Tests.{and-left, and-right}
 use Rattle.siglist.specs.List.{checkList}
 use Rattle.bundle.specs.declared.BundleCheck.{BundleCheck}
 use Rattle.bundle.specs.declared.BundleCheck.the-variants as check
-use Rattle.bundle.specs.Pages.{listLies}
-use Rattle.bundle.specs.Answers.{startOf}
-use Rattle.bundle.specs.Bundle.{listLength, listOffset, packetEnd, packetFits, packetsFit, packetsOffset, packetCount, bundleFits, checkBundle, bundleRefusal, ofList, listOf}
+use Rattle.bundle.specs.declared.PacketAnswer.{PacketAnswer}
+use Rattle.bundle.specs.declared.PacketAt.{PacketAt}
+use Rattle.bundle.specs.declared.PacketAt.the-variants as there
+use Rattle.bundle.specs.Answers.{answerAt, packetLies, packetAt, startOf}
+use Rattle.bundle.specs.Bundle.{listLength, listOffset, packetEnd, packetFits, packetsFit, packetsOffset, packetCount, listLies, bundleFits, checkBundle, bundleRefusal, ofList, listOf}
 
 module _ (b : List ℕ) (at : ℕ) (fits : packetFits b at ≡ true) where
   pub head-within : at + 4 ≤ length b
@@ -105,3 +107,51 @@ start-next b i = rw add-one
 pub start-first : (b : List ℕ) → startOf b 0 ≡ packetsOffset b
 unfolding startOf
 start-first b = refl
+
+-- ---- what is at a place
+
+abbrev answerThere : PacketAnswer → PacketAt → PacketAnswer
+answerThere a there.NoPacket = a
+answerThere a (there.Packet found end) = found
+
+abbrev endThere : PacketAt → ℕ
+endThere there.NoPacket = 0
+endThere (there.Packet found end) = end
+
+abbrev isThere : PacketAt → ℕ
+isThere there.NoPacket = 0
+isThere (there.Packet found end) = 1
+
+-- A packet that is there lies within the bundle, and is the one that starts there.
+pub record There (b : List ℕ) (at : ℕ) (a : PacketAnswer) (end : ℕ) : Type 0 where
+  pub lies : packetLies b at ≡ true
+  pub answer : a ≡ answerAt b at
+  pub ends : end ≡ packetEnd b at
+
+module _ (b : List ℕ) (at : ℕ) where
+  there-if : packetLies b at ≡ true → packetAt b at ≡ there.Packet (answerAt b at) (packetEnd b at)
+  unfolding packetAt
+  there-if e = rw e
+
+  none-if : packetLies b at ≡ false → packetAt b at ≡ there.NoPacket
+  unfolding packetAt
+  none-if e = rw e
+
+  pub packet-there : (a : PacketAnswer) (end : ℕ) → packetAt b at ≡ there.Packet a end → There b at a end
+  packet-there a end e = by-lies (packetLies b at) refl
+    where
+      by-lies : (t : Bool) → packetLies b at ≡ t → There b at a end
+      by-lies true lies =
+          record {
+            lies = lies;
+            answer = ap (answerThere a) (sym e ∙ there-if lies);
+            ends = ap endThere (sym e ∙ there-if lies);
+          }
+      by-lies false lies = absurd (let z : _≡_ {A = ℕ} 1 0 = ap isThere (sym e ∙ none-if lies) in omega arith)
+
+  pub none-there : packetAt b at ≡ there.NoPacket → packetLies b at ≡ false
+  none-there e = by-lies (packetLies b at) refl
+    where
+      by-lies : (t : Bool) → packetLies b at ≡ t → t ≡ false
+      by-lies true lies = absurd (let z : _≡_ {A = ℕ} 0 1 = ap isThere (sym e ∙ there-if lies) in omega arith)
+      by-lies false lies = refl

@@ -1,7 +1,7 @@
 -- The answer of a packet against a list, of a bundle's packet, and of the whole bundle as the list of its answers.
 use Prim.Native.Nat.{ℕ, zero, suc}
 use lib.Dec.{ltb}
-use mathlib.Core.Bool.{cond}
+use mathlib.Core.Bool.{Bool, cond, _&&_}
 use mathlib.Core.List.{List, [], _∷_}
 use Rattle.tcp.specs.declared.Mss.{Mss}
 use Rattle.observable.specs.declared.TcpObservation.{TcpObservation}
@@ -9,14 +9,16 @@ use Rattle.flow.specs.declared.Answer.{Answer}
 use Rattle.flow.specs.declared.Answer.the-variants as reading
 use Rattle.flow.specs.declared.Reading.{Reading}
 use Rattle.flow.specs.Reading.{readPacket}
-use Rattle.siglist.specs.Search.{searchAll}
+use Rattle.search.specs.Search.{searchAll}
 use Rattle.bundle.specs.declared.BundleCheck.{BundleCheck}
 use Rattle.bundle.specs.declared.BundleCheck.the-variants as check
+use Rattle.bundle.specs.declared.PacketAt.{PacketAt}
+use Rattle.bundle.specs.declared.PacketAt.the-variants as there
 use Rattle.bundle.specs.declared.PacketAnswer.{PacketAnswer}
 use Rattle.bundle.specs.declared.PacketAnswer.the-variants as packet
 use Rattle.bundle.specs.declared.AnswerAt.{AnswerAt}
 use Rattle.bundle.specs.declared.AnswerAt.the-variants as at
-use Rattle.bundle.specs.Bundle.{packetCount, packetsOffset, listOf, packetBytes, packetPeer, packetEnd, packetFits, checkBundle}
+use Rattle.bundle.specs.Bundle.{packetCount, packetsOffset, listOf, packetBytes, packetPeer, packetEnd, listLies, packetFits, checkBundle}
 
 -- A SYN or SYN+ACK is searched for in the list; nothing and a refusal stay what they are.
 abbrev pub judged : Answer → TcpObservation → List ℕ → PacketAnswer
@@ -36,6 +38,14 @@ answerOf p peer l = afterReading (readPacket p peer) l
 unfoldable pub answerAt : List ℕ → ℕ → PacketAnswer
 answerAt b at = answerOf (packetBytes b at) (packetPeer b at) (listOf b)
 
+-- There is a packet at a place: it fits, and so does the list.
+unfoldable pub packetLies : List ℕ → ℕ → Bool
+packetLies b at = listLies b && packetFits b at
+
+-- What is at a place: no packet, or the answer of the one that starts there, and where it ends.
+unfoldable pub packetAt : List ℕ → ℕ → PacketAt
+packetAt b at = cond (packetLies b at) (there.Packet (answerAt b at) (packetEnd b at)) there.NoPacket
+
 -- Where packet i starts.
 unfoldable pub startOf : List ℕ → ℕ → ℕ
 startOf b zero = packetsOffset b
@@ -51,10 +61,10 @@ packetAfter (check.BadRecord j) b i = at.Refused (check.BadRecord j)
 unfoldable pub packetAnswer : List ℕ → ℕ → AnswerAt
 packetAnswer b i = packetAfter (checkBundle b) b i
 
--- The answers of so many packets from a place on. A packet that does not fit ends the row; no bundle that passes its check has one.
+-- The answers of so many packets from a place on. A place without a packet ends the row; no bundle that passes its check has one.
 unfoldable pub answersFrom : List ℕ → ℕ → ℕ → List PacketAnswer
 answersFrom b at zero = []
-answersFrom b at (suc n) = cond (packetFits b at) (answerAt b at ∷ answersFrom b (packetEnd b at) n) []
+answersFrom b at (suc n) = cond (packetLies b at) (answerAt b at ∷ answersFrom b (packetEnd b at) n) []
 
 -- The answer of a whole bundle: how its check ends, and the answers of its packets; none beside a refusal.
 pub record BundleAnswer : Type 0 where

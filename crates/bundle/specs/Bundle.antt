@@ -56,6 +56,10 @@ unfoldable pub packetsFit : List ℕ → ℕ → ℕ → Bool
 packetsFit b at zero = leb at (length b)
 packetsFit b at (suc n) = packetFits b at && packetsFit b (packetEnd b at) n
 
+-- The list lies within the bundle, behind a whole header or over it.
+unfoldable pub listLies : List ℕ → Bool
+listLies b = leb 8 (length b) && areaFits (listOffset b) (listLength b) b
+
 -- ---- refusals
 
 -- Refusal 12: "bundle over 65,535 bytes, or its header, list area or a packet does not fit".

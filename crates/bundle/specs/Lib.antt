@@ -1,4 +1,2 @@
 pub mod Answers
 pub mod Bundle
-pub mod Pages
-pub mod Text

@@ -5,23 +5,18 @@ ghost use Prim.Native.Nat.{_+_, _≤_, _<_};
 ghost use lib.ListN.{length};
 ghost use Rattle.basis.specs.Bytes.{be16};
 ghost use Rattle.siglist.specs.List.{areaFits, checkList};
-ghost use Rattle.bundle.specs.Bundle.{packetCount, listLength, listOffset, listOf, peerOf, packetEnd, packetFits, packetsFit, bundleFits, checkBundle, bundleRefusal};
-ghost use Rattle.bundle.specs.Answers.{answerOf, answerAt, startOf, packetAfter, packetAnswer};
+ghost use Rattle.bundle.specs.Bundle.{packetCount, listLength, listOffset, listOf, peerOf, packetEnd, packetFits, packetsFit, listLies, bundleFits, checkBundle, bundleRefusal};
+ghost use Rattle.bundle.specs.Answers.{answerOf, answerAt, packetAt, startOf, packetAfter, packetAnswer};
 use flow::Answer;
-use flow::Refusal;
+use ip::Refusal;
 use flow::read_packet;
 use numbers::be16;
-use siglist::Found;
+use search::Found;
 use siglist::ListAnswer;
 use siglist::check_list;
-use siglist::search_checked;
+use search::search_checked;
 use tcp::Mss;
 
-mod pages;
-mod text;
-
-pub use pages::first_page;
-pub use pages::next_page;
 
 // A bundle is well formed, or refused: 12, 9, or 10 with the index of its list's first bad record.
 pub enum BundleCheck {
@@ -29,14 +24,6 @@ pub enum BundleCheck {
     DoesNotFit,
     ListDoesNotFit,
     BadRecord(usize),
-}
-
-// How far the output of a bundle is: the bytes of the page, and the packets that are left, by their number and the place of the
-// first.
-pub struct Progress {
-    pub filled: usize,
-    pub left: usize,
-    pub at: usize,
 }
 
 // The answer of a packet: what its search finds, nothing, or a refusal 1 to 7.
@@ -54,6 +41,12 @@ pub enum AnswerAt {
     Refused(BundleCheck),
 }
 
+// What is at a place of a bundle: no packet, or the answer of the one that starts there, and where it ends.
+pub enum PacketAt {
+    NoPacket,
+    Packet(PacketAnswer, usize),
+}
+
 const MOST: usize = 65535;
 
 const HEADER: usize = 8;
@@ -64,7 +57,7 @@ const BEFORE: usize = 4;
 // ---- the check
 
 // The end of the packet that starts at a place.
-pub(crate) fn packet_end(bundle: &[u8], at: usize) -> usize
+fn packet_end(bundle: &[u8], at: usize) -> usize
     requires { ⌜ at + 4 ≤ length (now bundle) ⌝ }
     ensures { λ r. ⌜ r ≡ packetEnd (now (bundle .entry)) at ⌝ }
 {
@@ -72,7 +65,7 @@ pub(crate) fn packet_end(bundle: &[u8], at: usize) -> usize
     at + BEFORE + be16(bundle[length_at], bundle[length_at + 1]) as usize
 }
 
-pub(crate) fn packet_fits(bundle: &[u8], at: usize) -> bool
+fn packet_fits(bundle: &[u8], at: usize) -> bool
     ensures { λ r. ⌜ r ≡ packetFits (now (bundle .entry)) at ⌝ }
 {
     if bundle.len() < BEFORE {
@@ -183,7 +176,7 @@ pub fn answer_packet(packet: &[u8], peer: Mss, list: &[u8]) -> PacketAnswer
 }
 
 // The answer of the packet that starts at a place.
-pub(crate) fn answer_at_place(bundle: &[u8], at: usize) -> PacketAnswer
+fn answer_at_place(bundle: &[u8], at: usize) -> PacketAnswer
     requires { ⌜ (8 ≤ length (now bundle)) × (listOffset (now bundle) + listLength (now bundle) ≤ length (now bundle)) × (at + 4 ≤ length (now bundle)) × (packetEnd (now bundle) at ≤ length (now bundle)) ⌝ }
     ensures { λ r. ⌜ r ≡ answerAt (now (bundle .entry)) at ⌝ }
 {
@@ -193,6 +186,30 @@ pub(crate) fn answer_at_place(bundle: &[u8], at: usize) -> PacketAnswer
     let list_start = be16(bundle[6], bundle[7]) as usize;
     let list_end = list_start + be16(bundle[4], bundle[5]) as usize;
     answer_packet(&bundle[start..end], peer, &bundle[list_start..list_end])
+}
+
+fn list_lies(bundle: &[u8]) -> bool
+    ensures { λ r. ⌜ r ≡ listLies (now (bundle .entry)) ⌝ }
+{
+    if bundle.len() < HEADER {
+        return false;
+    }
+    let length = be16(bundle[4], bundle[5]) as usize;
+    let offset = be16(bundle[6], bundle[7]) as usize;
+    offset + length <= bundle.len()
+}
+
+// What is at a place of a bundle, which need not have passed its check.
+pub fn packet_at(bundle: &[u8], at: usize) -> PacketAt
+    ensures { λ r. ⌜ r ≡ packetAt (now (bundle .entry)) at ⌝ }
+{
+    if !list_lies(bundle) {
+        return PacketAt::NoPacket;
+    }
+    if !packet_fits(bundle, at) {
+        return PacketAt::NoPacket;
+    }
+    PacketAt::Packet(answer_at_place(bundle, at), packet_end(bundle, at))
 }
 
 // Where a packet starts, in a bundle that fits.

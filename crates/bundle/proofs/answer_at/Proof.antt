@@ -4,10 +4,6 @@ use mathlib.Core.Path.{sym, _∙_}
 use borrow.Author.Needs.{needs}
 use Rattle.bundle.proofs.answer_at.Statement.{statement}
 use Rattle.bundle.proofs.answer_at.Tie as tie
-use Rattle.bundle.proofs.answer_at.Reads as reads
-use Rattle.bundle.proofs.answer_at.Lts as lts
-use Rattle.bundle.proofs.answer_of.Reads as answer-of-reads
-use Rattle.bundle.proofs.check_bundle.Reads as check-bundle-reads
 
 check-bundle-requires : tie.Need-check-bundle-requires
 check-bundle-requires c κs = search needs

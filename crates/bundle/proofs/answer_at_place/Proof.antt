@@ -4,12 +4,6 @@ use Rattle.bundle.specs.Answers.{answerAt}
 use borrow.Author.Needs.{needs}
 use Rattle.bundle.proofs.answer_at_place.Statement.{statement}
 use Rattle.bundle.proofs.answer_at_place.Tie as tie
-use Rattle.bundle.proofs.answer_at_place.Reads as reads
-use Rattle.bundle.proofs.answer_at_place.Lts as lts
-use Rattle.bundle.proofs.answer_packet.Reads as answer-packet-reads
-use Rattle.bundle.proofs.packet_end.Reads as packet-end-reads
-use Rattle.bundle.proofs.peer_of.Reads as peer-of-reads
-use Rattle.numbers.proofs.be16.Reads as be16-reads
 
 shared-slice-read-be16 : tie.Need-shared-slice-read-be16
 shared-slice-read-be16 c = search needs

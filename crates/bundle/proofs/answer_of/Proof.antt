@@ -6,11 +6,6 @@ use borrow.Author.Tests.{le-ltb, lt-ltb}
 use borrow.Author.Needs.{needs}
 use Rattle.bundle.proofs.answer_of.Statement.{statement}
 use Rattle.bundle.proofs.answer_of.Tie as tie
-use Rattle.bundle.proofs.answer_of.Reads as reads
-use Rattle.bundle.proofs.answer_of.Lts as lts
-use Rattle.bundle.proofs.answer_at_place.Reads as answer-at-place-reads
-use Rattle.bundle.proofs.place_of.Reads as place-of-reads
-use Rattle.numbers.proofs.be16.Reads as be16-reads
 
 shared-slice-read-be16 : tie.Need-shared-slice-read-be16
 shared-slice-read-be16 c = let h = list-within (c .before .before .args .bundle .now) (c .before .before .pre) .0 in search (needs, h)

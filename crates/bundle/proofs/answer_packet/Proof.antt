@@ -3,10 +3,6 @@ use Rattle.bundle.specs.Answers.{answerOf}
 use borrow.Author.Needs.{needs}
 use Rattle.bundle.proofs.answer_packet.Statement.{statement}
 use Rattle.bundle.proofs.answer_packet.Tie as tie
-use Rattle.bundle.proofs.answer_packet.Reads as reads
-use Rattle.bundle.proofs.answer_packet.Lts as lts
-use Rattle.flow.proofs.read_packet.Reads as read-packet-reads
-use Rattle.siglist.proofs.search_checked.Reads as search-checked-reads
 
 read-packet-requires : tie.Need-read-packet-requires
 read-packet-requires c κs = search needs

@@ -8,10 +8,6 @@ use Rattle.bundle.specs.Bundle.{listOffset, listLength, bundleFits}
 use borrow.Author.Needs.{needs}
 use Rattle.bundle.proofs.bundle_fits.Statement.{statement}
 use Rattle.bundle.proofs.bundle_fits.Tie as tie
-use Rattle.bundle.proofs.bundle_fits.Reads as reads
-use Rattle.bundle.proofs.bundle_fits.Lts as lts
-use Rattle.bundle.proofs.packets_fit.Reads as packets-fit-reads
-use Rattle.numbers.proofs.be16.Reads as be16-reads
 
 returns : tie.Need-returns
 unfolding bundleFits

@@ -2,8 +2,6 @@ use Rattle.bundle.specs.Bundle.{bundleRefusal}
 use borrow.Author.Needs.{needs}
 use Rattle.bundle.proofs.bundle_refusal.Statement.{statement}
 use Rattle.bundle.proofs.bundle_refusal.Tie as tie
-use Rattle.bundle.proofs.bundle_refusal.Reads as reads
-use Rattle.bundle.proofs.bundle_refusal.Lts as lts
 
 enum-told : tie.Need-enum-told
 enum-told c = search needs

@@ -5,10 +5,6 @@ use Rattle.bundle.specs.Bundle.{checkBundle}
 use borrow.Author.Needs.{needs}
 use Rattle.bundle.proofs.check_bundle.Statement.{statement}
 use Rattle.bundle.proofs.check_bundle.Tie as tie
-use Rattle.bundle.proofs.check_bundle.Reads as reads
-use Rattle.bundle.proofs.check_bundle.Lts as lts
-use Rattle.bundle.proofs.bundle_fits.Reads as bundle-fits-reads
-use Rattle.bundle.proofs.check_list_of.Reads as check-list-of-reads
 
 bundle-fits-requires : tie.Need-bundle-fits-requires
 bundle-fits-requires c κs = search needs

@@ -2,10 +2,6 @@ use Rattle.basis.specs.Bytes.{be16}
 use borrow.Author.Needs.{needs}
 use Rattle.bundle.proofs.check_list_of.Statement.{statement}
 use Rattle.bundle.proofs.check_list_of.Tie as tie
-use Rattle.bundle.proofs.check_list_of.Reads as reads
-use Rattle.bundle.proofs.check_list_of.Lts as lts
-use Rattle.numbers.proofs.be16.Reads as be16-reads
-use Rattle.siglist.proofs.check_list.Reads as check-list-reads
 
 shared-slice-read-be16 : tie.Need-shared-slice-read-be16
 shared-slice-read-be16 c = search needs

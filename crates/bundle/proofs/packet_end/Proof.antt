@@ -3,9 +3,6 @@ use Rattle.bundle.specs.Bundle.{packetEnd}
 use borrow.Author.Needs.{needs}
 use Rattle.bundle.proofs.packet_end.Statement.{statement}
 use Rattle.bundle.proofs.packet_end.Tie as tie
-use Rattle.bundle.proofs.packet_end.Reads as reads
-use Rattle.bundle.proofs.packet_end.Lts as lts
-use Rattle.numbers.proofs.be16.Reads as be16-reads
 
 add-length-at : tie.Need-add-length-at
 add-length-at c = search needs

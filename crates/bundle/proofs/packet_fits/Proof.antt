@@ -3,13 +3,9 @@ use native.Mathlib.Omega.{arith}
 use lib.ListN.{length}
 use Prim.Native.Nat.{_+_}
 use Rattle.bundle.specs.Bundle.{packetFits}
-use Rattle.basis.proofs.Rules.{cases}
 use borrow.Author.Needs.{needs}
 use Rattle.bundle.proofs.packet_fits.Statement.{statement}
 use Rattle.bundle.proofs.packet_fits.Tie as tie
-use Rattle.bundle.proofs.packet_fits.Reads as reads
-use Rattle.bundle.proofs.packet_fits.Lts as lts
-use Rattle.bundle.proofs.packet_end.Reads as packet-end-reads
 
 returns : tie.Need-returns
 unfolding packetFits

@@ -7,10 +7,6 @@ use mathlib.Core.Path.{_≡_, sym, _∙_}
 use native.Mathlib.Nat.{sub-zero}
 use Rattle.bundle.proofs.packets_fit.Statement.{statement}
 use Rattle.bundle.proofs.packets_fit.Tie as tie
-use Rattle.bundle.proofs.packets_fit.Reads as reads
-use Rattle.bundle.proofs.packets_fit.Lts as lts
-use Rattle.bundle.proofs.packet_end.Reads as packet-end-reads
-use Rattle.bundle.proofs.packet_fits.Reads as packet-fits-reads
 
 abbrev Inv-loop : tie.InvT-loop
 Inv-loop bundle offset count at₀ i₀ at i = (i ≤ count) × (packetsFit bundle at (count - i) ≡ packetsFit bundle offset count)

@@ -2,8 +2,6 @@ use Rattle.basis.proofs.Rules.{cases}
 use Rattle.bundle.specs.Bundle.{peerOf}
 use Rattle.bundle.proofs.peer_of.Statement.{statement}
 use Rattle.bundle.proofs.peer_of.Tie as tie
-use Rattle.bundle.proofs.peer_of.Reads as reads
-use Rattle.bundle.proofs.peer_of.Lts as lts
 
 returns : tie.Need-returns
 unfolding peerOf

@@ -10,10 +10,6 @@ use native.Mathlib.Nat.{sub-zero}
 use borrow.Author.Needs.{needs}
 use Rattle.bundle.proofs.place_of.Statement.{statement}
 use Rattle.bundle.proofs.place_of.Tie as tie
-use Rattle.bundle.proofs.place_of.Reads as reads
-use Rattle.bundle.proofs.place_of.Lts as lts
-use Rattle.bundle.proofs.packet_end.Reads as packet-end-reads
-use Rattle.numbers.proofs.be16.Reads as be16-reads
 
 abbrev Inv-loop : tie.InvT-loop
 Inv-loop bundle i at₀ k₀ at k = (k ≤ i) × (i < packetCount bundle) × (at ≡ startOf bundle k) × (packetsFit bundle at (packetCount bundle - k) ≡ true)

@@ -1,0 +1,66 @@
+use Rattle.report.proofs.Writing.{numbered-length}
+use Rattle.report.specs.Text.{packetsWord}
+use Rattle.basis.specs.Bytes.{be16}
+use native.Mathlib.Omega.{arith}
+use Rattle.report.proofs.Turns.{head-room, head-paged}
+use borrow.Author.Needs.{needs}
+use Rattle.report.proofs.head_page.Statement.{statement}
+use Rattle.report.proofs.head_page.Tie as tie
+
+shared-slice-read-be16 : tie.Need-shared-slice-read-be16
+shared-slice-read-be16 c = search needs
+
+shared-slice-read-be16-2 : tie.Need-shared-slice-read-be16-2
+shared-slice-read-be16-2 c = search needs
+
+be16-requires : tie.Need-be16-requires
+be16-requires c κs = search needs
+
+slice-aggregate-put-numbered-line : tie.Need-slice-aggregate-put-numbered-line
+slice-aggregate-put-numbered-line c = search needs
+
+put-numbered-line-requires : tie.Need-put-numbered-line-requires
+put-numbered-line-requires c κs = search needs
+
+cast-t15 : tie.Need-cast-t15
+cast-t15 c = search needs
+
+shared-slice-read-be16-3 : tie.Need-shared-slice-read-be16-3
+shared-slice-read-be16-3 c = search needs
+
+shared-slice-read-be16-4 : tie.Need-shared-slice-read-be16-4
+shared-slice-read-be16-4 c = search needs
+
+be16-requires-2 : tie.Need-be16-requires-2
+be16-requires-2 c κs = search needs
+
+cast-t19 : tie.Need-cast-t19
+cast-t19 c = search needs
+
+put-lines-requires : tie.Need-put-lines-requires
+put-lines-requires c κs = let p = c .before .before .before .before .before .before .put-numbered-line in (search needs, search needs, omega (arith, p .ensures .0, numbered-length packetsWord (c .before .before .before .before .before .before .before .before .before .be16 .result), head-room (c .before .before .before .before .before .before .before .before .before .before .before .before .before .before .args .bundle .now) (c .before .before .before .before .before .before .before .before .before .before .before .before .before .before .args .page .now) (p .last .0) (p .last .0) (c .before .before .before .before .before .before .before .before .before .be16 .result) 0 (p .result) (record { filled = 0; left = 0; at = 0 }) (search needs) (p .ensures .0) (p .ensures .1)))
+
+same-length : tie.Need-same-length
+same-length c = search needs
+
+returns : tie.Need-returns
+unfolding be16
+returns c = head-paged (c .before .before .before .before .before .before .before .before .before .before .before .before .before .before .before .before .before .args .bundle .now) _ _ _ _ _ _ _ (search needs) (c .before .before .before .before .before .before .before .before .before .before .before .before .be16 .ensures) (c .before .before .before .before .be162 .ensures) (c .before .before .before .before .before .before .before .before .before .put-numbered-line .ensures .0) (c .before .before .before .before .before .before .before .before .before .put-numbered-line .ensures .1) (c .before .before .put-lines .ensures)
+
+pub head-page-spec : {M : Type 1} → statement M
+head-page-spec =
+    tie.close
+    (tie.spec
+    shared-slice-read-be16
+    shared-slice-read-be16-2
+    be16-requires
+    slice-aggregate-put-numbered-line
+    put-numbered-line-requires
+    cast-t15
+    shared-slice-read-be16-3
+    shared-slice-read-be16-4
+    be16-requires-2
+    cast-t19
+    put-lines-requires
+    same-length
+    returns)

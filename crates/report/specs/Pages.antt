@@ -1,0 +1,103 @@
+-- The output of a bundle, and how it is cut into pages of 4,096 bytes.
+use mathlib.Core.Path.{_≡_}
+use Prim.Native.Nat.{ℕ, zero, suc, _+_}
+use mathlib.Core.Bool.{Bool, cond}
+use mathlib.Core.List.{List, [], _∷_, _++_}
+use lib.Dec.{leb}
+use lib.ListN.{length, take, drop}
+use Rattle.bundle.specs.declared.BundleCheck.{BundleCheck}
+use Rattle.bundle.specs.declared.BundleCheck.the-variants as check
+use Rattle.bundle.specs.declared.PacketAnswer.{PacketAnswer}
+use Rattle.report.specs.declared.Progress.{Progress}
+use Rattle.bundle.specs.Bundle.{packetCount, packetsOffset, packetEnd, checkBundle}
+use Rattle.bundle.specs.Answers.{BundleAnswer, answerAt, packetLies, bundleAnswer}
+use Rattle.report.specs.Text.{lineOf, headLine, refusedLine}
+
+-- ---- the whole output
+
+unfoldable pub linesOf : List PacketAnswer → List ℕ
+linesOf [] = []
+linesOf (a ∷ rest) = lineOf a ++ linesOf rest
+
+-- "Output: `packets N`, then a line each. A refused bundle or list prints only `refused N`."
+abbrev pub textOf : BundleCheck → ℕ → List PacketAnswer → List ℕ
+textOf check.Good n answers = headLine n ++ linesOf answers
+textOf check.DoesNotFit n answers = refusedLine 12
+textOf check.ListDoesNotFit n answers = refusedLine 9
+textOf (check.BadRecord i) n answers = refusedLine 10
+
+unfoldable pub outputOf : List ℕ → List ℕ
+outputOf b = textOf (bundleAnswer b .check) (packetCount b) (bundleAnswer b .answers)
+
+-- Input that goes on past the buffer is over 65,535 bytes: refusal 12.
+unfoldable pub outputOfInput : List ℕ → Bool → List ℕ
+outputOfInput b longer = cond longer (refusedLine 12) (outputOf b)
+
+-- ---- pages
+
+-- A page's bytes from a place on are written over.
+unfoldable pub written : List ℕ → ℕ → List ℕ → List ℕ
+written page at text = take at page ++ text ++ drop (at + length text) page
+
+-- What a page takes: its text, and the packets that are left, by their number and the place of the first.
+pub record Page : Type 0 where
+  pub text : List ℕ
+  pub left : ℕ
+  pub at : ℕ
+
+abbrev pub behind : List ℕ → Page → Page
+behind line p = record { text = line ++ p .text; left = p .left; at = p .at }
+
+abbrev pub fullPage : ℕ → ℕ → Page
+fullPage left at = record { text = []; left = left; at = at }
+
+-- The lines of so many packets from a place on, as long as the longest line, of 19 bytes, finds room behind what fills the page.
+unfoldable pub pageFrom : List ℕ → ℕ → ℕ → ℕ → ℕ → Page
+pageFrom b size filled at zero = fullPage 0 at
+pageFrom b size filled at (suc n) =
+    cond (leb (filled + 19) size)
+    (cond (packetLies b at)
+    (behind (lineOf (answerAt b at)) (pageFrom b size (filled + length (lineOf (answerAt b at))) (packetEnd b at) n))
+    (fullPage 0 at))
+    (fullPage (suc n) at)
+
+-- A page of the packets that are left.
+abbrev pub nextPage : List ℕ → ℕ → ℕ → ℕ → Page
+nextPage b size left at = pageFrom b size 0 at left
+
+abbrev pub refusedPage : ℕ → Page
+refusedPage n = record { text = refusedLine n; left = 0; at = 0 }
+
+-- The first page: the line that comes first, and as many of the packets' as find room.
+abbrev pub headPage : List ℕ → ℕ → Page
+headPage b size =
+    behind (headLine (packetCount b)) (pageFrom b size (length (headLine (packetCount b))) (packetsOffset b) (packetCount b))
+
+abbrev pub firstOf : BundleCheck → List ℕ → ℕ → Page
+firstOf check.Good b size = headPage b size
+firstOf check.DoesNotFit b size = refusedPage 12
+firstOf check.ListDoesNotFit b size = refusedPage 9
+firstOf (check.BadRecord i) b size = refusedPage 10
+
+-- A page of under 19 bytes takes nothing.
+unfoldable pub firstPage : List ℕ → Bool → ℕ → Page
+firstPage b longer size =
+    cond (leb 19 size)
+    (cond longer (refusedPage 12) (firstOf (checkBundle b) b size))
+    (fullPage 0 0)
+
+-- What a function hands back of a page: how many bytes it has, and what is left.
+abbrev pub progressOf : Page → Progress
+progressOf p = record { filled = length (p .text); left = p .left; at = p .at }
+
+-- A text was put at a place: the place behind it, and the page.
+abbrev pub Put : List ℕ → ℕ → List ℕ → ℕ → List ℕ → Type 0
+Put page at text next page' = (next ≡ at + length text) × (page' ≡ written page at text)
+
+-- A page's text was put behind what filled the page before.
+abbrev pub Filled : List ℕ → ℕ → Page → Progress → List ℕ → Type 0
+Filled page filled p r page' = Put page filled (p .text) (r .filled) page' × (r .left ≡ p .left) × (r .at ≡ p .at)
+
+-- A page's text was put at the start of the page, and the progress is the page's.
+abbrev pub Paged : List ℕ → Page → Progress → List ℕ → Type 0
+Paged page p r page' = (r ≡ progressOf p) × (page' ≡ written page 0 (p .text))

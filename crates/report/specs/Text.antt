@@ -1,0 +1,88 @@
+-- The text of the answers (document 01, "The bundle program"): each line as bytes.
+use Prim.Native.Nat.{ℕ, _+_, _-_, _/_, _%_}
+use mathlib.Core.Bool.{cond}
+use mathlib.Core.List.{List, [], _∷_, _++_}
+use lib.Dec.{ltb}
+use lib.ListN.{drop}
+use Rattle.ip.specs.Numbers.{number}
+use Rattle.search.specs.declared.Found.{Found}
+use Rattle.search.specs.declared.Found.the-variants as found
+use Rattle.bundle.specs.declared.PacketAnswer.{PacketAnswer}
+use Rattle.bundle.specs.declared.PacketAnswer.the-variants as packet
+
+-- ---- words, in ASCII
+
+abbrev pub newline : List ℕ
+newline = 10 ∷ []
+
+-- "packets "
+abbrev pub packetsWord : List ℕ
+packetsWord = 112 ∷ 97 ∷ 99 ∷ 107 ∷ 101 ∷ 116 ∷ 115 ∷ 32 ∷ []
+
+-- "refused "
+abbrev pub refusedWord : List ℕ
+refusedWord = 114 ∷ 101 ∷ 102 ∷ 117 ∷ 115 ∷ 101 ∷ 100 ∷ 32 ∷ []
+
+-- "nothing"
+abbrev pub nothingWord : List ℕ
+nothingWord = 110 ∷ 111 ∷ 116 ∷ 104 ∷ 105 ∷ 110 ∷ 103 ∷ []
+
+-- "syn "
+abbrev pub synWord : List ℕ
+synWord = 115 ∷ 121 ∷ 110 ∷ 32 ∷ []
+
+-- "synack "
+abbrev pub synackWord : List ℕ
+synackWord = 115 ∷ 121 ∷ 110 ∷ 97 ∷ 99 ∷ 107 ∷ 32 ∷ []
+
+-- "none"
+abbrev pub noneWord : List ℕ
+noneWord = 110 ∷ 111 ∷ 110 ∷ 101 ∷ []
+
+-- "exact "
+abbrev pub exactWord : List ℕ
+exactWord = 101 ∷ 120 ∷ 97 ∷ 99 ∷ 116 ∷ 32 ∷ []
+
+-- "fuzzy "
+abbrev pub fuzzyWord : List ℕ
+fuzzyWord = 102 ∷ 117 ∷ 122 ∷ 122 ∷ 121 ∷ 32 ∷ []
+
+-- ---- numbers
+
+-- How many digits a number under 100,000 has.
+unfoldable pub width : ℕ → ℕ
+width n = cond (ltb n 10) 1 (cond (ltb n 100) 2 (cond (ltb n 1000) 3 (cond (ltb n 10000) 4 5)))
+
+-- Five decimal digits, the highest first.
+abbrev pub fiveDigits : ℕ → List ℕ
+fiveDigits n =
+    (48 + n / 10000 % 10) ∷ (48 + n / 1000 % 10) ∷ (48 + n / 100 % 10) ∷ (48 + n / 10 % 10) ∷ (48 + n % 10) ∷ []
+
+-- A number under 100,000 in decimal, without leading zeros.
+unfoldable pub decimal : ℕ → List ℕ
+decimal n = drop (5 - width n) (fiveDigits n)
+
+-- ---- lines
+
+unfoldable pub foundText : Found → List ℕ
+foundText found.Nothing = noneWord
+foundText (found.Exact label) = exactWord ++ decimal label
+foundText (found.Fuzzy label reason) = fuzzyWord ++ decimal label
+
+-- `syn exact 7`, `synack none`, `nothing`, `refused 2`, ..
+unfoldable pub answerText : PacketAnswer → List ℕ
+answerText (packet.Syn f) = synWord ++ foundText f
+answerText (packet.SynAck f) = synackWord ++ foundText f
+answerText packet.Nothing = nothingWord
+answerText (packet.Refused r) = refusedWord ++ decimal (number r)
+
+unfoldable pub lineOf : PacketAnswer → List ℕ
+lineOf a = answerText a ++ newline
+
+-- `packets N`
+unfoldable pub headLine : ℕ → List ℕ
+headLine n = packetsWord ++ decimal n ++ newline
+
+-- `refused N`
+unfoldable pub refusedLine : ℕ → List ℕ
+refusedLine n = refusedWord ++ decimal n ++ newline

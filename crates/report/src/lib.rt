@@ -1,0 +1,121 @@
+// The output of a bundle, page by page: as many lines as find room, then the program writes the page and asks for the next.
+ghost use Prim.Native.Nat.{_≤_};
+ghost use lib.ListN.{length};
+ghost use Rattle.report.specs.Pages.{Filled, Paged, pageFrom, refusedPage, headPage, firstPage, nextPage};
+use bundle::BundleCheck;
+use bundle::PacketAt;
+use bundle::check_bundle;
+use bundle::packet_at;
+use numbers::be16;
+use text::put_line;
+use text::put_numbered_line;
+
+mod text;
+
+// How far the output of a bundle is: the bytes of the page, and the packets that are left, by their number and the place of the
+// first.
+pub struct Progress {
+    pub filled: usize,
+    pub left: usize,
+    pub at: usize,
+}
+
+// The longest line: `synack exact 65535`, or `fuzzy`, and its end.
+const LINE: usize = 19;
+
+// The lines of the packets that are left, as long as the longest line finds room.
+fn put_lines(bundle: &[u8], progress: Progress, page: &mut [u8]) -> Progress
+    requires { ⌜ progress .filled ≤ length (now page) ⌝ }
+    ensures { λ r. ⌜ Filled (now (page .entry)) (progress .filled) (pageFrom (now (bundle .entry)) (length (now (page .entry))) (progress .filled) (progress .at) (progress .left)) r (now (page .exit)) ⌝ }
+{
+    let mut filled = progress.filled;
+    let mut left = progress.left;
+    let mut at = progress.at;
+    while 0 < left {
+        if page.len() - filled < LINE {
+            return Progress { filled, left, at };
+        }
+        let PacketAt::Packet(answer, end) = packet_at(bundle, at) else {
+            return Progress {
+                filled,
+                left: 0,
+                at,
+            };
+        };
+        filled = put_line(page, filled, answer);
+        at = end;
+        left -= 1;
+    }
+    Progress {
+        filled,
+        left: 0,
+        at,
+    }
+}
+
+// The first page of a refusal.
+fn refused_page(page: &mut [u8], number: u16) -> Progress
+    requires { ⌜ 19 ≤ length (now page) ⌝ }
+    ensures { λ r. ⌜ Paged (now (page .entry)) (refusedPage number) r (now (page .exit)) ⌝ }
+{
+    let filled = put_numbered_line(page, b"refused ", number);
+    Progress {
+        filled,
+        left: 0,
+        at: 0,
+    }
+}
+
+// The first page of a bundle that passed its check.
+fn head_page(bundle: &[u8], page: &mut [u8]) -> Progress
+    requires { ⌜ (8 ≤ length (now bundle)) × (19 ≤ length (now page)) ⌝ }
+    ensures { λ r. ⌜ Paged (now (page .entry)) (headPage (now (bundle .entry)) (length (now (page .entry)))) r (now (page .exit)) ⌝ }
+{
+    let count = be16(bundle[0], bundle[1]);
+    let filled = put_numbered_line(page, b"packets ", count);
+    let progress = Progress {
+        filled,
+        left: count as usize,
+        at: be16(bundle[2], bundle[3]) as usize,
+    };
+    put_lines(bundle, progress, page)
+}
+
+// The first page of a bundle's output; `longer`: the input goes on past the bundle.
+pub fn first_page(bundle: &[u8], longer: bool, page: &mut [u8]) -> Progress
+    ensures { λ r. ⌜ Paged (now (page .entry)) (firstPage (now (bundle .entry)) longer (length (now (page .entry)))) r (now (page .exit)) ⌝ }
+{
+    if page.len() < LINE {
+        return Progress {
+            filled: 0,
+            left: 0,
+            at: 0,
+        };
+    }
+    if longer {
+        return refused_page(page, 12);
+    }
+    match check_bundle(bundle) {
+        BundleCheck::Good => head_page(bundle, page),
+        BundleCheck::DoesNotFit => refused_page(page, 12),
+        BundleCheck::ListDoesNotFit => refused_page(page, 9),
+        BundleCheck::BadRecord(_) => refused_page(page, 10),
+    }
+}
+
+// The next page of a bundle's output, after the progress that the page before it left.
+pub fn next_page(bundle: &[u8], progress: Progress, page: &mut [u8]) -> Progress
+    ensures { λ r. ⌜ Paged (now (page .entry)) (nextPage (now (bundle .entry)) (length (now (page .entry))) (progress .left) (progress .at)) r (now (page .exit)) ⌝ }
+{
+    let left = progress.left;
+    let at = progress.at;
+    put_lines(
+        bundle,
+        Progress {
+            filled: 0,
+            left,
+            at,
+        },
+        page,
+    )
+}
