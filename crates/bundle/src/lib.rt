@@ -8,15 +8,14 @@ ghost use Rattle.siglist.specs.List.{areaFits, checkList};
 ghost use Rattle.bundle.specs.Bundle.{packetCount, listLength, listOffset, listOf, peerOf, packetEnd, packetFits, packetsFit, listLies, bundleFits, checkBundle, bundleRefusal};
 ghost use Rattle.bundle.specs.Answers.{answerOf, answerAt, packetAt, startOf, packetAfter, packetAnswer};
 use flow::Answer;
-use ip::Refusal;
 use flow::read_packet;
+use ip::Refusal;
 use numbers::be16;
 use search::Found;
+use search::search_checked;
 use siglist::ListAnswer;
 use siglist::check_list;
-use search::search_checked;
 use tcp::Mss;
-
 
 // A bundle is well formed, or refused: 12, 9, or 10 with the index of its list's first bad record.
 pub enum BundleCheck {

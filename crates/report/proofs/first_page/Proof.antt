@@ -30,7 +30,7 @@ enum-told : tie.Need-enum-told
 enum-told c = search needs
 
 head-page-requires : tie.Need-head-page-requires
-head-page-requires c κs = let w = list-within (c .before .before .before .before .before .before .before .before .args .bundle .now) (good-fits (c .before .before .before .before .before .before .before .before .args .bundle .now) (sym (c .before .before .before .check-bundle .ensures) ∙ c .before .enum-told .given .1)) in (w .0, w .1, search needs)
+head-page-requires c κs = let w = list-within (c .before .before .before .before .before .before .before .before .args .bundle .now) (good-fits (c .before .before .before .before .before .before .before .before .args .bundle .now) (sym (c .before .before .before .check-bundle .ensures) ∙ c .before .enum-told .given .1)) in (w .0, search needs)
 
 enum-told-2 : tie.Need-enum-told-2
 enum-told-2 c = search needs

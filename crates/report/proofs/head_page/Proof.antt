@@ -38,7 +38,7 @@ cast-t19 : tie.Need-cast-t19
 cast-t19 c = search needs
 
 put-lines-requires : tie.Need-put-lines-requires
-put-lines-requires c κs = let p = c .before .before .before .before .before .before .put-numbered-line in (search needs, search needs, omega (arith, p .ensures .0, numbered-length packetsWord (c .before .before .before .before .before .before .before .before .before .be16 .result), head-room (c .before .before .before .before .before .before .before .before .before .before .before .before .before .before .args .bundle .now) (c .before .before .before .before .before .before .before .before .before .before .before .before .before .before .args .page .now) (p .last .0) (p .last .0) (c .before .before .before .before .before .before .before .before .before .be16 .result) 0 (p .result) (record { filled = 0; left = 0; at = 0 }) (search needs) (p .ensures .0) (p .ensures .1)))
+put-lines-requires c κs = let p = c .before .before .before .before .before .before .put-numbered-line in omega (arith, p .ensures .0, numbered-length packetsWord (c .before .before .before .before .before .before .before .before .before .be16 .result), head-room (c .before .before .before .before .before .before .before .before .before .before .before .before .before .before .args .bundle .now) (c .before .before .before .before .before .before .before .before .before .before .before .before .before .before .args .page .now) (p .last .0) (p .last .0) (c .before .before .before .before .before .before .before .before .before .be16 .result) 0 (p .result) (record { filled = 0; left = 0; at = 0 }) (search needs) (p .ensures .0) (p .ensures .1))
 
 same-length : tie.Need-same-length
 same-length c = search needs

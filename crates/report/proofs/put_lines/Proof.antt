@@ -1,18 +1,22 @@
-use Rattle.report.proofs.Writing.{written-length, line-length}
-use Rattle.report.specs.Text.{lineOf}
-use Prim.Native.Nat.{_+_, _-_, ℕ, _≤_}
-use mathlib.Core.Path.{ap, _≡_, refl, sym, _∙_}
 use Rattle.report.proofs.Turns.{filled-full, no-room, no-packet, one-line, no-more}
-use Rattle.bundle.proofs.Packets.{head-within, end-within}
-use Rattle.report.specs.Pages.{Filled, pageFrom}
+use Rattle.report.proofs.Writing.{written-length, line-length}
+use Rattle.report.specs.Pages.{Put, Filled, pageFrom}
+use Rattle.report.specs.Text.{lineOf}
 use Rattle.report.specs.declared.Progress.{Progress}
+use Rattle.bundle.proofs.Packets.{packet-there, none-there}
+use Rattle.bundle.specs.Answers.{answerAt}
 use lib.ListN.{length}
 use native.Mathlib.Omega.{arith}
+use Prim.Native.Nat.{ℕ, _+_, _-_, _≤_}
 use mathlib.Core.List.{List}
-use borrow.Author.Tests.{not-true, not-false}
+use mathlib.Core.Path.{_≡_, refl, sym, _∙_, ap}
 use borrow.Author.Needs.{needs}
 use Rattle.report.proofs.put_lines.Statement.{statement}
 use Rattle.report.proofs.put_lines.Tie as tie
+use Rattle.report.proofs.put_lines.Reads as reads
+use Rattle.report.proofs.put_lines.Lts as lts
+use Rattle.bundle.proofs.packet_at.Reads as packet-at-reads
+use Rattle.report.proofs.text.put_line.Reads as put-line-reads
 
 abbrev Inv-loop : tie.InvT-loop
 Inv-loop bundle page₀ filled₀ left₀ at₀ page filled left at =
@@ -35,23 +39,23 @@ same-length c = search needs
 returns : tie.Need-returns Inv-loop μ-loop
 returns c = let a = c .before .before .before .before .before .args in let l = c .before .before .loop in l .inv .2 _ _ (rw (no-room (a .bundle .now) (l .page) (length (a .page .now)) (l .filled) (l .at) (l .left) (c .before .loop-test .taken) (omega (arith, l .inv .1, c .if1 .taken))) (filled-full (l .page) (l .filled) (l .left) (l .at)))
 
-packet-fits-requires : tie.Need-packet-fits-requires Inv-loop μ-loop
-packet-fits-requires c κs = search needs
+packet-at-requires : tie.Need-packet-at-requires Inv-loop μ-loop
+packet-at-requires c κs = search needs
+
+enum-known-answer : tie.Need-enum-known-answer Inv-loop μ-loop
+enum-known-answer c = search needs
+
+enum-told : tie.Need-enum-told Inv-loop μ-loop
+enum-told c = search needs
 
 same-length-2 : tie.Need-same-length-2 Inv-loop μ-loop
 same-length-2 c = search needs
 
 returns-2 : tie.Need-returns-2 Inv-loop μ-loop
-returns-2 c = let a = c .before .before .before .before .before .before .before .args in let l = c .before .before .before .before .loop in l .inv .2 _ _ (rw (no-packet (a .bundle .now) (l .page) (length (a .page .now)) (l .filled) (l .at) (l .left) (c .before .before .before .loop-test .taken) (omega (arith, l .inv .1, c .before .before .if1 .left)) (sym (c .before .packet-fits .ensures) ∙ not-true (c .before .packet-fits .result) (c .if2 .taken))) (filled-full (l .page) (l .filled) 0 (l .at)))
-
-answer-at-place-requires : tie.Need-answer-at-place-requires Inv-loop μ-loop
-answer-at-place-requires c κs = let a = c .before .before .before .before .before .before .before .before .args in let l = c .before .before .before .before .before .loop in let fits = (sym (c .before .before .packet-fits .ensures) ∙ not-false (c .before .before .packet-fits .result) (c .before .if2 .left)) in (search needs, search needs, head-within (a .bundle .now) (l .at) fits, end-within (a .bundle .now) (l .at) fits)
+returns-2 c = let a = c .before .before .before .before .before .before .before .before .args in let l = c .before .before .before .before .before .loop in l .inv .2 _ _ (rw (no-packet (a .bundle .now) (l .page) (length (a .page .now)) (l .filled) (l .at) (l .left) (c .before .before .before .before .loop-test .taken) (omega (arith, l .inv .1, c .before .before .before .if1 .left)) (none-there (a .bundle .now) (l .at) (sym (c .before .before .packet-at .ensures) ∙ c .enum-told .given .1))) (filled-full (l .page) (l .filled) 0 (l .at)))
 
 put-line-requires : tie.Need-put-line-requires Inv-loop μ-loop
 put-line-requires c κs = search needs
-
-packet-end-requires : tie.Need-packet-end-requires Inv-loop μ-loop
-packet-end-requires c κs = let a = c .before .before .before .before .before .before .before .before .before .before .before .before .args in let l = c .before .before .before .before .before .before .before .before .before .loop in head-within (a .bundle .now) (l .at) (sym (c .before .before .before .before .before .before .packet-fits .ensures) ∙ not-false (c .before .before .before .before .before .before .packet-fits .result) (c .before .before .before .before .before .if2 .left))
 
 sub-left : tie.Need-sub-left Inv-loop μ-loop
 sub-left c = search needs
@@ -63,15 +67,17 @@ loop-again : tie.Need-loop-again Inv-loop μ-loop
 loop-again c =
     let a = c .before .before .before .before .before .before .before .before .before .before .before .before .before .args in
     let l = c .before .before .before .before .before .before .before .before .before .before .loop in
-    let put = c .before .before .before .put-line in
-    let line = c .before .before .before .before .answer-at-place .result in
+    let put = c .before .before .put-line in
+    let found = packet-there (a .bundle .now) (l .at) _ _ (sym (c .before .before .before .before .before .before .before .packet-at .ensures) ∙ c .before .before .before .before .before .answer .given .1) in
+    let line = answerAt (a .bundle .now) (l .at) in
     let room : 19 ≤ length (a .page .now) - l .filled = omega (arith, l .inv .1, c .before .before .before .before .before .before .before .before .if1 .left) in
+    let done : Put (l .page) (l .filled) (lineOf line) (put .result) (put .last .0) = rw (sym (found .answer)) (put .ensures) in
     let same : length (put .last .0) ≡ length (a .page .now) =
-    ap length (put .ensures .1) ∙ written-length (l .page) (lineOf line) (l .filled) (omega (arith, l .inv .1, line-length line)) ∙ l .inv .1 in
+    ap length (done .1) ∙ written-length (l .page) (lineOf line) (l .filled) (omega (arith, l .inv .1, line-length line)) ∙ l .inv .1 in
     let next : l .filled + length (lineOf line) ≤ length (put .last .0) = omega (arith, same, line-length line) in (
-      rw (put .ensures .0) next,
+      rw (done .0) next,
       same,
-      λ r p h. l .inv .2 r p (one-line (a .bundle .now) (l .page) (length (a .page .now)) (l .filled) (l .at) (l .left) (c .before .before .before .before .before .before .before .before .before .loop-test .taken) room (sym (c .before .before .before .before .before .before .before .packet-fits .ensures) ∙ not-false (c .before .before .before .before .before .before .before .packet-fits .result) (c .before .before .before .before .before .before .if2 .left)) (l .inv .0) (put .last .0) p (put .result) r (rw (sym (c .before .before .before .before .answer-at-place .ensures)) (put .ensures)) (rw (sym (c .packet-end .ensures)) h)),
+      λ r p h. l .inv .2 r p (one-line (a .bundle .now) (l .page) (length (a .page .now)) (l .filled) (l .at) (l .left) (c .before .before .before .before .before .before .before .before .before .loop-test .taken) room (found .lies) (l .inv .0) (put .last .0) p (put .result) r done (rw (sym (found .ends)) h)),
     )
 
 same-length-3 : tie.Need-same-length-3 Inv-loop μ-loop
@@ -90,12 +96,12 @@ put-lines-spec =
     sub-if1
     same-length
     returns
-    packet-fits-requires
+    packet-at-requires
+    enum-known-answer
+    enum-told
     same-length-2
     returns-2
-    answer-at-place-requires
     put-line-requires
-    packet-end-requires
     sub-left
     loop-less
     loop-again
