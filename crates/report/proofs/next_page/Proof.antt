@@ -2,9 +2,6 @@ use Rattle.report.proofs.Turns.{paged}
 use borrow.Author.Needs.{needs}
 use Rattle.report.proofs.next_page.Statement.{statement}
 use Rattle.report.proofs.next_page.Tie as tie
-use Rattle.report.proofs.next_page.Reads as reads
-use Rattle.report.proofs.next_page.Lts as lts
-use Rattle.report.proofs.put_lines.Reads as put-lines-reads
 
 put-lines-requires : tie.Need-put-lines-requires
 put-lines-requires c κs = search needs

@@ -13,10 +13,6 @@ use mathlib.Core.Path.{_≡_, refl, sym, _∙_, ap}
 use borrow.Author.Needs.{needs}
 use Rattle.report.proofs.put_lines.Statement.{statement}
 use Rattle.report.proofs.put_lines.Tie as tie
-use Rattle.report.proofs.put_lines.Reads as reads
-use Rattle.report.proofs.put_lines.Lts as lts
-use Rattle.bundle.proofs.packet_at.Reads as packet-at-reads
-use Rattle.report.proofs.text.put_line.Reads as put-line-reads
 
 abbrev Inv-loop : tie.InvT-loop
 Inv-loop bundle page₀ filled₀ left₀ at₀ page filled left at =

@@ -4,11 +4,6 @@ use mathlib.Core.Path.{_≡_, refl}
 use borrow.Author.Needs.{needs}
 use Rattle.termread.proofs.read_input.Statement.{statement}
 use Rattle.termread.proofs.read_input.Tie as tie
-use Rattle.termread.proofs.read_input.Reads as reads
-use Rattle.termread.proofs.read_input.Lts as lts
-use Rattle.io.proofs.count.Reads as count-reads
-use Rattle.libc.proofs.read.Reads as read-reads
-use Rattle.termread.proofs.after_full.Reads as after-full-reads
 
 abbrev Inv-loop : tie.InvT-loop
 Inv-loop buffer₀ count₀ buffer count = (count ≤ length buffer) × (length buffer ≡ length buffer₀)

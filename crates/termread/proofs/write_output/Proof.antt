@@ -4,11 +4,6 @@ use mathlib.Core.Path.{_≡_}
 use borrow.Author.Needs.{needs}
 use Rattle.termread.proofs.write_output.Statement.{statement}
 use Rattle.termread.proofs.write_output.Tie as tie
-use Rattle.termread.proofs.write_output.Reads as reads
-use Rattle.termread.proofs.write_output.Lts as lts
-use Rattle.report.proofs.first_page.Reads as first-page-reads
-use Rattle.report.proofs.next_page.Reads as next-page-reads
-use Rattle.termread.proofs.write_page.Reads as write-page-reads
 
 abbrev Inv-loop : tie.InvT-loop
 Inv-loop bundle longer page₀ progress₀ turns turn₀ page progress turn = (turn ≤ turns) × (length page ≡ 4096)

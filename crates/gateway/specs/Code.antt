@@ -1,0 +1,101 @@
+-- The code of an answer: one number of eight bytes, whose lowest byte alone tells exact, fuzzy and none apart.
+use Prim.Native.Nat.{ℕ, _+_, _*_, _%_}
+use mathlib.Core.List.{List}
+use Rattle.quirks.specs.Quirks.{bitsOf}
+use Rattle.tcp.specs.declared.Mss.{Mss}
+use Rattle.ip.specs.declared.Refusal.{Refusal}
+use Rattle.ip.specs.declared.Refusal.the-variants as refusal
+use Rattle.ip.specs.Numbers.{number}
+use Rattle.matching.specs.declared.FuzzyReason.{FuzzyReason}
+use Rattle.matching.specs.declared.Hops.{Hops}
+use Rattle.matching.specs.declared.Hops.the-variants as hops
+use Rattle.siglist.specs.declared.ListAnswer.{ListAnswer}
+use Rattle.siglist.specs.declared.ListAnswer.the-variants as list
+use Rattle.siglist.specs.List.{checkList}
+use Rattle.search.specs.declared.Found.{Found}
+use Rattle.search.specs.declared.Found.the-variants as found
+use Rattle.bundle.specs.declared.PacketAnswer.{PacketAnswer}
+use Rattle.bundle.specs.declared.PacketAnswer.the-variants as packet
+use Rattle.bundle.specs.Bundle.{peerOf}
+use Rattle.bundle.specs.Answers.{answerOf}
+use Rattle.gateway.specs.declared.GatewayAnswer.{GatewayAnswer}
+use Rattle.gateway.specs.declared.GatewayAnswer.the-variants as gateway
+use Rattle.gateway.specs.declared.Fields.{Fields}
+
+-- ---- the fields
+
+-- Outcomes: 1 exact, 2 fuzzy, 3 none, 4 nothing (neither SYN nor SYN+ACK), 5 refused. Kinds: 1 SYN, 2 SYN+ACK; of a refusal, its
+-- number. The value is the label; of refusal 7 the flags byte, of refusal 10 the record's index. The last four are the reason of a
+-- fuzzy answer: the quirks added and missing, as bits, the hop distance, and 1 if the TTL is out of range.
+abbrev pub plain : ℕ → ℕ → ℕ → Fields
+plain outcome kind value =
+    record { outcome = outcome; kind = kind; value = value; added = 0; missing = 0; hops = 0; far = 0 }
+
+abbrev pub hopsOf : Hops → ℕ
+hopsOf hops.InRange = 0
+hopsOf (hops.OutOfRange d) = d
+
+abbrev pub farOf : Hops → ℕ
+farOf hops.InRange = 0
+farOf (hops.OutOfRange d) = 1
+
+unfoldable pub foundFields : ℕ → Found → Fields
+foundFields kind found.Nothing = plain 3 kind 0
+foundFields kind (found.Exact label) = plain 1 kind label
+foundFields kind (found.Fuzzy label reason) =
+    record {
+      outcome = 2;
+      kind = kind;
+      value = label;
+      added = bitsOf (reason .added) % 256;
+      missing = bitsOf (reason .missing) % 256;
+      hops = hopsOf (reason .hops);
+      far = farOf (reason .hops);
+    }
+
+-- What a refusal gives beside its number: the flags byte of refusal 7.
+unfoldable pub givenBy : Refusal → ℕ
+givenBy refusal.Version = 0
+givenBy refusal.TooShort = 0
+givenBy refusal.HeaderLength = 0
+givenBy refusal.UnsupportedProtocol = 0
+givenBy refusal.Fragment = 0
+givenBy refusal.TcpTooShort = 0
+givenBy (refusal.InvalidTcpFlags flags) = flags
+
+unfoldable pub packetFields : PacketAnswer → Fields
+packetFields (packet.Syn f) = foundFields 1 f
+packetFields (packet.SynAck f) = foundFields 2 f
+packetFields packet.Nothing = plain 4 0 0
+packetFields (packet.Refused r) = plain 5 (number r) (givenBy r)
+
+-- The answer of a packet, or why its list is refused: 9, or 10 with the index of the first bad record.
+unfoldable pub fieldsOf : GatewayAnswer → Fields
+fieldsOf (gateway.Packet a) = packetFields a
+fieldsOf gateway.ListDoesNotFit = plain 5 9 0
+fieldsOf (gateway.BadRecord i) = plain 5 10 (i % 65536)
+
+-- ---- the number
+
+-- One byte each, but two for the value; the outcome is the lowest.
+unfoldable pub codeOf : Fields → ℕ
+codeOf f =
+    f .outcome
+    + 256 * (f .kind + 256 * (f .value + 65536 * (f .added + 256 * (f .missing + 256 * (f .hops + 256 * f .far)))))
+
+-- ---- what the exported functions answer
+
+-- A list that is not checked yet is refused before its packet is read, as a bundle's is.
+abbrev pub afterList : ListAnswer → List ℕ → Mss → List ℕ → GatewayAnswer
+afterList list.Good p peer l = gateway.Packet (answerOf p peer l)
+afterList list.DoesNotFit p peer l = gateway.ListDoesNotFit
+afterList (list.BadRecord i) p peer l = gateway.BadRecord i
+
+unfoldable pub gatewayAnswer : List ℕ → ℕ → List ℕ → GatewayAnswer
+gatewayAnswer p peer l = afterList (checkList l) p (peerOf peer) l
+
+-- Of a list: 0 if it is well formed, or the code of its refusal.
+unfoldable pub listCode : ListAnswer → ℕ
+listCode list.Good = 0
+listCode list.DoesNotFit = codeOf (fieldsOf gateway.ListDoesNotFit)
+listCode (list.BadRecord i) = codeOf (fieldsOf (gateway.BadRecord i))
