@@ -101,3 +101,17 @@ Filled page filled p r page' = Put page filled (p .text) (r .filled) page' × (r
 -- A page's text was put at the start of the page, and the progress is the page's.
 abbrev pub Paged : List ℕ → Page → Progress → List ℕ → Type 0
 Paged page p r page' = (r ≡ progressOf p) × (page' ≡ written page 0 (p .text))
+
+-- ---- the pages of a whole output
+
+-- The text of so many pages after the first, each with what the one before it left.
+unfoldable pub laterPages : List ℕ → ℕ → ℕ → ℕ → ℕ → List ℕ
+laterPages b size zero left at = []
+laterPages b size (suc pages) left at =
+    pageFrom b size 0 at left .text ++ laterPages b size pages (pageFrom b size 0 at left .left) (pageFrom b size 0 at left .at)
+
+-- The pages that a program writes which asks for as many later ones as the first leaves packets.
+unfoldable pub allPages : List ℕ → Bool → ℕ → List ℕ
+allPages b longer size =
+    firstPage b longer size .text
+    ++ laterPages b size (firstPage b longer size .left) (firstPage b longer size .left) (firstPage b longer size .at)
