@@ -1,3 +1,4 @@
 pub mod Turns
+pub mod Unique
 pub mod Whole
 pub mod Writing

@@ -5,14 +5,15 @@ use mathlib.Core.List.{List, [], _++_, append-assoc, append-nil}
 use Prim.Native.Nat.{ℕ, zero, suc, _+_, _<_, _≤_}
 use native.Mathlib.Omega.{arith}
 use lib.Dec.{leb}
-use lib.ListN.{length}
-use borrow.Author.Tests.{le-leb}
+use lib.ListN.{length, length-append}
+use borrow.Author.Tests.{le-leb, leb-true}
 use Rattle.bundle.specs.declared.BundleCheck.{BundleCheck}
 use Rattle.bundle.specs.declared.BundleCheck.the-variants as check
 use Rattle.bundle.specs.Bundle.{packetCount, packetsOffset, packetEnd, checkBundle}
 use Rattle.bundle.specs.Answers.{answerAt, packetLies, answersFrom, afterCheck, bundleAnswer}
-use Rattle.report.specs.Text.{lineOf, headLine, refusedLine}
-use Rattle.report.specs.Pages.{Page, behind, fullPage, pageFrom, linesOf, textOf, outputOf, outputOfInput, firstOf, firstPage, laterPages, allPages}
+use Rattle.report.specs.Text.{packetsWord, refusedWord, lineOf, headLine, refusedLine}
+use Rattle.report.proofs.Writing.{line-length, numbered-length}
+use Rattle.report.specs.Pages.{Page, behind, fullPage, pageFrom, linesOf, textOf, outputOf, outputOfInput, firstOf, firstPage, nextPage, laterPages, allPages}
 
 -- The lines of the packets that a page leaves.
 abbrev rest : List ℕ → Page → List ℕ
@@ -93,3 +94,50 @@ all-pages b longer size large =
     let p = firstPage b longer size in
     ap (λ (t : List ℕ). p .text ++ t) (later-pages b size large (p .left) (p .left) (p .at) (omega arith))
     ∙ first-and-rest b longer size large
+
+-- ---- a page's text fits the page
+
+within : (b : List ℕ) (size filled at n : ℕ) → filled ≤ size → filled + length (pageFrom b size filled at n .text) ≤ size
+unfolding pageFrom
+within b size filled at zero h = omega arith
+within b size filled at (suc n) h = by-tests (leb (filled + 19) size) refl (packetLies b at) refl (within b size (filled + length (lineOf (answerAt b at))) (packetEnd b at) n)
+  where
+    next : Page
+    next = pageFrom b size (filled + length (lineOf (answerAt b at))) (packetEnd b at) n
+
+    by-tests : (t : Bool) → leb (filled + 19) size ≡ t → (u : Bool) → packetLies b at ≡ u → (filled + length (lineOf (answerAt b at)) ≤ size → filled + length (lineOf (answerAt b at)) + length (next .text) ≤ size) → filled + length (pageFrom b size filled at (suc n) .text) ≤ size
+    by-tests false e u f ih = rw e (omega arith)
+    by-tests true e false f ih = rw (e, f) (omega arith)
+    by-tests true e true f ih =
+        let room = leb-true (filled + 19) size e in
+        let line = line-length (answerAt b at) in
+        let rest-within = ih (omega (arith, room, line)) in
+        rw (e, f) (omega (arith, rest-within, length-append (lineOf (answerAt b at)) (next .text)))
+
+pub next-page-within : (b : List ℕ) (size left at : ℕ) → length (nextPage b size left at .text) ≤ size
+next-page-within b size left at = omega (arith, within b size 0 at left (omega arith))
+
+refused-length : (n : ℕ) → length (refusedLine n) ≤ 14
+unfolding refusedLine
+refused-length n = numbered-length refusedWord n
+
+head-length : (n : ℕ) → length (headLine n) ≤ 14
+unfolding headLine
+head-length n = numbered-length packetsWord n
+
+pub first-page-within : (b : List ℕ) (longer : Bool) (size : ℕ) → length (firstPage b longer size .text) ≤ size
+unfolding firstPage
+first-page-within b longer size = by-size (leb 19 size) refl longer
+  where
+    by-check : 19 ≤ size → (c : BundleCheck) → length (firstOf c b size .text) ≤ size
+    by-check large check.Good =
+        let n = packetCount b in
+        omega (arith, length-append (headLine n) (pageFrom b size (length (headLine n)) (packetsOffset b) n .text), within b size (length (headLine n)) (packetsOffset b) n (omega (arith, head-length n)))
+    by-check large check.DoesNotFit = omega (arith, refused-length 12)
+    by-check large check.ListDoesNotFit = omega (arith, refused-length 9)
+    by-check large (check.BadRecord i) = omega (arith, refused-length 10)
+
+    by-size : (t : Bool) → leb 19 size ≡ t → (u : Bool) → length (firstPage b u size .text) ≤ size
+    by-size false e u = rw e (omega arith)
+    by-size true e true = rw e (omega (arith, refused-length 12, leb-true 19 size e))
+    by-size true e false = rw e (by-check (leb-true 19 size e) (checkBundle b))

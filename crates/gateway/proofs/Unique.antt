@@ -1,0 +1,24 @@
+-- Exactly one result meets each function's own contract.
+use Prim.Native.Nat.{ℕ}
+use mathlib.Core.List.{List}
+use contract.Lifetimes.{Lfts}
+use denote.Ref.{RefT, now}
+use Rattle.basis.specs.Unique.{ExactlyOne}
+use Rattle.basis.proofs.Unique.{equation}
+use Rattle.siglist.specs.List.{checkList}
+use Rattle.bundle.specs.Bundle.{peerOf}
+use Rattle.bundle.specs.Answers.{answerOf}
+use Rattle.gateway.specs.Code.{packetFields, fieldsOf, codeOf, gatewayAnswer, listCode}
+use Rattle.gateway.proofs.termread_check_list.Reads as check-list'
+use Rattle.gateway.proofs.termread_answer_checked.Reads as answer-checked'
+use Rattle.gateway.proofs.termread_answer.Reads as answer'
+
+pub termread-check-list-one : (κs : Lfts 1) (list : RefT (List ℕ)) → ExactlyOne ℕ (λ (r : ℕ). check-list'.Post κs (list, tt) r (list, tt))
+termread-check-list-one κs list = equation (listCode (checkList (now list)))
+
+module _ (κs : Lfts 2) (packet : RefT (List ℕ)) (peer : ℕ) (list : RefT (List ℕ)) where
+  pub termread-answer-checked-one : ExactlyOne ℕ (λ (r : ℕ). answer-checked'.Post κs (packet, (peer, (list, tt))) r (packet, (peer, (list, tt))))
+  termread-answer-checked-one = equation (codeOf (packetFields (answerOf (now packet) (peerOf peer) (now list))))
+
+  pub termread-answer-one : ExactlyOne ℕ (λ (r : ℕ). answer'.Post κs (packet, (peer, (list, tt))) r (packet, (peer, (list, tt))))
+  termread-answer-one = equation (codeOf (fieldsOf (gatewayAnswer (now packet) peer (now list))))
