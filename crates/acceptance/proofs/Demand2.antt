@@ -1,15 +1,14 @@
 -- Demand 2: the theorems of the crates, collected, and what the table of values shuts out.
 use mathlib.Core.Path.{_≡_, refl, sym, _∙_, ap}
-use mathlib.Core.Bool.{Bool, true, false, cond, _&&_}
-use mathlib.Core.List.{List, [], _∷_}
-use Prim.Native.Nat.{ℕ, _<_, _≤_}
+use mathlib.Core.Bool.{Bool, true, false, cond}
+use mathlib.Core.List.{List, []}
+use Prim.Native.Nat.{ℕ, _<_}
 use native.Mathlib.Omega.{arith}
-use lib.Dec.{eqb, ltb}
+use lib.Dec.{eqb}
 use borrow.Author.Tests.{lt-ltb, le-ltb}
 use Rattle.basis.specs.Bytes.{be16, be32, anyNonzero}
 use Rattle.quirks.specs.Quirks.{addIf, with, bitOf, placeOf}
 use Rattle.quirks.specs.Named.{empty, fromQuirks}
-use Rattle.tcp.specs.declared.Mss.{Mss}
 use Rattle.tcp.specs.declared.Mss.the-variants as mss
 use Rattle.window_size.specs.declared.Multiplier.{Multiplier}
 use Rattle.window_size.specs.declared.Multiplier.the-variants as multiplier
@@ -19,7 +18,6 @@ use Rattle.observable.specs.declared.TcpObservation.{TcpObservation}
 use Rattle.observable.specs.Observation.{emptyLayout, emptyObservation}
 use Rattle.syn_options.specs.Options.{asked, runsPast, optionsAfter}
 use Rattle.syn_options.specs.Walk.{entryByte, putEntry, laterMss, laterScale, trailingNonzero, excessiveScaling, ownTimestampZero, peerTimestampNonzero, shownQuirks, seeOption, walkFrom, walkOf}
-use Rattle.flow.specs.declared.Answer.{Answer}
 use Rattle.flow.specs.declared.Answer.the-variants as packet
 use Rattle.flow.specs.declared.Reading.{Reading}
 use Rattle.flow.specs.declared.Refusal.the-variants as refusal
@@ -27,19 +25,16 @@ use Rattle.flow.specs.Ip.{readIp}
 use Rattle.flow.specs.Reading.{readPacket}
 use Rattle.matching.specs.declared.SignatureFit.{SignatureFit}
 use Rattle.matching.specs.declared.SignatureFit.the-variants as fit
-use Rattle.matching.specs.Fit.{featuresOf}
-use Rattle.siglist.specs.declared.Found.{Found}
 use Rattle.siglist.specs.declared.Found.the-variants as found
 use Rattle.siglist.specs.declared.ListAnswer.{ListAnswer}
 use Rattle.siglist.specs.declared.ListAnswer.the-variants as list
-use Rattle.siglist.specs.declared.SearchAnswer.{SearchAnswer}
 use Rattle.siglist.specs.declared.SearchAnswer.the-variants as answer
 use Rattle.siglist.specs.Record.{labelOf}
 use Rattle.siglist.specs.List.{recordCount, recordAt, listFits, recordGood, checkList}
-use Rattle.siglist.specs.Search.{fitAt, keep, searchAll, searchList}
+use Rattle.siglist.specs.Search.{fitAt, keep, searchList}
 use Rattle.siglist.proofs.Order.{single}
 use Rattle.siglist.proofs.Refusals.{does-not-fit, Checked, first-bad-named}
-use Rattle.acceptance.specs.Values.{packetA, observationA, exampleList}
+use Rattle.acceptance.specs.Values.{packetA, exampleList}
 use Rattle.acceptance.specs.Demand2.{MultiplierTheorem, ofOne, SingleFit, ShutOut, Demand2}
 use Rattle.acceptance.proofs.Values.{values}
 

@@ -10,7 +10,6 @@ use Rattle.flow.specs.Reading.{readPacket}
 use Rattle.siglist.specs.declared.SearchAnswer.{SearchAnswer}
 use Rattle.siglist.specs.Search.{searchList}
 use Rattle.alike.specs.Ip.{AlikeIpv4, AlikeIpv6}
-use Rattle.alike.specs.Tcp.{AlikeTcp}
 use Rattle.alike.specs.Packets.{Alike}
 use Rattle.alike.proofs.Equivalence.{ipv4-sym, ipv4-trans, ipv6-sym, ipv6-trans, tcp-refl, tcp-sym, tcp-trans, alike-refl, alike-sym, alike-trans}
 use Rattle.alike.proofs.Free.{free-alike, free-byte}
@@ -18,7 +17,7 @@ use Rattle.alike.proofs.FreeTcp.{free-tcp}
 use Rattle.alike.proofs.Ip.{ip-alike-v4, ip-alike-v6}
 use Rattle.alike.proofs.Tcp.{tcp-alike}
 use Rattle.alike.proofs.Packets.{read-alike}
-use Rattle.acceptance.specs.Demand3.{Equivalence, TheRelation, Run, SameAnswer, Demand3}
+use Rattle.acceptance.specs.Demand3.{TheRelation, Run, SameAnswer, Demand3}
 use Rattle.acceptance.proofs.NotFree.{not-free}
 
 -- ---- the relation

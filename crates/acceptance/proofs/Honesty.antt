@@ -1,8 +1,7 @@
 -- The three answers stay three: what each means.
 use mathlib.Core.Path.{_≡_, refl, sym, _∙_, ap}
 use mathlib.Core.Bool.{Bool, true, false, cond, _&&_}
-use mathlib.Core.List.{List, [], _∷_}
-use mathlib.Core.Logic.{_↔_}
+use mathlib.Core.List.{List}
 use Prim.Native.Nat.{ℕ, zero, suc, _+_, _<_}
 use native.Mathlib.Omega.{arith}
 use lib.Dec.{ltb}
@@ -10,17 +9,14 @@ use lib.ListN.{length, getD}
 use Rattle.basis.proofs.Tests.{and-left, and-right}
 use Rattle.observable.specs.declared.TcpObservation.{TcpObservation}
 use Rattle.matching.specs.declared.Features.{Features}
-use Rattle.matching.specs.declared.FuzzyReason.{FuzzyReason}
 use Rattle.matching.specs.declared.QuirksFit.{QuirksFit}
 use Rattle.matching.specs.declared.Signature.{Signature}
-use Rattle.matching.specs.declared.SignatureFit.{SignatureFit}
 use Rattle.matching.specs.declared.SignatureFit.the-variants as fit
 use Rattle.matching.specs.declared.TtlFit.{TtlFit}
 use Rattle.matching.specs.Gates.{layoutMatches}
 use Rattle.matching.specs.Fit.{featuresOf, scalarGates, toleranceOf, fitOf}
 use Rattle.matching.proofs.Laws.{Untolerated, exact-untolerated, untolerated-exact}
 use Rattle.siglist.specs.declared.Found.{Found}
-use Rattle.siglist.specs.declared.Found.the-variants as found
 use Rattle.siglist.specs.declared.ListAnswer.{ListAnswer}
 use Rattle.siglist.specs.declared.ListAnswer.the-variants as list
 use Rattle.siglist.specs.declared.SearchAnswer.{SearchAnswer}
@@ -28,7 +24,7 @@ use Rattle.siglist.specs.declared.SearchAnswer.the-variants as answer
 use Rattle.siglist.specs.List.{recordCount, checkList}
 use Rattle.siglist.specs.Search.{fitAt, numbersFrom, searchOver, searchAll, afterCheck, searchList}
 use Rattle.siglist.proofs.Order as order
-use Rattle.acceptance.specs.Honesty.{NothingTolerated, FitsExactly, fitOfRecord, labelAt, Outcome, Honesty}
+use Rattle.acceptance.specs.Honesty.{NothingTolerated, FitsExactly, fitOfRecord, Outcome, Honesty}
 
 -- ---- one record
 

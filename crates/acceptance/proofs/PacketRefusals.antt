@@ -1,9 +1,9 @@
 -- The refusals of a packet: by the first row of document 01's table that holds; what each gives.
-use mathlib.Core.Path.{_≡_, refl, sym, _∙_, ap}
-use mathlib.Core.Bool.{Bool, true, false, cond, not, _&&_, _||_, true≢false}
-use mathlib.Core.List.{List, [], _∷_}
+use mathlib.Core.Path.{_≡_, refl}
+use mathlib.Core.Bool.{Bool, true, false, not, _&&_, _||_, true≢false}
+use mathlib.Core.List.{List}
 use mathlib.Core.Logic.{_↔_}
-use Prim.Native.Nat.{ℕ, _<_, _≤_}
+use Prim.Native.Nat.{ℕ}
 use native.Mathlib.Omega.{arith}
 use native.Mathlib.Decide.{ℕ-discrete}
 use lib.Dec.{eqb, ltb}
@@ -15,7 +15,7 @@ use Rattle.rfc.specs.Rfc9293 as tcp
 use Rattle.tcp.specs.declared.Mss.{Mss}
 use Rattle.flow.specs.Flags.{maskedType, flagsInvalid}
 use Rattle.flow.specs.Reading.{readPacket}
-use Rattle.flow.specs.Refusals.{isV4, isV6, rows, firstRow, refusalOf}
+use Rattle.flow.specs.Refusals.{rows, firstRow, refusalOf}
 use Rattle.flow.proofs.Refusals.{by-first-row}
 use Rattle.acceptance.specs.Refusals.{First, FlagsInvalid, PacketRow, packetOrder, part4, part6}
 use Rattle.acceptance.proofs.First.{by-test, exactly}

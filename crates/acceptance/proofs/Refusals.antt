@@ -1,14 +1,13 @@
 -- The refusals of option strings, lists and searches, and all of them together.
 use mathlib.Core.Path.{_≡_, refl, sym, _∙_, ap}
-use mathlib.Core.Bool.{Bool, true, false, cond, not, _&&_, true≢false, false≢true}
+use mathlib.Core.Bool.{Bool, true, false, cond, _&&_, true≢false, false≢true}
 use mathlib.Core.List.{List, [], _∷_}
 use mathlib.Core.Logic.{_↔_}
-use Prim.Native.Nat.{ℕ, _+_, _*_, _<_, _≤_}
+use Prim.Native.Nat.{ℕ, _+_, _*_}
 use native.Mathlib.Omega.{arith}
 use lib.Dec.{leb, ltb}
 use lib.ListN.{length}
-use borrow.Author.Tests.{ltb-true, ltb-false, leb-true, leb-false, lt-leb, not-true, not-false}
-use Rattle.basis.proofs.Tests.{and-left, and-right}
+use borrow.Author.Tests.{ltb-true, ltb-false, leb-false, lt-leb}
 use Rattle.quirks.specs.Named.{empty}
 use Rattle.observable.specs.declared.TcpObservation.{TcpObservation}
 use Rattle.syn_options.specs.declared.OptionsAnswer.the-variants as optionsAnswer
@@ -19,7 +18,7 @@ use Rattle.siglist.specs.declared.ListAnswer.{ListAnswer}
 use Rattle.siglist.specs.declared.ListAnswer.the-variants as listAnswer
 use Rattle.siglist.specs.declared.SearchAnswer.{SearchAnswer}
 use Rattle.siglist.specs.declared.SearchAnswer.the-variants as searchAnswer
-use Rattle.siglist.specs.List.{recordCount, recordsOffset, layoutCount, layoutOffset, listFits, recordGood, checkList}
+use Rattle.siglist.specs.List.{recordCount, recordsOffset, layoutCount, layoutOffset, listFits, checkList}
 use Rattle.siglist.specs.Search.{afterCheck, searchList, listRefusal, searchRefusal}
 use Rattle.siglist.proofs.Refusals.{does-not-fit, search-order, Checked, first-bad-named}
 use Rattle.acceptance.specs.Refusals.{First, OptionsRow, FirstBad, ListRow, SearchRow, Refusals}

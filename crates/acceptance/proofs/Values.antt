@@ -15,7 +15,8 @@ use Rattle.observable.specs.Observation.{holdsKind, ownTimestampNonzero, window
 use Rattle.flow.specs.Flags.{maskedType, flagsInvalid, isSynType}
 use Rattle.flow.specs.Ip.{ipv4Quirks, ipv4Facts, readIpv4, readIp}
 use Rattle.flow.specs.Tcp.{headerQuirks, shownQuirks as showing, payloadClass, observationOf, observed, readTcp}
-use Rattle.flow.specs.Reading.{readPacket}
+use Rattle.flow.specs.Reading.{number, readPacket}
+use Rattle.flow.specs.Refusals.{refusalOf}
 use Rattle.matching.specs.Gates.{versionMatches, olenMatches, mssMatches, windowMatches, scaleMatches, payloadMatches, entriesMatch, layoutMatches}
 use Rattle.matching.specs.Tolerance.{ttlFit, maskedQuirks, quirksFit, judgeInRange, judge}
 use Rattle.matching.specs.Fit.{featuresOf, scalarGates, toleranceOf, fitOf}
@@ -70,8 +71,8 @@ option-values =
     }
 
 packet-values : PacketValues
-unfolding readPacket readIp readIpv4 ipv4Facts ipv4Quirks ipv4OptionLength readingOf guessOf initialOf readTcp flagsInvalid maskedType isSynType observed observationOf showing headerQuirks payloadClass walkOf walkFrom optionsAfter asked runsPast putEntry entryByte seeOption laterMss laterScale shownQuirks trailingNonzero excessiveScaling ownTimestampZero peerTimestampNonzero anyNonzero addIf with bitOf placeOf empty fromQuirks be16 be32
-packet-values = record { packet-A = refl }
+unfolding readPacket readIp readIpv4 ipv4Facts ipv4Quirks ipv4OptionLength readingOf guessOf initialOf readTcp flagsInvalid maskedType isSynType observed observationOf showing headerQuirks payloadClass walkOf walkFrom optionsAfter asked runsPast putEntry entryByte seeOption laterMss laterScale shownQuirks trailingNonzero excessiveScaling ownTimestampZero peerTimestampNonzero anyNonzero addIf with bitOf placeOf empty fromQuirks be16 be32 refusalOf number
+packet-values = record { packet-A = refl; packet-C = refl }
 
 fit-values : FitValues
 unfolding ttlFit windowMatches

@@ -31,7 +31,7 @@ use Rattle.siglist.specs.declared.SearchAnswer.the-variants as answer
 use Rattle.siglist.specs.Record.{signatureOf, entryCount, labelOf}
 use Rattle.siglist.specs.List.{recordCount, recordAt, entriesOf, checkList}
 use Rattle.siglist.specs.Search.{searchList}
-use Rattle.acceptance.specs.Values.{Values, packetA, exampleList}
+use Rattle.acceptance.specs.Values.{Values, exampleList}
 
 -- ---- the multiplier
 
