@@ -1,7 +1,8 @@
 -- Demand 3: "Let two packets of equal length differ only in the free bytes that document 01 lists .. With the same peer MSS and the
 -- same signature list, both get the same answer, refusals included." Which packets are alike is written in the crate `alike`:
 -- specs/Ip.antt, Tcp.antt and Options.antt, layer by layer and field by field, Packets.antt, and Free.antt, the free bytes by their
--- places. `Demand3` is the statement.
+-- places. "Demand 3 alone admits a constant, so it is stated over demand 2's definitions": `readPacket` and `searchList`, of which
+-- Demand2.antt says that they are none. `Demand3` is the statement.
 use mathlib.Core.Path.{_≡_}
 use mathlib.Core.List.{List}
 use Prim.Native.Nat.{ℕ, _<_, _≤_}
