@@ -1,4 +1,4 @@
--- What a packet's refusal gives: nothing, but for 7 the flags byte.
+-- What a packet's refusal gives: nothing, but for 7 the flags byte; and which answer a packet gets that is not refused.
 use mathlib.Core.Path.{_≡_, refl, sym}
 use mathlib.Core.Bool.{Bool, true, false, cond, not, _||_}
 use mathlib.Core.List.{List}
@@ -6,14 +6,12 @@ use Prim.Native.Nat.{ℕ, _<_}
 use native.Mathlib.Omega.{arith}
 use lib.Dec.{eqb, ltb}
 use lib.ListN.{length}
-use borrow.Author.Tests.{eqb-true}
+use borrow.Author.Tests.{eqb-true, eqb-false}
 use Rattle.rfc.specs.Rfc791 as v4
 use Rattle.rfc.specs.Rfc8200 as v6
 use Rattle.rfc.specs.Rfc9293 as tcp
 use Rattle.tcp.specs.declared.Mss.{Mss}
-use Rattle.observable.specs.declared.TcpObservation.{TcpObservation}
 use Rattle.observable.specs.Observation.{emptyObservation}
-use Rattle.flow.specs.declared.Answer.{Answer}
 use Rattle.flow.specs.declared.Answer.the-variants as answer
 use Rattle.flow.specs.declared.IpFacts.{IpFacts}
 use Rattle.flow.specs.declared.IpRead.{IpRead}
@@ -21,12 +19,12 @@ use Rattle.flow.specs.declared.IpRead.the-variants as ip
 use Rattle.flow.specs.declared.Reading.{Reading}
 use Rattle.flow.specs.declared.Refusal.{Refusal}
 use Rattle.flow.specs.declared.Refusal.the-variants as refusal
-use Rattle.flow.specs.Flags.{flagsInvalid, isSynType, isSynAckType}
+use Rattle.flow.specs.Flags.{maskedType, flagsInvalid, isSynType, isSynAckType}
 use Rattle.flow.specs.Ip.{ipv4Facts, readIpv4, ipv6Facts, readIpv6, readIp}
 use Rattle.flow.specs.Tcp.{readTcp}
 use Rattle.flow.specs.Reading.{number, tcpPart, afterIp, readPacket}
 use Rattle.flow.specs.Refusals.{refusalOf}
-use Rattle.acceptance.specs.Refusals.{part4, part6, FlagsByte, Refused, Gives}
+use Rattle.acceptance.specs.Refusals.{part4, part6, FlagsByte, Refused, Gives, Answered}
 
 -- What the IP stage gives: a refusal under 7, or facts whose TCP part is the packet's.
 data IpGives (p : List ℕ) : IpRead → Type 0 where
@@ -69,28 +67,52 @@ module _ (p : List ℕ) where
 
   -- A reading that is no refusal, or one with what it may give.
   data ReadingGives : Reading → Type 0 where
-    answered : {x : Reading} → refusalOf (x .answer) ≡ 0 → ReadingGives x
+    answered : {x : Reading} → Answered p x → ReadingGives x
     refusing : {r : Refusal} → Refused p r → ReadingGives (record { answer = answer.Refused r; observation = emptyObservation })
 
-  pick : (t : Bool) {a b : Reading} → ReadingGives a → ReadingGives b → ReadingGives (cond t a b)
-  pick true x y = x
-  pick false x y = y
-
-  no-refusal : (a : Answer) (o : TcpObservation) → refusalOf a ≡ 0 → ReadingGives (record { answer = a; observation = o })
-  no-refusal a o e = answered {x = record { answer = a; observation = o }} e
+  pick : (t : Bool) {a b : Reading} → (t ≡ true → ReadingGives a) → (t ≡ false → ReadingGives b) → ReadingGives (cond t a b)
+  pick true x y = x refl
+  pick false x y = y refl
 
   after-gives : (peer : Mss) {r : IpRead} → IpGives p r → ReadingGives (afterIp r p peer)
-  unfolding readTcp refusalOf
+  unfolding readTcp isSynType isSynAckType
   after-gives peer (refused {r} h) = refusing (Refused.nothing-more {r = r} h)
   after-gives peer (facts {f} byte) =
-      pick (flagsInvalid (tcp.control (tcpPart f p))) (refusing (Refused.flags-byte byte))
-      (pick (isSynType (tcp.control (tcpPart f p))) (no-refusal answer.Syn _ refl)
-      (pick (isSynAckType (tcp.control (tcpPart f p))) (no-refusal answer.SynAck _ refl) (no-refusal answer.Nothing _ refl)))
+      let flags = tcp.control (tcpPart f p) in
+      pick (flagsInvalid flags) (λ e. refusing (Refused.flags-byte byte)) (λ e.
+      pick (isSynType flags) (λ e. answered (Answered.syn byte (eqb-true (maskedType flags) 2 e))) (λ other.
+      pick (isSynAckType flags) (λ e. answered (Answered.syn-ack byte (eqb-true (maskedType flags) 18 e))) (λ e.
+      answered (Answered.neither byte (eqb-false (maskedType flags) 2 other) (eqb-false (maskedType flags) 18 e)))))
 
-  read-gives : (peer : Mss) {x : Reading} → ReadingGives x → x ≡ readPacket p peer → 0 < refusalOf (x .answer) → Gives p peer
-  read-gives peer (answered e) same h = absurd (omega arith)
-  read-gives peer (refusing {r} also) same h = record { why = r; reading = sym same; also = also }
+  no-refusal : {x : Reading} → Answered p x → refusalOf (x .answer) ≡ 0
+  unfolding refusalOf
+  no-refusal (Answered.syn b e) = refl
+  no-refusal (Answered.syn-ack b e) = refl
+  no-refusal (Answered.neither b e g) = refl
+
+  some-number : (r : Refusal) → number r ≡ 0 → ⊥
+  unfolding number
+  some-number refusal.Version e = omega arith
+  some-number refusal.TooShort e = omega arith
+  some-number refusal.HeaderLength e = omega arith
+  some-number refusal.UnsupportedProtocol e = omega arith
+  some-number refusal.Fragment e = omega arith
+  some-number refusal.TcpTooShort e = omega arith
+  some-number (refusal.InvalidTcpFlags f) e = omega arith
+
+  when-refused : (peer : Mss) {x : Reading} → ReadingGives x → x ≡ readPacket p peer → 0 < refusalOf (x .answer) → Gives p peer
+  when-refused peer (answered a) same h = let none = no-refusal a in absurd (omega arith)
+  when-refused peer (refusing {r} also) same h = record { why = r; reading = sym same; also = also }
+
+  when-not : {x : Reading} → ReadingGives x → refusalOf (x .answer) ≡ 0 → Answered p x
+  unfolding refusalOf
+  when-not (answered a) e = a
+  when-not (refusing {r} also) e = absurd (some-number r e)
 
 pub packet-gives : (p : List ℕ) (peer : Mss) → 0 < refusalOf (readPacket p peer .answer) → Gives p peer
 unfolding readPacket
-packet-gives p peer h = read-gives p peer (after-gives p peer (ip-gives p)) refl h
+packet-gives p peer h = when-refused p peer (after-gives p peer (ip-gives p)) refl h
+
+pub packet-answers : (p : List ℕ) (peer : Mss) → refusalOf (readPacket p peer .answer) ≡ 0 → Answered p (readPacket p peer)
+unfolding readPacket
+packet-answers p peer e = when-not p (after-gives p peer (ip-gives p)) e

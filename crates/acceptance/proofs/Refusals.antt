@@ -23,7 +23,7 @@ use Rattle.siglist.specs.Search.{afterCheck, searchList, listRefusal, searchRef
 use Rattle.siglist.proofs.Refusals.{does-not-fit, search-order, Checked, first-bad-named}
 use Rattle.acceptance.specs.Refusals.{First, OptionsRow, FirstBad, ListRow, SearchRow, Refusals}
 use Rattle.acceptance.proofs.First.{by-test, exactly}
-use Rattle.acceptance.proofs.PacketGives.{packet-gives}
+use Rattle.acceptance.proofs.PacketGives.{packet-gives, packet-answers}
 use Rattle.acceptance.proofs.PacketRefusals.{packet-first}
 
 -- ---- option strings
@@ -163,6 +163,7 @@ refusals =
     record {
       packet = packet-first;
       packet-gives = packet-gives;
+      packet-answers = packet-answers;
       options = options-first;
       options-give = options-give;
       list = λ l. exactly (list-row l);

@@ -17,8 +17,10 @@ use Rattle.observable.specs.Observation.{emptyObservation}
 use Rattle.syn_options.specs.declared.OptionsAnswer.the-variants as optionsAnswer
 use Rattle.syn_options.specs.Walk.{startWalk, parsedOf, parseOptionsRaw, optionsRefusal}
 use Rattle.flow.specs.declared.Answer.the-variants as answer
+use Rattle.flow.specs.declared.Reading.{Reading}
 use Rattle.flow.specs.declared.Refusal.{Refusal}
 use Rattle.flow.specs.declared.Refusal.the-variants as refusal
+use Rattle.flow.specs.Flags.{maskedType}
 use Rattle.flow.specs.Reading.{number, readPacket}
 use Rattle.flow.specs.Refusals.{refusalOf}
 use Rattle.siglist.specs.declared.ListAnswer.the-variants as listAnswer
@@ -89,6 +91,21 @@ pub record Gives (p : List ℕ) (peer : Mss) : Type 0 where
   pub reading : readPacket p peer ≡ record { answer = answer.Refused why; observation = emptyObservation }
   pub also : Refused p why
 
+-- "Valid flags whose masked type is neither SYN nor SYN+ACK answer 'nothing', which is not a refusal"; nothing stands beside it either.
+pub data Answered (p : List ℕ) : Reading → Type 0 where
+  syn : {f : ℕ} {o : TcpObservation} → FlagsByte p f → maskedType f ≡ 2 → Answered p (record { answer = answer.Syn; observation = o })
+  syn-ack
+      : {f : ℕ} {o : TcpObservation}
+      → FlagsByte p f
+      → maskedType f ≡ 18
+      → Answered p (record { answer = answer.SynAck; observation = o })
+  neither
+      : {f : ℕ}
+      → FlagsByte p f
+      → (maskedType f ≡ 2 → ⊥)
+      → (maskedType f ≡ 18 → ⊥)
+      → Answered p (record { answer = answer.Nothing; observation = emptyObservation })
+
 -- ---- an option string
 
 -- 8: "option string over 40 bytes"
@@ -123,6 +140,7 @@ pub record Refusals : Type 0 where
   -- is no refusal, exactly when no row holds.
   pub packet : (p : List ℕ) (peer : Mss) (n : ℕ) → (refusalOf (readPacket p peer .answer) ≡ n) ↔ First (PacketRow p) packetOrder n
   pub packet-gives : (p : List ℕ) (peer : Mss) → 0 < refusalOf (readPacket p peer .answer) → Gives p peer
+  pub packet-answers : (p : List ℕ) (peer : Mss) → refusalOf (readPacket p peer .answer) ≡ 0 → Answered p (readPacket p peer)
   -- "an option string 8"
   pub options : (s : List ℕ) (n : ℕ) → (optionsRefusal (parseOptionsRaw s .answer) ≡ n) ↔ First (OptionsRow s) (8 ∷ []) n
   pub options-give
