@@ -5,11 +5,15 @@ use Rattle.ttl.proofs.Unique as ttl
 use Rattle.window_size.proofs.Unique as window-size
 use Rattle.ip_options.proofs.Unique as ip-options
 use Rattle.observable.proofs.Unique as observable
+use Rattle.one_option.proofs.Unique as one-option
 use Rattle.syn_options.proofs.Unique as syn-options
+use Rattle.ip.proofs.Unique as ip
 use Rattle.flow.proofs.Unique as flow
+use Rattle.distances.proofs.Unique as distances
 use Rattle.matching.proofs.Unique as matching
 use Rattle.siglist.proofs.Unique as siglist
-use Rattle.acceptance.specs.Demand1.{Numbers, Quirks, TtlReading, Window, IpOptions, Observable, Options, Flow, Matching, Siglist, Demand1}
+use Rattle.search.proofs.Unique as search
+use Rattle.acceptance.specs.Demand1.{Numbers, Quirks, TtlReading, Window, IpOptions, Observable, OneOption, Options, Ip, Flow, Distances, Matching, Siglist, Search, Demand1}
 
 of-numbers : Numbers
 of-numbers =
@@ -68,6 +72,15 @@ of-observable =
       own-timestamp-is-nonzero = λ o. let u = observable.own-timestamp-is-nonzero-one o in record { one = u; is = u .meets };
     }
 
+of-one-option : OneOption
+of-one-option =
+    record {
+      asked-bytes = λ κs k s. let u = one-option.asked-bytes-one κs k s in record { one = u; is = u .meets };
+      later-mss = λ κs k s m. let u = one-option.later-mss-one κs k s m in record { one = u; is = u .meets };
+      later-scale = λ κs k s w. let u = one-option.later-scale-one κs k s w in record { one = u; is = u .meets };
+      later-quirks = λ κs k s syn q. let u = one-option.later-quirks-one κs k s syn q in record { one = u; is = u .meets };
+    }
+
 of-options : Options
 of-options =
     record {
@@ -75,27 +88,37 @@ of-options =
       parse-options-raw = λ κs s. let u = syn-options.parse-options-raw-one κs s in record { one = u; is = u .meets };
     }
 
+of-ip : Ip
+of-ip =
+    record {
+      refusal-number = λ r. let u = ip.refusal-number-one r in record { one = u; is = u .meets };
+      process-tcp-ipv4 = λ κs p. let u = ip.process-tcp-ipv4-one κs p in record { one = u; is = u .meets };
+      process-tcp-ipv6 = λ κs p. let u = ip.process-tcp-ipv6-one κs p in record { one = u; is = u .meets };
+      read-ip = λ κs p. let u = ip.read-ip-one κs p in record { one = u; is = u .meets };
+    }
+
 of-flow : Flow
 of-flow =
     record {
-      refusal-number = λ r. let u = flow.refusal-number-one r in record { one = u; is = u .meets };
-      process-tcp-ipv4 = λ κs p. let u = flow.process-tcp-ipv4-one κs p in record { one = u; is = u .meets };
-      process-tcp-ipv6 = λ κs p. let u = flow.process-tcp-ipv6-one κs p in record { one = u; is = u .meets };
-      read-ip = λ κs p. let u = flow.read-ip-one κs p in record { one = u; is = u .meets };
       read-packet = λ κs p peer. let u = flow.read-packet-one κs p peer in record { one = u; is = u .meets };
+    }
+
+of-distances : Distances
+of-distances =
+    record {
+      ip-version-matches = λ o s. let u = distances.ip-version-matches-one o s in record { one = u; is = u .meets };
+      ttl-fit = λ o s. let u = distances.ttl-fit-one o s in record { one = u; is = u .meets };
+      report-hop-distance = λ o s. let u = distances.report-hop-distance-one o s in record { one = u; is = u .meets };
+      window-size-matches = λ o s m. let u = distances.window-size-matches-one o s m in record { one = u; is = u .meets };
+      payload-size-matches = λ o s. let u = distances.payload-size-matches-one o s in record { one = u; is = u .meets };
     }
 
 of-matching : Matching
 of-matching =
     record {
-      ip-version-matches = λ o s. let u = matching.ip-version-matches-one o s in record { one = u; is = u .meets };
       olen-matches = λ o s. let u = matching.olen-matches-one o s in record { one = u; is = u .meets };
       mss-matches = λ o s. let u = matching.mss-matches-one o s in record { one = u; is = u .meets };
       wscale-matches = λ o s. let u = matching.wscale-matches-one o s in record { one = u; is = u .meets };
-      payload-size-matches = λ o s. let u = matching.payload-size-matches-one o s in record { one = u; is = u .meets };
-      window-size-matches = λ o s m. let u = matching.window-size-matches-one o s m in record { one = u; is = u .meets };
-      ttl-fit = λ o s. let u = matching.ttl-fit-one o s in record { one = u; is = u .meets };
-      report-hop-distance = λ o s. let u = matching.report-hop-distance-one o s in record { one = u; is = u .meets };
       quirks-fit = λ o s. let u = matching.quirks-fit-one o s in record { one = u; is = u .meets };
       olayout-matches = λ κs ks bs n es m. let u = matching.olayout-matches-one κs ks bs n es m in record { one = u; is = u .meets };
       features-of = λ o. let u = matching.features-of-one o in record { one = u; is = u .meets };
@@ -106,9 +129,16 @@ of-matching =
 of-siglist : Siglist
 of-siglist =
     record {
+      read-header = λ κs l. let u = siglist.read-header-one κs l in record { one = u; is = u .meets };
+      well-formed = λ κs r es. let u = siglist.well-formed-one κs r es in record { one = u; is = u .meets };
       check-list = λ κs l. let u = siglist.check-list-one κs l in record { one = u; is = u .meets };
-      search-checked = λ κs l o. let u = siglist.search-checked-one κs l o in record { one = u; is = u .meets };
-      search = λ κs l o. let u = siglist.search-one κs l o in record { one = u; is = u .meets };
+    }
+
+of-search : Search
+of-search =
+    record {
+      search-checked = λ κs l o. let u = search.search-checked-one κs l o in record { one = u; is = u .meets };
+      search = λ κs l o. let u = search.search-one κs l o in record { one = u; is = u .meets };
     }
 
 pub demand1 : Demand1
@@ -120,8 +150,12 @@ demand1 =
       window = of-window;
       ipOptions = of-ip-options;
       observable = of-observable;
+      oneOption = of-one-option;
       options = of-options;
+      ip = of-ip;
       flow = of-flow;
+      distances = of-distances;
       matching = of-matching;
       siglist = of-siglist;
+      search = of-search;
     }

@@ -7,33 +7,34 @@ use native.Mathlib.Omega.{arith}
 use lib.Dec.{eqb}
 use borrow.Author.Tests.{lt-ltb, le-ltb}
 use Rattle.basis.specs.Bytes.{be16, be32, anyNonzero}
+use Rattle.tcp.specs.declared.Mss.the-variants as mss
 use Rattle.quirks.specs.Quirks.{addIf, with, bitOf, placeOf}
 use Rattle.quirks.specs.Named.{empty, fromQuirks}
-use Rattle.tcp.specs.declared.Mss.the-variants as mss
 use Rattle.window_size.specs.declared.Multiplier.{Multiplier}
 use Rattle.window_size.specs.declared.Multiplier.the-variants as multiplier
 use Rattle.window_size.specs.Multiplier.{multiplierOf}
 use Rattle.window_size.proofs.First.{exactly-if, the-first}
 use Rattle.observable.specs.declared.TcpObservation.{TcpObservation}
 use Rattle.observable.specs.Observation.{emptyLayout, emptyObservation}
-use Rattle.syn_options.specs.Options.{asked, runsPast, optionsAfter}
-use Rattle.syn_options.specs.Walk.{entryByte, putEntry, laterMss, laterScale, trailingNonzero, excessiveScaling, ownTimestampZero, peerTimestampNonzero, shownQuirks, seeOption, walkFrom, walkOf}
+use Rattle.one_option.specs.Options.{asked, runsPast, optionsAfter}
+use Rattle.one_option.specs.See.{laterMss, laterScale, trailingNonzero, excessiveScaling, ownTimestampZero, peerTimestampNonzero, shownQuirks, seeOption}
+use Rattle.syn_options.specs.Walk.{entryByte, putEntry, walkFrom, walkOf}
+use Rattle.ip.specs.declared.Refusal.the-variants as refusal
+use Rattle.ip.specs.Ip.{readIp}
 use Rattle.flow.specs.declared.Answer.the-variants as packet
 use Rattle.flow.specs.declared.Reading.{Reading}
-use Rattle.flow.specs.declared.Refusal.the-variants as refusal
-use Rattle.flow.specs.Ip.{readIp}
 use Rattle.flow.specs.Reading.{readPacket}
 use Rattle.matching.specs.declared.SignatureFit.{SignatureFit}
 use Rattle.matching.specs.declared.SignatureFit.the-variants as fit
-use Rattle.siglist.specs.declared.Found.the-variants as found
 use Rattle.siglist.specs.declared.ListAnswer.{ListAnswer}
 use Rattle.siglist.specs.declared.ListAnswer.the-variants as list
-use Rattle.siglist.specs.declared.SearchAnswer.the-variants as answer
 use Rattle.siglist.specs.Record.{labelOf}
 use Rattle.siglist.specs.List.{recordCount, recordAt, listFits, recordGood, checkList}
-use Rattle.siglist.specs.Search.{fitAt, keep, searchList}
-use Rattle.siglist.proofs.Order.{single}
 use Rattle.siglist.proofs.Refusals.{does-not-fit, Checked, first-bad-named}
+use Rattle.search.specs.declared.Found.the-variants as found
+use Rattle.search.specs.declared.SearchAnswer.the-variants as answer
+use Rattle.search.specs.Search.{fitAt, keep, searchList}
+use Rattle.search.proofs.Order.{single}
 use Rattle.acceptance.specs.Values.{packetA, exampleList}
 use Rattle.acceptance.specs.Demand2.{MultiplierTheorem, ofOne, SingleFit, ShutOut, Demand2}
 use Rattle.acceptance.proofs.Values.{values}

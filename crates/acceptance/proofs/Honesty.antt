@@ -8,22 +8,22 @@ use lib.Dec.{ltb}
 use lib.ListN.{length, getD}
 use Rattle.basis.proofs.Tests.{and-left, and-right}
 use Rattle.observable.specs.declared.TcpObservation.{TcpObservation}
+use Rattle.distances.specs.declared.TtlFit.{TtlFit}
 use Rattle.matching.specs.declared.Features.{Features}
 use Rattle.matching.specs.declared.QuirksFit.{QuirksFit}
 use Rattle.matching.specs.declared.Signature.{Signature}
 use Rattle.matching.specs.declared.SignatureFit.the-variants as fit
-use Rattle.matching.specs.declared.TtlFit.{TtlFit}
 use Rattle.matching.specs.Gates.{layoutMatches}
 use Rattle.matching.specs.Fit.{featuresOf, scalarGates, toleranceOf, fitOf}
 use Rattle.matching.proofs.Laws.{Untolerated, exact-untolerated, untolerated-exact}
-use Rattle.siglist.specs.declared.Found.{Found}
 use Rattle.siglist.specs.declared.ListAnswer.{ListAnswer}
 use Rattle.siglist.specs.declared.ListAnswer.the-variants as list
-use Rattle.siglist.specs.declared.SearchAnswer.{SearchAnswer}
-use Rattle.siglist.specs.declared.SearchAnswer.the-variants as answer
 use Rattle.siglist.specs.List.{recordCount, checkList}
-use Rattle.siglist.specs.Search.{fitAt, numbersFrom, searchOver, searchAll, afterCheck, searchList}
-use Rattle.siglist.proofs.Order as order
+use Rattle.search.specs.declared.Found.{Found}
+use Rattle.search.specs.declared.SearchAnswer.{SearchAnswer}
+use Rattle.search.specs.declared.SearchAnswer.the-variants as answer
+use Rattle.search.specs.Search.{fitAt, numbersFrom, searchOver, searchAll, afterCheck, searchList}
+use Rattle.search.proofs.Order as order
 use Rattle.acceptance.specs.Honesty.{NothingTolerated, FitsExactly, fitOfRecord, Outcome, Honesty}
 
 -- ---- one record

@@ -8,32 +8,36 @@ use lib.Dec.{eqb}
 use lib.ListN.{set}
 use borrow.Author.Tests.{eq-eqb}
 use Rattle.basis.specs.Bytes.{byteAt, be16, be32, anyNonzero}
-use Rattle.quirks.specs.Quirks.{placeOf, bitOf, holds, contains, isEmpty, bitsOf, with, addIf, difference}
-use Rattle.quirks.specs.Named.{fromQuirks, displayOrder, empty, fuzzyDeletable, fuzzyAddable, maskWhenObsV4, maskWhenObsV6, seventeen}
-use Rattle.tcp.specs.declared.Mss.the-variants as mss
-use Rattle.ttl.specs.Ttl.{initialOf, guessOf, readingOf, byteOf}
-use Rattle.ip_options.specs.IpOptions.{ipv4OptionLength, ipv6ExtensionLength}
-use Rattle.syn_options.specs.Options.{asked, runsPast, optionsAfter}
-use Rattle.syn_options.specs.Walk.{entryByte, putEntry, laterMss, laterScale, trailingNonzero, excessiveScaling, ownTimestampZero, peerTimestampNonzero, shownQuirks, seeOption, walkFrom, walkOf}
-use Rattle.flow.specs.declared.Reading.{Reading}
-use Rattle.flow.specs.Flags.{maskedType, flagsInvalid, isSynType, isSynAckType}
-use Rattle.flow.specs.Ip.{ipv4Quirks, ipv4Facts, readIpv4, ipv6Quirks, ipv6Facts, readIpv6, readIp}
-use Rattle.flow.specs.Tcp.{headerQuirks, shownQuirks as showing, payloadClass, observationOf, observed, knownPeer, readTcp}
-use Rattle.flow.specs.Reading.{number, readPacket}
-use Rattle.flow.specs.Refusals.{refusalOf}
-use Rattle.siglist.specs.declared.Found.the-variants as found
-use Rattle.siglist.specs.declared.SearchAnswer.the-variants as answer
 use Rattle.basis.specs.Digits.{digit}
 use Rattle.basis.specs.Tests.{allBelow}
+use Rattle.tcp.specs.declared.Mss.the-variants as mss
+use Rattle.quirks.specs.Quirks.{placeOf, bitOf, holds, contains, isEmpty, bitsOf, with, addIf, difference}
+use Rattle.quirks.specs.Named.{fromQuirks, displayOrder, empty, fuzzyDeletable, fuzzyAddable, maskWhenObsV4, maskWhenObsV6, seventeen}
+use Rattle.ttl.specs.Ttl.{initialOf, guessOf, readingOf, byteOf}
 use Rattle.window_size.specs.Divisors.{twelve, divides, peerSize}
 use Rattle.window_size.specs.Multiplier.{firstMultiple, multiplierOf}
+use Rattle.ip_options.specs.IpOptions.{ipv4OptionLength, ipv6ExtensionLength}
 use Rattle.observable.specs.Observation.{holdsKind, ownTimestampNonzero, windowMultiplier}
-use Rattle.matching.specs.Gates.{versionMatches, olenMatches, mssMatches, windowMatches, scaleMatches, payloadMatches, entriesMatch, layoutMatches}
-use Rattle.matching.specs.Tolerance.{ttlFit, maskedQuirks, quirksFit, judgeInRange, judge}
+use Rattle.one_option.specs.Options.{asked, runsPast, optionsAfter}
+use Rattle.one_option.specs.See.{laterMss, laterScale, trailingNonzero, excessiveScaling, ownTimestampZero, peerTimestampNonzero, shownQuirks, seeOption}
+use Rattle.syn_options.specs.Walk.{entryByte, putEntry, walkFrom, walkOf}
+use Rattle.ip.specs.Ip.{ipv4Quirks, ipv4Facts, readIpv4, ipv6Quirks, ipv6Facts, readIpv6, readIp}
+use Rattle.ip.specs.Numbers.{number}
+use Rattle.flow.specs.declared.Reading.{Reading}
+use Rattle.flow.specs.Flags.{maskedType, flagsInvalid, isSynType, isSynAckType}
+use Rattle.flow.specs.Tcp.{headerQuirks, shownQuirks as showing, payloadClass, observationOf, observed, knownPeer, readTcp}
+use Rattle.flow.specs.Reading.{readPacket}
+use Rattle.flow.specs.Refusals.{refusalOf}
+use Rattle.distances.specs.Gates.{versionMatches, windowMatches, payloadMatches}
+use Rattle.distances.specs.Distances.{ttlFit}
+use Rattle.matching.specs.Gates.{olenMatches, mssMatches, scaleMatches, entriesMatch, layoutMatches}
+use Rattle.matching.specs.Tolerance.{maskedQuirks, quirksFit, judgeInRange, judge}
 use Rattle.matching.specs.Fit.{featuresOf, scalarGates, toleranceOf, fitOf}
 use Rattle.siglist.specs.Record.{versionOf, ttlOf, mssOf, scaleOf, windowOf, payloadOf, signatureOf, versionGood, ttlGood, presenceGood, windowGood, payloadGood, quirksGood, scalarsGood, entryGood, entriesGood}
 use Rattle.siglist.specs.List.{listFits, layoutLies, recordGood, recordsFrom, checkList}
-use Rattle.siglist.specs.Search.{fitAt, keep, searchFrom, numbersFrom, searchOver, searchAll, searchList}
+use Rattle.search.specs.declared.Found.the-variants as found
+use Rattle.search.specs.declared.SearchAnswer.the-variants as answer
+use Rattle.search.specs.Search.{fitAt, keep, searchFrom, numbersFrom, searchOver, searchAll, searchList}
 use Rattle.alike.proofs.Packets.{read-alike}
 use Rattle.acceptance.specs.Values.{packetA, exampleList}
 use Rattle.acceptance.specs.NotFree.{ReadApart, AnsweredApart, stamped, overIpv6, NotFree}

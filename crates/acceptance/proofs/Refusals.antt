@@ -16,11 +16,12 @@ use Rattle.syn_options.specs.Walk.{startWalk, walkOf, parsedOf, parseOptionsRaw
 use Rattle.syn_options.proofs.Entries.{refused-over-forty}
 use Rattle.siglist.specs.declared.ListAnswer.{ListAnswer}
 use Rattle.siglist.specs.declared.ListAnswer.the-variants as listAnswer
-use Rattle.siglist.specs.declared.SearchAnswer.{SearchAnswer}
-use Rattle.siglist.specs.declared.SearchAnswer.the-variants as searchAnswer
-use Rattle.siglist.specs.List.{recordCount, recordsOffset, layoutCount, layoutOffset, listFits, checkList}
-use Rattle.siglist.specs.Search.{afterCheck, searchList, listRefusal, searchRefusal}
-use Rattle.siglist.proofs.Refusals.{does-not-fit, search-order, Checked, first-bad-named}
+use Rattle.siglist.specs.List.{recordCount, recordsOffset, layoutCount, layoutOffset, listFits, checkList, listRefusal}
+use Rattle.siglist.proofs.Refusals.{does-not-fit, Checked, first-bad-named}
+use Rattle.search.specs.declared.SearchAnswer.{SearchAnswer}
+use Rattle.search.specs.declared.SearchAnswer.the-variants as searchAnswer
+use Rattle.search.specs.Search.{afterCheck, searchList, searchRefusal}
+use Rattle.search.proofs.Refusals.{search-order}
 use Rattle.acceptance.specs.Refusals.{First, OptionsRow, FirstBad, ListRow, SearchRow, Refusals}
 use Rattle.acceptance.proofs.First.{by-test, exactly}
 use Rattle.acceptance.proofs.PacketGives.{packet-gives, packet-answers}

@@ -57,47 +57,62 @@ use Rattle.observable.specs.Observation.{emptyObservation, windowMultiplier, ow
 use Rattle.observable.proofs.TcpObservation.empty.Reads as empty'
 use Rattle.observable.proofs.TcpObservation.window_multiplier.Reads as window-multiplier'
 use Rattle.observable.proofs.TcpObservation.own_timestamp_is_nonzero.Reads as own-timestamp'
+-- one_option
+use Rattle.one_option.specs.Options.{asked}
+use Rattle.one_option.specs.See.{laterMss, laterScale, shownQuirks}
+use Rattle.one_option.proofs.asked_bytes.Reads as asked-bytes'
+use Rattle.one_option.proofs.later_mss.Reads as later-mss'
+use Rattle.one_option.proofs.later_scale.Reads as later-scale'
+use Rattle.one_option.proofs.later_quirks.Reads as later-quirks'
 -- syn_options
 use Rattle.syn_options.specs.Walk.{walkOf, parseOptionsRaw}
 use Rattle.syn_options.proofs.walk_options.Reads as walk-options'
 use Rattle.syn_options.proofs.parse_options_raw.Reads as parse-options-raw'
+-- ip
+use Rattle.ip.specs.declared.Refusal.{Refusal}
+use Rattle.ip.specs.Ip.{readIpv4, readIpv6, readIp}
+use Rattle.ip.specs.Numbers.{number}
+use Rattle.ip.proofs.refusal_number.Reads as refusal-number'
+use Rattle.ip.proofs.process_tcp_ipv4.Reads as process-tcp-ipv4'
+use Rattle.ip.proofs.process_tcp_ipv6.Reads as process-tcp-ipv6'
+use Rattle.ip.proofs.read_ip.Reads as read-ip'
 -- flow
-use Rattle.flow.specs.declared.Refusal.{Refusal}
-use Rattle.flow.specs.Ip.{readIpv4, readIpv6, readIp}
-use Rattle.flow.specs.Reading.{number, readPacket}
-use Rattle.flow.proofs.refusal_number.Reads as refusal-number'
-use Rattle.flow.proofs.process_tcp_ipv4.Reads as process-tcp-ipv4'
-use Rattle.flow.proofs.process_tcp_ipv6.Reads as process-tcp-ipv6'
-use Rattle.flow.proofs.read_ip.Reads as read-ip'
+use Rattle.flow.specs.Reading.{readPacket}
 use Rattle.flow.proofs.read_packet.Reads as read-packet'
+-- distances
+use Rattle.distances.specs.declared.SigPayload.{SigPayload}
+use Rattle.distances.specs.declared.SigVersion.{SigVersion}
+use Rattle.distances.specs.declared.WindowSize.{WindowSize}
+use Rattle.distances.specs.Gates.{versionMatches, windowMatches, payloadMatches}
+use Rattle.distances.specs.Distances.{ttlFit, reportedHops}
+use Rattle.distances.proofs.ip_version_matches.Reads as ip-version-matches'
+use Rattle.distances.proofs.ttl_fit.Reads as ttl-fit'
+use Rattle.distances.proofs.report_hop_distance.Reads as report-hop-distance'
+use Rattle.distances.proofs.window_size_matches.Reads as window-size-matches'
+use Rattle.distances.proofs.payload_size_matches.Reads as payload-size-matches'
 -- matching
 use Rattle.matching.specs.declared.Features.{Features}
-use Rattle.matching.specs.declared.SigPayload.{SigPayload}
-use Rattle.matching.specs.declared.SigVersion.{SigVersion}
 use Rattle.matching.specs.declared.Signature.{Signature}
-use Rattle.matching.specs.declared.WindowSize.{WindowSize}
-use Rattle.matching.specs.Gates.{versionMatches, olenMatches, mssMatches, windowMatches, scaleMatches, payloadMatches, layoutMatches}
-use Rattle.matching.specs.Tolerance.{ttlFit, reportedHops, quirksFit}
+use Rattle.matching.specs.Gates.{olenMatches, mssMatches, scaleMatches, layoutMatches}
+use Rattle.matching.specs.Tolerance.{quirksFit}
 use Rattle.matching.specs.Fit.{featuresOf, scalarGates, toleranceOf}
-use Rattle.matching.proofs.ip_version_matches.Reads as ip-version-matches'
 use Rattle.matching.proofs.olen_matches.Reads as olen-matches'
 use Rattle.matching.proofs.mss_matches.Reads as mss-matches'
 use Rattle.matching.proofs.wscale_matches.Reads as wscale-matches'
-use Rattle.matching.proofs.payload_size_matches.Reads as payload-size-matches'
-use Rattle.matching.proofs.window_size_matches.Reads as window-size-matches'
-use Rattle.matching.proofs.ttl_fit.Reads as ttl-fit'
-use Rattle.matching.proofs.report_hop_distance.Reads as report-hop-distance'
 use Rattle.matching.proofs.quirks_fit.Reads as quirks-fit'
 use Rattle.matching.proofs.olayout_matches.Reads as olayout-matches'
 use Rattle.matching.proofs.features_of.Reads as features-of'
 use Rattle.matching.proofs.gates.Reads as gates'
 use Rattle.matching.proofs.tolerance.Reads as tolerance'
 -- siglist
-use Rattle.siglist.specs.List.{checkList}
-use Rattle.siglist.specs.Search.{searchAll, searchList}
+use Rattle.siglist.specs.List.{headerOf, wellFormed, checkList}
+use Rattle.siglist.proofs.read_header.Reads as read-header'
+use Rattle.siglist.proofs.well_formed.Reads as well-formed'
 use Rattle.siglist.proofs.check_list.Reads as check-list'
-use Rattle.siglist.proofs.search_checked.Reads as search-checked'
-use Rattle.siglist.proofs.search.Reads as search'
+-- search
+use Rattle.search.specs.Search.{searchAll, searchList}
+use Rattle.search.proofs.search_checked.Reads as search-checked'
+use Rattle.search.proofs.search.Reads as search'
 
 -- On these arguments exactly one result meets the promise, and it is this one. The arguments at exit are those at entry: "All
 -- inputs are read only."
@@ -152,6 +167,22 @@ pub record Observable : Type 0 where
   pub window-multiplier : (o : TcpObservation) → Answers (window-multiplier'.Post tt) (o, tt) (windowMultiplier o)
   pub own-timestamp-is-nonzero : (o : TcpObservation) → Answers (own-timestamp'.Post tt) (o, tt) (ownTimestampNonzero o)
 
+pub record OneOption : Type 0 where
+  pub asked-bytes
+      : (κs : Lfts 1) (kind : ℕ) (own : RefT (List ℕ))
+      → Answers (asked-bytes'.Post κs) (kind, (own, tt)) (asked kind (now own))
+  pub later-mss
+      : (κs : Lfts 1) (kind : ℕ) (own : RefT (List ℕ)) (m : Mss)
+      → Answers (later-mss'.Post κs) (kind, (own, (m, tt))) (laterMss m (record { kind = kind; own = now own }))
+  pub later-scale
+      : (κs : Lfts 1) (kind : ℕ) (own : RefT (List ℕ)) (w : Wscale)
+      → Answers (later-scale'.Post κs) (kind, (own, (w, tt))) (laterScale w (record { kind = kind; own = now own }))
+  pub later-quirks
+      : (κs : Lfts 1) (kind : ℕ) (own : RefT (List ℕ)) (syn : Bool) (q : QuirkSet)
+      → Answers (later-quirks'.Post κs)
+      (kind, (own, (syn, (q, tt))))
+      (shownQuirks syn q (record { kind = kind; own = now own }))
+
 pub record Options : Type 0 where
   pub walk-options
       : (κs : Lfts 1) (options : RefT (List ℕ)) (stop syn : Bool) (quirks : QuirkSet)
@@ -159,30 +190,34 @@ pub record Options : Type 0 where
   pub parse-options-raw
       : (κs : Lfts 1) (buf : RefT (List ℕ)) → Answers (parse-options-raw'.Post κs) (buf, tt) (parseOptionsRaw (now buf))
 
-pub record Flow : Type 0 where
+pub record Ip : Type 0 where
   pub refusal-number : (refusal : Refusal) → Answers (refusal-number'.Post tt) (refusal, tt) (number refusal)
   pub process-tcp-ipv4
       : (κs : Lfts 1) (packet : RefT (List ℕ)) → Answers (process-tcp-ipv4'.Post κs) (packet, tt) (readIpv4 (now packet))
   pub process-tcp-ipv6
       : (κs : Lfts 1) (packet : RefT (List ℕ)) → Answers (process-tcp-ipv6'.Post κs) (packet, tt) (readIpv6 (now packet))
   pub read-ip : (κs : Lfts 1) (packet : RefT (List ℕ)) → Answers (read-ip'.Post κs) (packet, tt) (readIp (now packet))
+
+pub record Flow : Type 0 where
   pub read-packet
       : (κs : Lfts 1) (packet : RefT (List ℕ)) (peer : Mss)
       → Answers (read-packet'.Post κs) (packet, (peer, tt)) (readPacket (now packet) peer)
 
-pub record Matching : Type 0 where
+pub record Distances : Type 0 where
   pub ip-version-matches
       : (o : IpVersion) (s : SigVersion) → Answers (ip-version-matches'.Post tt) (o, (s, tt)) (versionMatches o s)
-  pub olen-matches : (o s : ℕ) → Answers (olen-matches'.Post tt) (o, (s, tt)) (olenMatches o s)
-  pub mss-matches : (o s : Mss) → Answers (mss-matches'.Post tt) (o, (s, tt)) (mssMatches o s)
-  pub wscale-matches : (o s : Wscale) → Answers (wscale-matches'.Post tt) (o, (s, tt)) (scaleMatches o s)
-  pub payload-size-matches
-      : (o : PayloadSize) (s : SigPayload) → Answers (payload-size-matches'.Post tt) (o, (s, tt)) (payloadMatches o s)
+  pub ttl-fit : (o : ℕ) (s : Ttl) → Answers (ttl-fit'.Post tt) (o, (s, tt)) (ttlFit o s)
+  pub report-hop-distance : (o s : Ttl) → Answers (report-hop-distance'.Post tt) (o, (s, tt)) (reportedHops o s)
   pub window-size-matches
       : (o : ℕ) (s : WindowSize) (m : Multiplier)
       → Answers (window-size-matches'.Post tt) (o, (s, (m, tt))) (windowMatches o s m)
-  pub ttl-fit : (o : ℕ) (s : Ttl) → Answers (ttl-fit'.Post tt) (o, (s, tt)) (ttlFit o s)
-  pub report-hop-distance : (o s : Ttl) → Answers (report-hop-distance'.Post tt) (o, (s, tt)) (reportedHops o s)
+  pub payload-size-matches
+      : (o : PayloadSize) (s : SigPayload) → Answers (payload-size-matches'.Post tt) (o, (s, tt)) (payloadMatches o s)
+
+pub record Matching : Type 0 where
+  pub olen-matches : (o s : ℕ) → Answers (olen-matches'.Post tt) (o, (s, tt)) (olenMatches o s)
+  pub mss-matches : (o s : Mss) → Answers (mss-matches'.Post tt) (o, (s, tt)) (mssMatches o s)
+  pub wscale-matches : (o s : Wscale) → Answers (wscale-matches'.Post tt) (o, (s, tt)) (scaleMatches o s)
   pub quirks-fit : (o s : QuirkSet) → Answers (quirks-fit'.Post tt) (o, (s, tt)) (quirksFit o s)
   pub olayout-matches
       : (κs : Lfts 3) (kinds bytes : RefT (List ℕ)) (count : ℕ) (entries : RefT (List ℕ)) (declared : ℕ)
@@ -194,7 +229,13 @@ pub record Matching : Type 0 where
   pub tolerance : (f : Features) (s : Signature) → Answers (tolerance'.Post tt) (f, (s, tt)) (toleranceOf f s)
 
 pub record Siglist : Type 0 where
+  pub read-header : (κs : Lfts 1) (list : RefT (List ℕ)) → Answers (read-header'.Post κs) (list, tt) (headerOf (now list))
+  pub well-formed
+      : (κs : Lfts 2) (raw entries : RefT (List ℕ))
+      → Answers (well-formed'.Post κs) (raw, (entries, tt)) (wellFormed (now raw) (now entries))
   pub check-list : (κs : Lfts 1) (list : RefT (List ℕ)) → Answers (check-list'.Post κs) (list, tt) (checkList (now list))
+
+pub record Search : Type 0 where
   pub search-checked
       : (κs : Lfts 1) (list : RefT (List ℕ)) (o : TcpObservation)
       → Answers (search-checked'.Post κs) (o, (list, tt)) (searchAll o (now list))
@@ -209,7 +250,11 @@ pub record Demand1 : Type 0 where
   pub window : Window
   pub ipOptions : IpOptions
   pub observable : Observable
+  pub oneOption : OneOption
   pub options : Options
+  pub ip : Ip
   pub flow : Flow
+  pub distances : Distances
   pub matching : Matching
   pub siglist : Siglist
+  pub search : Search

@@ -5,10 +5,10 @@ use mathlib.Core.Bool.{Bool, false, true}
 use mathlib.Core.List.{List, [], _∷_}
 use mathlib.Core.Logic.{_↔_}
 use Prim.Native.Nat.{ℕ, _<_, _≤_}
-use Rattle.quirks.specs.Named.{empty}
 use Rattle.tcp.specs.declared.IpVersion.{IpVersion}
 use Rattle.tcp.specs.declared.Mss.{Mss}
 use Rattle.tcp.specs.declared.Mss.the-variants as mss
+use Rattle.quirks.specs.Named.{empty}
 use Rattle.window_size.specs.declared.Multiplier.the-variants as multiplier
 use Rattle.window_size.specs.declared.WindowMultiplier.{WindowMultiplier}
 use Rattle.window_size.specs.Divisors.{SomeOf, isV6, peerSize, twelve}
@@ -16,21 +16,21 @@ use Rattle.window_size.specs.Multiplier.{FirstOf, multiplierOf}
 use Rattle.observable.specs.declared.TcpObservation.{TcpObservation}
 use Rattle.observable.specs.Observation.{emptyObservation}
 use Rattle.syn_options.specs.Walk.{walkOf}
+use Rattle.ip.specs.declared.Refusal.{Refusal}
 use Rattle.flow.specs.declared.Answer.the-variants as packet
 use Rattle.flow.specs.declared.Reading.{Reading}
-use Rattle.flow.specs.declared.Refusal.{Refusal}
 use Rattle.flow.specs.Reading.{readPacket}
 use Rattle.matching.specs.declared.SignatureFit.{SignatureFit}
 use Rattle.matching.specs.declared.SignatureFit.the-variants as fit
 use Rattle.matching.specs.Fit.{featuresOf, fitOf}
-use Rattle.siglist.specs.declared.Found.{Found}
-use Rattle.siglist.specs.declared.Found.the-variants as found
 use Rattle.siglist.specs.declared.ListAnswer.the-variants as list
-use Rattle.siglist.specs.declared.SearchAnswer.{SearchAnswer}
-use Rattle.siglist.specs.declared.SearchAnswer.the-variants as answer
 use Rattle.siglist.specs.Record.{signatureOf, entryCount, labelOf}
 use Rattle.siglist.specs.List.{recordCount, recordAt, entriesOf, checkList}
-use Rattle.siglist.specs.Search.{searchList}
+use Rattle.search.specs.declared.Found.{Found}
+use Rattle.search.specs.declared.Found.the-variants as found
+use Rattle.search.specs.declared.SearchAnswer.{SearchAnswer}
+use Rattle.search.specs.declared.SearchAnswer.the-variants as answer
+use Rattle.search.specs.Search.{searchList}
 use Rattle.acceptance.specs.Values.{Values, exampleList}
 
 -- ---- the multiplier

@@ -11,15 +11,15 @@ use denote.Ref.{RefT, now}
 use lib.ListN.{length, set}
 use Rattle.rfc.specs.Rfc791.{version}
 use Rattle.tcp.specs.declared.Mss.{Mss}
-use Rattle.flow.specs.declared.IpFacts.{IpFacts}
+use Rattle.ip.specs.declared.IpFacts.{IpFacts}
+use Rattle.ip.specs.Ip.{readIp}
 use Rattle.flow.specs.declared.Reading.{Reading}
-use Rattle.flow.specs.Ip.{readIp}
 use Rattle.flow.specs.Tcp.{readTcp}
 use Rattle.flow.specs.Reading.{readPacket}
 use Rattle.flow.proofs.read_packet.Reads as read-packet'
-use Rattle.siglist.specs.declared.SearchAnswer.{SearchAnswer}
-use Rattle.siglist.specs.Search.{searchList}
-use Rattle.siglist.proofs.search.Reads as search'
+use Rattle.search.specs.declared.SearchAnswer.{SearchAnswer}
+use Rattle.search.specs.Search.{searchList}
+use Rattle.search.proofs.search.Reads as search'
 use Rattle.alike.specs.Ip.{AlikeIpv4, AlikeIpv6}
 use Rattle.alike.specs.Tcp.{AlikeTcp}
 use Rattle.alike.specs.Packets.{Alike}

@@ -7,6 +7,9 @@ use mathlib.Core.Logic.{_↔_}
 use Prim.Native.Nat.{ℕ, _<_}
 use Rattle.quirks.specs.Quirks.{isEmpty}
 use Rattle.observable.specs.declared.TcpObservation.{TcpObservation}
+use Rattle.distances.specs.declared.TtlFit.{TtlFit}
+use Rattle.distances.specs.declared.TtlFit.the-variants as ttlfit
+use Rattle.distances.specs.Distances.{ttlFit}
 use Rattle.matching.specs.declared.Features.{Features}
 use Rattle.matching.specs.declared.FuzzyReason.{FuzzyReason}
 use Rattle.matching.specs.declared.QuirksFit.{QuirksFit}
@@ -15,17 +18,15 @@ use Rattle.matching.specs.declared.Signature.{Signature}
 use Rattle.matching.specs.declared.SignatureFit.{SignatureFit}
 use Rattle.matching.specs.declared.SignatureFit.the-variants as fit
 use Rattle.matching.specs.declared.Tolerated.{Tolerated}
-use Rattle.matching.specs.declared.TtlFit.{TtlFit}
-use Rattle.matching.specs.declared.TtlFit.the-variants as ttlfit
 use Rattle.matching.specs.Gates.{layoutMatches}
-use Rattle.matching.specs.Tolerance.{ttlFit, maskedQuirks, quirksFit}
+use Rattle.matching.specs.Tolerance.{maskedQuirks, quirksFit}
 use Rattle.matching.specs.Fit.{featuresOf, scalarGates, fitOf}
-use Rattle.siglist.specs.declared.Found.{Found}
-use Rattle.siglist.specs.declared.Found.the-variants as found
-use Rattle.siglist.specs.declared.SearchAnswer.the-variants as answer
 use Rattle.siglist.specs.Record.{labelOf}
 use Rattle.siglist.specs.List.{recordCount, recordAt}
-use Rattle.siglist.specs.Search.{fitAt, searchList}
+use Rattle.search.specs.declared.Found.{Found}
+use Rattle.search.specs.declared.Found.the-variants as found
+use Rattle.search.specs.declared.SearchAnswer.the-variants as answer
+use Rattle.search.specs.Search.{fitAt, searchList}
 
 -- "Nothing tolerated": the TTL is in range, and no quirk is added or missing.
 pub data NothingTolerated : TtlFit → QuirksFit → Type 0 where

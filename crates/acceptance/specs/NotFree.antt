@@ -6,7 +6,7 @@ use Prim.Native.Nat.{ℕ}
 use lib.ListN.{set}
 use Rattle.tcp.specs.declared.Mss.the-variants as mss
 use Rattle.flow.specs.Reading.{readPacket}
-use Rattle.siglist.specs.Search.{searchList}
+use Rattle.search.specs.Search.{searchList}
 use Rattle.alike.specs.Packets.{Alike}
 use Rattle.acceptance.specs.Values.{packetA, exampleList}
 

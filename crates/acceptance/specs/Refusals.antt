@@ -16,17 +16,18 @@ use Rattle.observable.specs.declared.TcpObservation.{TcpObservation}
 use Rattle.observable.specs.Observation.{emptyObservation}
 use Rattle.syn_options.specs.declared.OptionsAnswer.the-variants as optionsAnswer
 use Rattle.syn_options.specs.Walk.{startWalk, parsedOf, parseOptionsRaw, optionsRefusal}
+use Rattle.ip.specs.declared.Refusal.{Refusal}
+use Rattle.ip.specs.declared.Refusal.the-variants as refusal
+use Rattle.ip.specs.Numbers.{number}
 use Rattle.flow.specs.declared.Answer.the-variants as answer
 use Rattle.flow.specs.declared.Reading.{Reading}
-use Rattle.flow.specs.declared.Refusal.{Refusal}
-use Rattle.flow.specs.declared.Refusal.the-variants as refusal
 use Rattle.flow.specs.Flags.{maskedType}
-use Rattle.flow.specs.Reading.{number, readPacket}
+use Rattle.flow.specs.Reading.{readPacket}
 use Rattle.flow.specs.Refusals.{refusalOf}
 use Rattle.siglist.specs.declared.ListAnswer.the-variants as listAnswer
-use Rattle.siglist.specs.declared.SearchAnswer.the-variants as searchAnswer
-use Rattle.siglist.specs.List.{recordCount, recordsOffset, layoutCount, layoutOffset, recordGood, checkList}
-use Rattle.siglist.specs.Search.{searchList, listRefusal, searchRefusal}
+use Rattle.siglist.specs.List.{recordCount, recordsOffset, layoutCount, layoutOffset, recordGood, checkList, listRefusal}
+use Rattle.search.specs.declared.SearchAnswer.the-variants as searchAnswer
+use Rattle.search.specs.Search.{searchList, searchRefusal}
 
 -- The number of the first row that holds, of rows in this order of test; 0 if none does.
 pub data First (Row : ℕ → Type 0) : List ℕ → ℕ → Type 0 where
