@@ -12,8 +12,9 @@ use Rattle.flow.proofs.Unique as flow
 use Rattle.distances.proofs.Unique as distances
 use Rattle.matching.proofs.Unique as matching
 use Rattle.siglist.proofs.Unique as siglist
+use Rattle.found.proofs.Unique as found
 use Rattle.search.proofs.Unique as search
-use Rattle.acceptance.specs.Demand1.{Numbers, Quirks, TtlReading, Window, IpOptions, Observable, OneOption, Options, Ip, Flow, Distances, Matching, Siglist, Search, Demand1}
+use Rattle.acceptance.specs.Demand1.{Numbers, Quirks, TtlReading, Window, IpOptions, Observable, OneOption, Options, Ip, Flow, Distances, Matching, Siglist, Held, Search, Demand1}
 
 of-numbers : Numbers
 of-numbers =
@@ -134,6 +135,14 @@ of-siglist =
       check-list = λ κs l. let u = siglist.check-list-one κs l in record { one = u; is = u .meets };
     }
 
+of-held : Held
+of-held =
+    record {
+      is-exact = λ f. let u = found.is-exact-one f in record { one = u; is = u .meets };
+      is-nothing = λ f. let u = found.is-nothing-one f in record { one = u; is = u .meets };
+      keep-fit = λ held label f. let u = found.keep-fit-one held label f in record { one = u; is = u .meets };
+    }
+
 of-search : Search
 of-search =
     record {
@@ -157,5 +166,6 @@ demand1 =
       distances = of-distances;
       matching = of-matching;
       siglist = of-siglist;
+      held = of-held;
       search = of-search;
     }

@@ -31,9 +31,10 @@ use Rattle.siglist.specs.declared.ListAnswer.the-variants as list
 use Rattle.siglist.specs.Record.{labelOf}
 use Rattle.siglist.specs.List.{recordCount, recordAt, listFits, recordGood, checkList}
 use Rattle.siglist.proofs.Refusals.{does-not-fit, Checked, first-bad-named}
-use Rattle.search.specs.declared.Found.the-variants as found
+use Rattle.found.specs.declared.Found.the-variants as found
 use Rattle.search.specs.declared.SearchAnswer.the-variants as answer
-use Rattle.search.specs.Search.{fitAt, keep, searchList}
+use Rattle.found.specs.Keep.{keep}
+use Rattle.search.specs.Search.{fitAt, searchList}
 use Rattle.search.proofs.Order.{single}
 use Rattle.acceptance.specs.Values.{packetA, exampleList}
 use Rattle.acceptance.specs.Demand2.{MultiplierTheorem, ofOne, SingleFit, ShutOut, Demand2}

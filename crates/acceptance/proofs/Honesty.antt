@@ -19,7 +19,7 @@ use Rattle.matching.proofs.Laws.{Untolerated, exact-untolerated, untolerated-ex
 use Rattle.siglist.specs.declared.ListAnswer.{ListAnswer}
 use Rattle.siglist.specs.declared.ListAnswer.the-variants as list
 use Rattle.siglist.specs.List.{recordCount, checkList}
-use Rattle.search.specs.declared.Found.{Found}
+use Rattle.found.specs.declared.Found.{Found}
 use Rattle.search.specs.declared.SearchAnswer.{SearchAnswer}
 use Rattle.search.specs.declared.SearchAnswer.the-variants as answer
 use Rattle.search.specs.Search.{fitAt, numbersFrom, searchOver, searchAll, afterCheck, searchList}

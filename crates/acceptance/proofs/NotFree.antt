@@ -35,9 +35,10 @@ use Rattle.matching.specs.Tolerance.{maskedQuirks, quirksFit, judgeInRange, jud
 use Rattle.matching.specs.Fit.{featuresOf, scalarGates, toleranceOf, fitOf}
 use Rattle.siglist.specs.Record.{versionOf, ttlOf, mssOf, scaleOf, windowOf, payloadOf, signatureOf, versionGood, ttlGood, presenceGood, windowGood, payloadGood, quirksGood, scalarsGood, entryGood, entriesGood}
 use Rattle.siglist.specs.List.{listFits, layoutLies, recordGood, recordsFrom, checkList}
-use Rattle.search.specs.declared.Found.the-variants as found
+use Rattle.found.specs.declared.Found.the-variants as found
 use Rattle.search.specs.declared.SearchAnswer.the-variants as answer
-use Rattle.search.specs.Search.{fitAt, keep, searchFrom, numbersFrom, searchOver, searchAll, searchList}
+use Rattle.found.specs.Keep.{keep}
+use Rattle.search.specs.Search.{fitAt, searchFrom, numbersFrom, searchOver, searchAll, searchList}
 use Rattle.alike.proofs.Packets.{read-alike}
 use Rattle.acceptance.specs.Values.{packetA, exampleList}
 use Rattle.acceptance.specs.NotFree.{ReadApart, AnsweredApart, stamped, overIpv6, NotFree}

@@ -26,7 +26,8 @@ use Rattle.matching.specs.Tolerance.{maskedQuirks, quirksFit, judgeInRange, jud
 use Rattle.matching.specs.Fit.{featuresOf, scalarGates, toleranceOf, fitOf}
 use Rattle.siglist.specs.Record.{versionOf, ttlOf, mssOf, scaleOf, windowOf, payloadOf, signatureOf, versionGood, ttlGood, presenceGood, windowGood, payloadGood, quirksGood, scalarsGood, entryGood, entriesGood}
 use Rattle.siglist.specs.List.{listFits, layoutLies, recordGood, recordsFrom, checkList}
-use Rattle.search.specs.Search.{fitAt, keep, searchFrom, numbersFrom, searchOver, searchAll, searchList}
+use Rattle.found.specs.Keep.{keep}
+use Rattle.search.specs.Search.{fitAt, searchFrom, numbersFrom, searchOver, searchAll, searchList}
 use Rattle.acceptance.specs.Values.{TtlValues, WindowValues, OptionValues, PacketValues, FitValues, ThreeAnswers, Values}
 
 ttl-values : TtlValues

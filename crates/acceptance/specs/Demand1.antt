@@ -109,6 +109,13 @@ use Rattle.siglist.specs.List.{headerOf, wellFormed, checkList}
 use Rattle.siglist.proofs.read_header.Reads as read-header'
 use Rattle.siglist.proofs.well_formed.Reads as well-formed'
 use Rattle.siglist.proofs.check_list.Reads as check-list'
+-- found
+use Rattle.matching.specs.declared.SignatureFit.{SignatureFit}
+use Rattle.found.specs.declared.Found.{Found}
+use Rattle.found.specs.Keep.{fitsNothing, keep, isExact}
+use Rattle.found.proofs.is_exact.Reads as is-exact'
+use Rattle.found.proofs.is_nothing.Reads as is-nothing'
+use Rattle.found.proofs.keep_fit.Reads as keep-fit'
 -- search
 use Rattle.search.specs.Search.{searchAll, searchList}
 use Rattle.search.proofs.search_checked.Reads as search-checked'
@@ -235,6 +242,13 @@ pub record Siglist : Type 0 where
       → Answers (well-formed'.Post κs) (raw, (entries, tt)) (wellFormed (now raw) (now entries))
   pub check-list : (κs : Lfts 1) (list : RefT (List ℕ)) → Answers (check-list'.Post κs) (list, tt) (checkList (now list))
 
+pub record Held : Type 0 where
+  pub is-exact : (f : Found) → Answers (is-exact'.Post tt) (f, tt) (isExact f)
+  pub is-nothing : (f : SignatureFit) → Answers (is-nothing'.Post tt) (f, tt) (fitsNothing f)
+  pub keep-fit
+      : (held : Found) (label : ℕ) (f : SignatureFit)
+      → Answers (keep-fit'.Post tt) (held, (label, (f, tt))) (keep held label f)
+
 pub record Search : Type 0 where
   pub search-checked
       : (κs : Lfts 1) (list : RefT (List ℕ)) (o : TcpObservation)
@@ -257,4 +271,5 @@ pub record Demand1 : Type 0 where
   pub distances : Distances
   pub matching : Matching
   pub siglist : Siglist
+  pub held : Held
   pub search : Search

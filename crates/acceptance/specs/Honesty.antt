@@ -23,8 +23,8 @@ use Rattle.matching.specs.Tolerance.{maskedQuirks, quirksFit}
 use Rattle.matching.specs.Fit.{featuresOf, scalarGates, fitOf}
 use Rattle.siglist.specs.Record.{labelOf}
 use Rattle.siglist.specs.List.{recordCount, recordAt}
-use Rattle.search.specs.declared.Found.{Found}
-use Rattle.search.specs.declared.Found.the-variants as found
+use Rattle.found.specs.declared.Found.{Found}
+use Rattle.found.specs.declared.Found.the-variants as found
 use Rattle.search.specs.declared.SearchAnswer.the-variants as answer
 use Rattle.search.specs.Search.{fitAt, searchList}
 

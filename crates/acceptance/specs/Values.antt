@@ -21,7 +21,7 @@ use Rattle.distances.specs.declared.TtlFit.the-variants as ttlfit
 use Rattle.distances.specs.declared.WindowSize.the-variants as wsize
 use Rattle.distances.specs.Gates.{windowMatches}
 use Rattle.distances.specs.Distances.{initialTtl, ttlFit}
-use Rattle.search.specs.declared.Found.the-variants as found
+use Rattle.found.specs.declared.Found.the-variants as found
 use Rattle.siglist.specs.declared.ListAnswer.the-variants as list
 use Rattle.search.specs.declared.SearchAnswer.the-variants as search
 use Rattle.siglist.specs.List.{checkList}

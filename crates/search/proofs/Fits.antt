@@ -18,7 +18,8 @@ use Rattle.matching.proofs.Scalars.{and-false}
 use Rattle.siglist.specs.declared.Areas.{Areas}
 use Rattle.siglist.specs.Record.{signatureOf, firstEntry, entryCount, scalarsGood}
 use Rattle.siglist.specs.List.{recordCount, layoutCount, AreasFit, recordStart, recordAt, entriesOf, layoutLies, recordGood, wellFormed}
-use Rattle.search.specs.Search.{fitAt, fitsNothing}
+use Rattle.found.specs.Keep.{fitsNothing}
+use Rattle.search.specs.Search.{fitAt}
 use Rattle.siglist.proofs.List.{list-fits}
 
 -- A conjunction in which two parts do not both hold.
