@@ -19,6 +19,7 @@ use Rattle.acceptance.specs.Demand1.{Numbers, Quirks, TtlReading, Window
 of-numbers : Numbers
 of-numbers =
     record {
+      wide = λ x. let u = numbers.wide-one x in record { one = u; is = u .meets };
       be16 = λ high low. let u = numbers.be16-one high low in record { one = u; is = u .meets };
       be32 = λ high low. let u = numbers.be32-one high low in record { one = u; is = u .meets };
       least = λ a b. let u = numbers.least-one a b in record { one = u; is = u .meets };

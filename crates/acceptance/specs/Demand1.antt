@@ -14,6 +14,7 @@ use Rattle.tcp.specs.declared.Mss.{Mss}
 use Rattle.tcp.specs.declared.PayloadSize.{PayloadSize}
 use Rattle.tcp.specs.declared.Wscale.{Wscale}
 -- numbers
+use Rattle.numbers.proofs.wide.Reads as wide'
 use Rattle.numbers.proofs.be16.Reads as be16'
 use Rattle.numbers.proofs.be32.Reads as be32'
 use Rattle.numbers.proofs.least.Reads as least'
@@ -128,6 +129,7 @@ pub record Answers {A R : Type 0} (post : A → R → A → Type 0) (arguments :
   pub is : one .the ≡ result
 
 pub record Numbers : Type 0 where
+  pub wide : (x : ℕ) → Answers (wide'.Post tt) (x, tt) x
   pub be16 : (high low : ℕ) → Answers (be16'.Post tt) (high, (low, tt)) (high * 256 + low)
   pub be32 : (high low : ℕ) → Answers (be32'.Post tt) (high, (low, tt)) (high * 65536 + low)
   pub least : (a b : ℕ) → Answers (least'.Post tt) (a, (b, tt)) (min a b)
