@@ -1,1 +1,11 @@
+pub mod Acceptance
+pub mod Demand1
+pub mod Demand2
+pub mod Demand3
+pub mod First
+pub mod Honesty
+pub mod NotFree
+pub mod PacketGives
+pub mod PacketRefusals
+pub mod Refusals
 pub mod Values

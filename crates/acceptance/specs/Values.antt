@@ -15,12 +15,13 @@ use Rattle.syn_options.specs.Walk.{walkOf, parseOptionsRaw}
 use Rattle.observable.specs.declared.TcpObservation.{TcpObservation}
 use Rattle.flow.specs.declared.Answer.the-variants as answer
 use Rattle.flow.specs.Reading.{readPacket}
+use Rattle.flow.specs.Refusals.{refusalOf}
 use Rattle.matching.specs.declared.Hops.the-variants as hops
 use Rattle.distances.specs.declared.TtlFit.the-variants as ttlfit
 use Rattle.distances.specs.declared.WindowSize.the-variants as wsize
 use Rattle.distances.specs.Gates.{windowMatches}
 use Rattle.distances.specs.Distances.{initialTtl, ttlFit}
-use Rattle.search.specs.declared.Found.the-variants as found
+use Rattle.found.specs.declared.Found.the-variants as found
 use Rattle.siglist.specs.declared.ListAnswer.the-variants as list
 use Rattle.search.specs.declared.SearchAnswer.the-variants as search
 use Rattle.siglist.specs.List.{checkList}
@@ -107,6 +108,8 @@ observationA =
 
 pub record PacketValues : Type 0 where
   pub packet-A : readPacket packetA mss.Absent ≡ record { answer = answer.Syn; observation = observationA }
+  -- "C is 45 00 00": "refused 2"
+  pub packet-C : refusalOf (readPacket (0x45 ∷ 0 ∷ 0 ∷ []) mss.Absent .answer) ≡ 2
 
 -- "signature 64: observed 29 in range (35), 28 out (36), 65 out with hop distance 0. Bad(64): 65 rejects, 0 gives 64."
 -- "Distance(200,100) starts at 255."

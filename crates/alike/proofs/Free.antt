@@ -172,6 +172,12 @@ free-alike p q (Free.flowLabel6 version class stays) d =
 free-alike p q (Free.addresses6 version) d = outside6 d version (header6-kept d (omega arith)) (omega arith)
 free-alike p q (Free.past6 version) d = outside6 d version (header6-kept d (omega arith)) (omega arith)
 free-alike p q (Free.in-tcp {f} {from} {to} e x) d = within-tcp p q f from to e x d (spans p) e
+free-alike p q (Free.in-unread4 {r} {from} {to} version e long x) d =
+    Alike.v4 version (header4-kept d (omega arith))
+    (rw e (AlikeBody.unread long (free-tcp _ _ x (part-only (headerEnd4 p) (lengthEnd4 p) from to p q d))))
+free-alike p q (Free.in-unread6 {r} {from} {to} version e long x) d =
+    Alike.v6 version (header6-kept d (omega arith))
+    (rw e (AlikeBody.unread long (free-tcp _ _ x (part-only (headerEnd6 p) (lengthEnd6 p) from to p q d))))
 
 -- One byte of a free item changed.
 pub free-byte : (p : List ℕ) (i v : ℕ) {lo hi : ℕ} → Free p (set p i v) lo hi → lo ≤ i → i < hi → Alike p (set p i v)

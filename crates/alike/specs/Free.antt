@@ -4,13 +4,14 @@ use mathlib.Core.Path.{_≡_}
 use mathlib.Core.List.{List, _∷_}
 use Prim.Native.Nat.{ℕ, suc, _+_, _*_, _/_, _<_, _≤_, max}
 use lib.ListN.{length, drop}
-use Rattle.basis.specs.Bytes.{byteAt, be32}
+use Rattle.basis.specs.Bytes.{byteAt, be32, part}
 use Rattle.rfc.specs.Rfc791 as v4
 use Rattle.rfc.specs.Rfc8200 as v6
 use Rattle.rfc.specs.Rfc9293 as tcp
 use Rattle.one_option.specs.Options.{asked}
 use Rattle.ip.specs.declared.IpFacts.{IpFacts}
 use Rattle.ip.specs.declared.IpRead.the-variants as ip
+use Rattle.ip.specs.declared.Refusal.{Refusal}
 use Rattle.ip.specs.Ip.{readIp}
 use Rattle.flow.specs.Reading.{tcpPart}
 use Rattle.alike.specs.Options.{ZeroAlike}
@@ -76,3 +77,18 @@ pub data Free (p q : List ℕ) : ℕ → ℕ → Type 0 where
       → readIp p ≡ ip.Facts f
       → FreeTcp (tcpPart f p) (tcpPart f q) from to
       → Free p q (f .start + from) (f .start + to)
+  -- Twenty bytes or more after the header of a packet that the IP stage refuses all the same: another protocol, a fragment.
+  in-unread4
+      : {r : Refusal} {from to : ℕ}
+      → v4.version p ≡ 4
+      → readIp p ≡ ip.Refused r
+      → 20 ≤ length (part (headerEnd4 p) (lengthEnd4 p) p)
+      → FreeTcp (part (headerEnd4 p) (lengthEnd4 p) p) (part (headerEnd4 p) (lengthEnd4 p) q) from to
+      → Free p q (headerEnd4 p + from) (headerEnd4 p + to)
+  in-unread6
+      : {r : Refusal} {from to : ℕ}
+      → v4.version p ≡ 6
+      → readIp p ≡ ip.Refused r
+      → 20 ≤ length (part (headerEnd6 p) (lengthEnd6 p) p)
+      → FreeTcp (part (headerEnd6 p) (lengthEnd6 p) p) (part (headerEnd6 p) (lengthEnd6 p) q) from to
+      → Free p q (headerEnd6 p + from) (headerEnd6 p + to)

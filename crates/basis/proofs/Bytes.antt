@@ -1,4 +1,4 @@
--- Laws of byte strings: one turn of a loop over a string, and its end.
+-- Laws of byte strings: one turn of a loop over a string, and its end; the length of a part.
 use mathlib.Core.Path.{_≡_, refl, sym, _∙_, ap}
 use mathlib.Core.Bool.{Bool, true, false, not, _||_}
 use mathlib.Core.List.{List, [], _∷_}
@@ -6,14 +6,18 @@ use Prim.Native.Nat.{ℕ, _+_, _-_, _<_, _≤_}
 use native.Mathlib.Omega.{arith}
 use native.Mathlib.Numerals.{add-one}
 use lib.Dec.{eqb}
-use lib.ListN.{length, getD, take, drop, length-drop, drop-of-length-le}
+use lib.ListN.{length, getD, take, drop, length-take, length-drop, drop-of-length-le}
 use lib.Seq.{drop-cons, take-all}
 use borrow.Author.Tests.{eq-eqb, ne-eqb}
-use Rattle.basis.specs.Bytes.{byteAt, anyNonzero}
+use Rattle.basis.specs.Bytes.{byteAt, part, anyNonzero}
 
 -- What is left of a string from a place on, as a part lent to a call has it.
 pub rest-of : (s : List ℕ) (i : ℕ) → take (length s - i) (drop i s) ≡ drop i s
 rest-of s i = take-all (length s - i) (drop i s) (simp length-drop (omega arith))
+
+-- A part that ends within the string is as long as its ends are apart.
+pub part-length : (start end : ℕ) (s : List ℕ) → end ≤ length s → length (part start end s) ≡ end - start
+part-length start end s h = simp (length-take, length-drop) (omega arith)
 
 module _ (s : List ℕ) (i : ℕ) (inside : i < length s) where
   pub nonzero-here : (byteAt s i ≡ 0 → ⊥) → anyNonzero (drop i s) ≡ true

@@ -11,7 +11,7 @@ use flow::Answer;
 use flow::read_packet;
 use ip::Refusal;
 use numbers::be16;
-use search::Found;
+use found::Found;
 use search::search_checked;
 use siglist::ListAnswer;
 use siglist::check_list;

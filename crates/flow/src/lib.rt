@@ -16,6 +16,7 @@ use numbers::be16;
 use numbers::be32;
 use numbers::least;
 use numbers::saturating_add;
+use numbers::wide;
 use observable::TcpObservation;
 use quirks::Quirk;
 use quirks::QuirkSet;
@@ -45,13 +46,6 @@ const TCP_HEADER: usize = 20;
 const SYN: u8 = 2;
 
 const SYN_ACK: u8 = 18;
-
-// A nibble as a wider number.
-fn wide(x: u8) -> u16
-    ensures { λ r. ⌜ r ≡ x ⌝ }
-{
-    x as u16
-}
 
 // Not SYN with FIN or RST, nor FIN with RST, nor none of SYN, ACK, FIN and RST.
 fn is_valid(flags: u8) -> bool

@@ -12,8 +12,8 @@ use Rattle.ip.specs.Numbers.{number}
 use Rattle.matching.specs.declared.FuzzyReason.{FuzzyReason}
 use Rattle.matching.specs.declared.Hops.{Hops}
 use Rattle.matching.specs.declared.Hops.the-variants as hops
-use Rattle.search.specs.declared.Found.{Found}
-use Rattle.search.specs.declared.Found.the-variants as found
+use Rattle.found.specs.declared.Found.{Found}
+use Rattle.found.specs.declared.Found.the-variants as found
 use Rattle.bundle.specs.declared.PacketAnswer.{PacketAnswer}
 use Rattle.bundle.specs.declared.PacketAnswer.the-variants as packet
 use Rattle.gateway.specs.declared.GatewayAnswer.{GatewayAnswer}

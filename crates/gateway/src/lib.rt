@@ -11,7 +11,7 @@ use bundle::peer_of;
 use ip::Refusal;
 use ip::refusal_number;
 use matching::Hops;
-use search::Found;
+use found::Found;
 use siglist::ListAnswer;
 use siglist::check_list;
 

@@ -8,6 +8,7 @@ use lib.Dec.{eqb, ltb}
 use lib.ListN.{length}
 use borrow.Author.Tests.{lt-ltb, le-ltb, eq-eqb, ltb-false}
 use Rattle.basis.specs.Bytes.{part}
+use Rattle.basis.proofs.Bytes.{part-length}
 use Rattle.rfc.specs.Rfc791 as v4
 use Rattle.rfc.specs.Rfc8200 as v6
 use Rattle.ip.specs.declared.IpFacts.{IpFacts}
@@ -16,7 +17,6 @@ use Rattle.ip.specs.declared.IpRead.the-variants as ip
 use Rattle.ip.specs.declared.Refusal.{Refusal}
 use Rattle.ip.specs.declared.Refusal.the-variants as refusal
 use Rattle.ip.specs.Ip.{ipv4Facts, readIpv4, ipv6Facts, readIpv6, readIp}
-use Rattle.ip.proofs.Parts.{part-length}
 
 module _ (p : List ℕ) (long : 20 ≤ length p) (words : 5 ≤ v4.ihl p) (tcp : v4.protocol p ≡ 6)
     (whole : ltb 0 (v4.fragmentOffset p) || eqb (v4.moreFragments p) 1 ≡ false) where

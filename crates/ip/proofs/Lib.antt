@@ -1,4 +1,3 @@
 pub mod Fragments
 pub mod Ip
-pub mod Parts
 pub mod Unique

@@ -11,6 +11,7 @@ use ip_options::calculate_ipv6_length;
 use numbers::be16;
 use numbers::be32;
 use numbers::least;
+use numbers::wide;
 use quirks::Quirk;
 use quirks::QuirkSet;
 use tcp::IpVersion;
@@ -72,13 +73,6 @@ pub fn refusal_number(refusal: Refusal) -> u8
         Refusal::TcpTooShort => 6,
         Refusal::InvalidTcpFlags(_) => 7,
     }
-}
-
-// A nibble as a wider number.
-fn wide(x: u8) -> u16
-    ensures { λ r. ⌜ r ≡ x ⌝ }
-{
-    x as u16
 }
 
 // ---- the IP stage

@@ -2,11 +2,15 @@
 use Prim.Native.Nat.{ℕ, _+_, _*_, _-_, min}
 use Rattle.basis.specs.Unique.{ExactlyOne}
 use Rattle.basis.proofs.Unique.{equation}
+use Rattle.numbers.proofs.wide.Reads as wide'
 use Rattle.numbers.proofs.be16.Reads as be16'
 use Rattle.numbers.proofs.be32.Reads as be32'
 use Rattle.numbers.proofs.least.Reads as least'
 use Rattle.numbers.proofs.saturating_sub.Reads as saturating-sub'
 use Rattle.numbers.proofs.saturating_add.Reads as saturating-add'
+
+pub wide-one : (x : ℕ) → ExactlyOne ℕ (λ (r : ℕ). wide'.Post tt (x, tt) r (x, tt))
+wide-one x = equation x
 
 pub be16-one : (high low : ℕ) → ExactlyOne ℕ (λ (r : ℕ). be16'.Post tt (high, (low, tt)) r (high, (low, tt)))
 be16-one high low = equation (high * 256 + low)

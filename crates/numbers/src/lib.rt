@@ -1,6 +1,14 @@
-// Numbers of the standard library that the original uses: from_be_bytes, min, saturating_sub and saturating_add.
+// Numbers of the standard library that the original uses: a byte as a wider number, from_be_bytes, min, saturating_sub and
+// saturating_add.
 ghost use mathlib.Core.Path.{_≡_};
 ghost use Prim.Native.Nat.{_+_, _*_, _-_, min};
+
+// A byte as a two-byte number.
+pub fn wide(x: u8) -> u16
+    ensures { λ r. ⌜ r ≡ x ⌝ }
+{
+    x as u16
+}
 
 // A two-byte number, its high byte first.
 pub fn be16(high: u8, low: u8) -> u16

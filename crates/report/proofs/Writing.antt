@@ -9,8 +9,8 @@ use lib.ListN.{length, take, drop, getD, set, length-append, length-drop}
 use lib.Seq.{paste, paste-zero, paste-suc, length-paste, take-all, take-at, drop-append-add, drop-drop, length-take-le}
 use Rattle.report.specs.Pages.{written, Put}
 use Rattle.ip.specs.Numbers.{number}
-use Rattle.search.specs.declared.Found.{Found}
-use Rattle.search.specs.declared.Found.the-variants as found
+use Rattle.found.specs.declared.Found.{Found}
+use Rattle.found.specs.declared.Found.the-variants as found
 use Rattle.bundle.specs.declared.PacketAnswer.{PacketAnswer}
 use Rattle.bundle.specs.declared.PacketAnswer.the-variants as packet
 use Rattle.report.specs.Text.{width, fiveDigits, decimal, newline, exactWord, fuzzyWord, synWord, synackWord, refusedWord, foundText, answerText, lineOf}

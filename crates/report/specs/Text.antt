@@ -5,8 +5,8 @@ use mathlib.Core.List.{List, [], _∷_, _++_}
 use lib.Dec.{ltb}
 use lib.ListN.{drop}
 use Rattle.ip.specs.Numbers.{number}
-use Rattle.search.specs.declared.Found.{Found}
-use Rattle.search.specs.declared.Found.the-variants as found
+use Rattle.found.specs.declared.Found.{Found}
+use Rattle.found.specs.declared.Found.the-variants as found
 use Rattle.bundle.specs.declared.PacketAnswer.{PacketAnswer}
 use Rattle.bundle.specs.declared.PacketAnswer.the-variants as packet
 

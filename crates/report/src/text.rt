@@ -7,7 +7,7 @@ ghost use Rattle.report.specs.Pages.{written};
 ghost use Rattle.report.specs.Text.{width, decimal, foundText, answerText, lineOf, newline};
 use bundle::PacketAnswer;
 use ip::refusal_number;
-use search::Found;
+use found::Found;
 
 pub(crate) fn put(page: &mut [u8], at: usize, word: &[u8]) -> usize
     requires { ⌜ at + length (now word) ≤ length (now page) ⌝ }

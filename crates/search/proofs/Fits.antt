@@ -5,20 +5,21 @@ use mathlib.Core.List.{List}
 use Prim.Native.Nat.{ℕ, _+_, _*_, _-_, _<_, _≤_}
 use native.Mathlib.Omega.{arith}
 use lib.Dec.{eqb, leb, ltb}
-use lib.ListN.{length, length-take, length-drop}
+use lib.ListN.{length}
 use borrow.Author.Tests.{lt-ltb, eq-eqb}
-use Rattle.basis.specs.Bytes.{part}
 use Rattle.matching.specs.declared.Features.{Features}
 use Rattle.matching.specs.declared.SignatureFit.{SignatureFit}
 use Rattle.matching.specs.declared.SignatureFit.the-variants as fit
 use Rattle.matching.specs.Gates.{layoutMatches}
 use Rattle.matching.specs.Fit.{scalarGates, toleranceOf, fitOf}
+use Rattle.basis.proofs.Bytes.{part-length}
 use Rattle.basis.proofs.Tests.{and-left, and-right}
 use Rattle.matching.proofs.Scalars.{and-false}
 use Rattle.siglist.specs.declared.Areas.{Areas}
 use Rattle.siglist.specs.Record.{signatureOf, firstEntry, entryCount, scalarsGood}
 use Rattle.siglist.specs.List.{recordCount, layoutCount, AreasFit, recordStart, recordAt, entriesOf, layoutLies, recordGood, wellFormed}
-use Rattle.search.specs.Search.{fitAt, fitsNothing}
+use Rattle.found.specs.Keep.{fitsNothing}
+use Rattle.search.specs.Search.{fitAt}
 use Rattle.siglist.proofs.List.{list-fits}
 
 -- A conjunction in which two parts do not both hold.
@@ -100,9 +101,6 @@ module _ (f : Features) (kinds bytes l : List ℕ) (a : Areas) (i : ℕ) (fits :
       let layout = and-left (layoutMatches (f .count) kinds bytes (entryCount (recordAt l i)) (entriesOf l (recordAt l i))) (recordGood l i) holds in
       let good = and-right (layoutMatches (f .count) kinds bytes (entryCount (recordAt l i)) (entriesOf l (recordAt l i))) (recordGood l i) holds in
       rw (here, good, open-gates, layout)
-
-part-length : (start end : ℕ) (l : List ℕ) → end ≤ length l → length (part start end l) ≡ end - start
-part-length start end l h = simp (length-take, length-drop) (omega arith)
 
 -- A record that lies in a list is whole.
 pub record-whole : (l : List ℕ) (a : Areas) (i : ℕ) → AreasFit l a → i < a .records → length (recordAt l i) ≡ 24

@@ -10,11 +10,12 @@ use Rattle.matching.specs.declared.FuzzyReason.{FuzzyReason}
 use Rattle.matching.specs.declared.SignatureFit.{SignatureFit}
 use Rattle.matching.specs.declared.SignatureFit.the-variants as fit
 use Rattle.matching.specs.Fit.{featuresOf}
-use Rattle.search.specs.declared.Found.{Found}
-use Rattle.search.specs.declared.Found.the-variants as found
+use Rattle.found.specs.declared.Found.{Found}
+use Rattle.found.specs.declared.Found.the-variants as found
 use Rattle.siglist.specs.Record.{labelOf}
 use Rattle.siglist.specs.List.{recordCount, recordAt}
-use Rattle.search.specs.Search.{fitAt, keep, searchFrom, numbersFrom, searchOver, searchAll}
+use Rattle.found.specs.Keep.{keep}
+use Rattle.search.specs.Search.{fitAt, searchFrom, numbersFrom, searchOver, searchAll}
 use Rattle.search.proofs.Rows.{stays}
 
 module _ (f : Features) (kinds bytes l : List ℕ) where

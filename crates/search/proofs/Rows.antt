@@ -7,11 +7,12 @@ use native.Mathlib.Omega.{arith}
 use Rattle.matching.specs.declared.Features.{Features}
 use Rattle.matching.specs.declared.SignatureFit.{SignatureFit}
 use Rattle.matching.specs.declared.SignatureFit.the-variants as fit
-use Rattle.search.specs.declared.Found.{Found}
-use Rattle.search.specs.declared.Found.the-variants as found
+use Rattle.found.specs.declared.Found.{Found}
+use Rattle.found.specs.declared.Found.the-variants as found
 use Rattle.siglist.specs.Record.{labelOf}
 use Rattle.siglist.specs.List.{recordAt, listFits}
-use Rattle.search.specs.Search.{fitAt, fitsNothing, keep, isExact, searchFrom, numbersFrom}
+use Rattle.found.specs.Keep.{fitsNothing, keep, isExact}
+use Rattle.search.specs.Search.{fitAt, searchFrom, numbersFrom}
 
 -- A record that fits nothing changes nothing.
 pub keep-nothing : (held : Found) (label : ℕ) (x : SignatureFit) → fitsNothing x ≡ true → keep held label x ≡ held

@@ -6,7 +6,7 @@ use denote.Ref.{RefT, now}
 use Rattle.basis.specs.Unique.{ExactlyOne}
 use Rattle.basis.proofs.Unique.{equation}
 use Rattle.observable.specs.declared.TcpObservation.{TcpObservation}
-use Rattle.search.specs.declared.Found.{Found}
+use Rattle.found.specs.declared.Found.{Found}
 use Rattle.search.specs.declared.SearchAnswer.{SearchAnswer}
 use Rattle.search.specs.Search.{searchAll, searchList}
 use Rattle.search.proofs.search_checked.Reads as search-checked'

@@ -6,12 +6,12 @@ use mathlib.Core.List.{List, [], _∷_}
 use lib.Dec.{ltb}
 use Rattle.observable.specs.declared.TcpObservation.{TcpObservation}
 use Rattle.matching.specs.declared.Features.{Features}
-use Rattle.matching.specs.declared.FuzzyReason.{FuzzyReason}
 use Rattle.matching.specs.declared.SignatureFit.{SignatureFit}
 use Rattle.matching.specs.declared.SignatureFit.the-variants as fit
 use Rattle.matching.specs.Fit.{featuresOf, fitOf}
-use Rattle.search.specs.declared.Found.{Found}
-use Rattle.search.specs.declared.Found.the-variants as found
+use Rattle.found.specs.declared.Found.{Found}
+use Rattle.found.specs.declared.Found.the-variants as found
+use Rattle.found.specs.Keep.{keep}
 use Rattle.siglist.specs.declared.ListAnswer.{ListAnswer}
 use Rattle.siglist.specs.declared.ListAnswer.the-variants as list
 use Rattle.search.specs.declared.SearchAnswer.{SearchAnswer}
@@ -25,26 +25,6 @@ fitAt f kinds bytes l i =
     cond (listFits l && ltb i (recordCount l) && recordGood l i)
     (fitOf f kinds bytes (signatureOf (recordAt l i)) (entryCount (recordAt l i)) (entriesOf l (recordAt l i)))
     fit.Nothing
-
--- What is held after one record more: an exact record stays, and so does the first fuzzy one until an exact one comes.
-unfoldable pub keep : Found → ℕ → SignatureFit → Found
-keep (found.Exact kept) label f = found.Exact kept
-keep found.Nothing label fit.Nothing = found.Nothing
-keep found.Nothing label fit.Exact = found.Exact label
-keep found.Nothing label (fit.Fuzzy reason) = found.Fuzzy label reason
-keep (found.Fuzzy kept why) label fit.Nothing = found.Fuzzy kept why
-keep (found.Fuzzy kept why) label fit.Exact = found.Exact label
-keep (found.Fuzzy kept why) label (fit.Fuzzy reason) = found.Fuzzy kept why
-
-unfoldable pub fitsNothing : SignatureFit → Bool
-fitsNothing fit.Nothing = true
-fitsNothing fit.Exact = false
-fitsNothing (fit.Fuzzy reason) = false
-
-unfoldable pub isExact : Found → Bool
-isExact found.Nothing = false
-isExact (found.Exact label) = true
-isExact (found.Fuzzy label reason) = false
 
 -- The search of a row of record numbers, with what was found before it.
 unfoldable pub searchFrom : Found → Features → List ℕ → List ℕ → List ℕ → List ℕ → Found

@@ -1,4 +1,4 @@
-// The search: how a record fits, and what is held after it.
+// The search: how a record fits, and the row of records.
 ghost use mathlib.Core.Path.{_≡_};
 ghost use mathlib.Core.Bool.{true, _&&_};
 ghost use lib.Dec.{eqb, leb};
@@ -10,14 +10,17 @@ ghost use mathlib.Core.List.{List};
 ghost use lib.ListN.{length};
 ghost use Rattle.siglist.specs.Record.{entryCount, labelOf, versionOf, mssOf, scaleOf, windowOf, payloadOf, signatureOf};
 ghost use Rattle.siglist.specs.List.{recordAt, entriesOf, AreasFit, recordGood};
-ghost use Rattle.search.specs.Search.{fitAt, fitsNothing, keep, isExact, searchFrom, numbersFrom};
-use crate::Found;
+ghost use Rattle.found.specs.Keep.{keep};
+ghost use Rattle.search.specs.Search.{fitAt, searchFrom, numbersFrom};
 use crate::raw::mss_of;
 use crate::raw::scale_of;
 use crate::raw::signature_of;
-use crate::raw::wide;
 use crate::raw::window_of;
 use distances::window_size_matches;
+use found::Found;
+use found::is_exact;
+use found::is_nothing;
+use found::keep_fit;
 use matching::Features;
 use matching::SignatureFit;
 use matching::mss_matches;
@@ -26,6 +29,7 @@ use matching::olen_matches;
 use matching::tolerance;
 use matching::wscale_matches;
 use numbers::be16;
+use numbers::wide;
 use siglist::Areas;
 use siglist::RECORD;
 use siglist::well_formed;
@@ -34,45 +38,6 @@ use tcp::Mss;
 use tcp::PayloadSize;
 use tcp::Wscale;
 use window_size::Multiplier;
-
-pub(crate) fn is_exact(found: Found) -> bool
-    ensures { λ r. ⌜ r ≡ isExact found ⌝ }
-{
-    match found {
-        Found::Nothing => false,
-        Found::Exact(_) => true,
-        Found::Fuzzy(_, _) => false,
-    }
-}
-
-pub(crate) fn is_nothing(fit: SignatureFit) -> bool
-    ensures { λ r. ⌜ r ≡ fitsNothing fit ⌝ }
-{
-    match fit {
-        SignatureFit::Nothing => true,
-        SignatureFit::Exact => false,
-        SignatureFit::Fuzzy(_) => false,
-    }
-}
-
-// What is held after one record more.
-pub(crate) fn keep_fit(held: Found, label: u16, fit: SignatureFit) -> Found
-    ensures { λ r. ⌜ r ≡ keep held label fit ⌝ }
-{
-    match held {
-        Found::Exact(kept) => Found::Exact(kept),
-        Found::Nothing => match fit {
-            SignatureFit::Nothing => Found::Nothing,
-            SignatureFit::Exact => Found::Exact(label),
-            SignatureFit::Fuzzy(reason) => Found::Fuzzy(label, reason),
-        },
-        Found::Fuzzy(kept, why) => match fit {
-            SignatureFit::Nothing => Found::Fuzzy(kept, why),
-            SignatureFit::Exact => Found::Exact(label),
-            SignatureFit::Fuzzy(_) => Found::Fuzzy(kept, why),
-        },
-    }
-}
 
 // The gates of a record, each read off its bytes.
 pub(crate) fn payload_gate(observed: PayloadSize, code: u8) -> bool

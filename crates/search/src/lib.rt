@@ -2,7 +2,7 @@
 ghost use mathlib.Core.Path.{_≡_};
 ghost use Rattle.search.specs.Search.{searchAll, searchList};
 use finding::search_records;
-use matching::FuzzyReason;
+pub use found::Found;
 use matching::features_of;
 use observable::TcpObservation;
 use siglist::Header;
@@ -12,13 +12,6 @@ use siglist::read_header;
 
 mod finding;
 mod raw;
-
-// What a search finds: three answers, with the record's label.
-pub enum Found {
-    Nothing,
-    Exact(u16),
-    Fuzzy(u16, FuzzyReason),
-}
 
 // A search's answer: what it finds, or refusal 11, 9 or 10.
 pub enum SearchAnswer {

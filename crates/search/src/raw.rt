@@ -14,12 +14,6 @@ use tcp::Mss;
 use tcp::Wscale;
 use ttl::Ttl;
 
-pub(crate) fn wide(x: u8) -> u16
-    ensures { λ r. ⌜ r ≡ x ⌝ }
-{
-    x as u16
-}
-
 pub(crate) fn version_of(code: u8) -> SigVersion
     ensures { λ r. ⌜ r ≡ versionOf code ⌝ }
 {

@@ -4,9 +4,9 @@ ghost use Prim.Native.Nat.{_+_, _*_, _≤_, _<_};
 ghost use lib.ListN.{length};
 ghost use Rattle.siglist.specs.List.{listFits, areasOf, headerOf, AreasFit, layoutLies, recordGood, wellFormed, checkList};
 use numbers::be16;
+use numbers::wide;
 use raw::entries_good;
 use raw::scalars_good;
-use raw::wide;
 
 mod raw;
 

@@ -5,13 +5,8 @@ ghost use lib.ListN.{length};
 ghost use Rattle.siglist.specs.Record.{versionGood, ttlGood, presenceGood, windowGood, quirksGood, scalarsGood, entryGood, entriesGood};
 use numbers::be16;
 use numbers::be32;
+use numbers::wide;
 use quirks::QuirkSet;
-
-pub(crate) fn wide(x: u8) -> u16
-    ensures { λ r. ⌜ r ≡ x ⌝ }
-{
-    x as u16
-}
 
 pub(crate) fn version_good(code: u8) -> bool
     ensures { λ r. ⌜ r ≡ versionGood code ⌝ }

@@ -1,6 +1,6 @@
 -- `flow::read_packet` meets its contract.
 use Rattle.ip.proofs.Ip.{tcp-part-lies}
-use Rattle.ip.proofs.Parts.{part-length}
+use Rattle.basis.proofs.Bytes.{part-length}
 use native.Mathlib.Omega.{arith}
 use mathlib.Core.Path.{sym, _∙_}
 use Rattle.flow.specs.Reading.{readPacket}

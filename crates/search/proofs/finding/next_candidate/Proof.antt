@@ -3,7 +3,7 @@ use Rattle.search.proofs.Rows.{passed-over}
 use Rattle.search.proofs.Fits.{gate-fails}
 use Rattle.search.specs.Search.{searchFrom, numbersFrom}
 use Rattle.siglist.specs.List.{AreasFit}
-use Rattle.search.specs.declared.Found.{Found}
+use Rattle.found.specs.declared.Found.{Found}
 use mathlib.Core.List.{List}
 use mathlib.Core.Path.{_≡_, refl, sym, _∙_}
 use Prim.Native.Nat.{ℕ, _+_, _-_, _≤_}

@@ -2,8 +2,8 @@
 use Rattle.search.proofs.Rows.{one-record, exact-ends, no-record}
 use Rattle.search.specs.Search.{searchFrom, numbersFrom}
 use Rattle.siglist.specs.List.{AreasFit}
-use Rattle.search.specs.declared.Found.the-variants.{Nothing}
-use Rattle.search.specs.declared.Found.{Found}
+use Rattle.found.specs.declared.Found.the-variants.{Nothing}
+use Rattle.found.specs.declared.Found.{Found}
 use native.Mathlib.Nat.{sub-zero}
 use Prim.Native.Nat.{_+_, _-_, _≤_}
 use mathlib.Core.Path.{_≡_, refl, sym, _∙_, ap}

@@ -1,6 +1,6 @@
 -- `search::search_step` meets its contract.
 use Rattle.search.proofs.Rows.{keep-nothing}
-use Rattle.search.specs.Search.{keep}
+use Rattle.found.specs.Keep.{keep}
 use Rattle.siglist.specs.List.{recordAt}
 use Rattle.siglist.specs.Record.{labelOf}
 use Rattle.matching.specs.declared.SignatureFit.{SignatureFit}

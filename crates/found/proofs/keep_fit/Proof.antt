@@ -1,8 +1,8 @@
--- `search::keep_fit` meets its contract.
-use Rattle.search.specs.Search.{keep}
+-- `found::keep_fit` meets its contract.
+use Rattle.found.specs.Keep.{keep}
 use borrow.Author.Needs.{needs}
-use Rattle.search.proofs.finding.keep_fit.Statement.{statement}
-use Rattle.search.proofs.finding.keep_fit.Tie as tie
+use Rattle.found.proofs.keep_fit.Statement.{statement}
+use Rattle.found.proofs.keep_fit.Tie as tie
 
 enum-known-held : tie.Need-enum-known-held
 enum-known-held c = search needs

@@ -1,8 +1,8 @@
--- `search::is_nothing` meets its contract.
-use Rattle.search.specs.Search.{fitsNothing}
+-- `found::is_nothing` meets its contract.
+use Rattle.found.specs.Keep.{fitsNothing}
 use borrow.Author.Needs.{needs}
-use Rattle.search.proofs.finding.is_nothing.Statement.{statement}
-use Rattle.search.proofs.finding.is_nothing.Tie as tie
+use Rattle.found.proofs.is_nothing.Statement.{statement}
+use Rattle.found.proofs.is_nothing.Tie as tie
 
 enum-told : tie.Need-enum-told
 enum-told c = search needs

@@ -1,8 +1,8 @@
--- `search::is_exact` meets its contract.
-use Rattle.search.specs.Search.{isExact}
+-- `found::is_exact` meets its contract.
+use Rattle.found.specs.Keep.{isExact}
 use borrow.Author.Needs.{needs}
-use Rattle.search.proofs.finding.is_exact.Statement.{statement}
-use Rattle.search.proofs.finding.is_exact.Tie as tie
+use Rattle.found.proofs.is_exact.Statement.{statement}
+use Rattle.found.proofs.is_exact.Tie as tie
 
 enum-told : tie.Need-enum-told
 enum-told c = search needs

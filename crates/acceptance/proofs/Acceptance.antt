@@ -1,0 +1,10 @@
+-- The one theorem.
+use Rattle.acceptance.specs.Acceptance.{Acceptance}
+use Rattle.acceptance.proofs.Demand1.{demand1}
+use Rattle.acceptance.proofs.Demand2.{demand2}
+use Rattle.acceptance.proofs.Demand3.{demand3}
+use Rattle.acceptance.proofs.Honesty.{honesty}
+use Rattle.acceptance.proofs.Refusals.{refusals}
+
+pub acceptance : Acceptance
+acceptance = record { honesty = honesty; demand1 = demand1; refusals = refusals; demand2 = demand2; demand3 = demand3 }

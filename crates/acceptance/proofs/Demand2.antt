@@ -1,0 +1,144 @@
+-- Demand 2: the theorems of the crates, collected, and what the table of values shuts out.
+use mathlib.Core.Path.{_≡_, refl, sym, _∙_, ap}
+use mathlib.Core.Bool.{Bool, true, false, cond}
+use mathlib.Core.List.{List, []}
+use Prim.Native.Nat.{ℕ, _<_}
+use native.Mathlib.Omega.{arith}
+use lib.Dec.{eqb}
+use borrow.Author.Tests.{lt-ltb, le-ltb}
+use Rattle.basis.specs.Bytes.{be16, be32, anyNonzero}
+use Rattle.tcp.specs.declared.Mss.the-variants as mss
+use Rattle.quirks.specs.Quirks.{addIf, with, bitOf, placeOf}
+use Rattle.quirks.specs.Named.{empty, fromQuirks}
+use Rattle.window_size.specs.declared.Multiplier.{Multiplier}
+use Rattle.window_size.specs.declared.Multiplier.the-variants as multiplier
+use Rattle.window_size.specs.Multiplier.{multiplierOf}
+use Rattle.window_size.proofs.First.{exactly-if, the-first}
+use Rattle.observable.specs.declared.TcpObservation.{TcpObservation}
+use Rattle.observable.specs.Observation.{emptyLayout, emptyObservation}
+use Rattle.one_option.specs.Options.{asked, runsPast, optionsAfter}
+use Rattle.one_option.specs.See.{laterMss, laterScale, trailingNonzero, excessiveScaling, ownTimestampZero, peerTimestampNonzero, shownQuirks, seeOption}
+use Rattle.syn_options.specs.Walk.{entryByte, putEntry, walkFrom, walkOf}
+use Rattle.ip.specs.declared.Refusal.the-variants as refusal
+use Rattle.ip.specs.Ip.{readIp}
+use Rattle.flow.specs.declared.Answer.the-variants as packet
+use Rattle.flow.specs.declared.Reading.{Reading}
+use Rattle.flow.specs.Reading.{readPacket}
+use Rattle.matching.specs.declared.SignatureFit.{SignatureFit}
+use Rattle.matching.specs.declared.SignatureFit.the-variants as fit
+use Rattle.siglist.specs.declared.ListAnswer.{ListAnswer}
+use Rattle.siglist.specs.declared.ListAnswer.the-variants as list
+use Rattle.siglist.specs.Record.{labelOf}
+use Rattle.siglist.specs.List.{recordCount, recordAt, listFits, recordGood, checkList}
+use Rattle.siglist.proofs.Refusals.{does-not-fit, Checked, first-bad-named}
+use Rattle.found.specs.declared.Found.the-variants as found
+use Rattle.search.specs.declared.SearchAnswer.the-variants as answer
+use Rattle.found.specs.Keep.{keep}
+use Rattle.search.specs.Search.{fitAt, searchList}
+use Rattle.search.proofs.Order.{single}
+use Rattle.acceptance.specs.Values.{packetA, exampleList}
+use Rattle.acceptance.specs.Demand2.{MultiplierTheorem, ofOne, SingleFit, ShutOut, Demand2}
+use Rattle.acceptance.proofs.Values.{values}
+
+-- ---- the multiplier
+
+either-way : (t : Bool) (m : Multiplier) → cond t m m ≡ m
+either-way true m = refl
+either-way false m = refl
+
+multiplier-theorem : MultiplierTheorem
+unfolding multiplierOf
+multiplier-theorem =
+    record {
+      given-exactly-if = exactly-if;
+      over-the-first = the-first;
+      window-0 = λ own headers stamped version peer. refl;
+      mss-absent = λ window headers stamped version peer. either-way (eqb window 0) multiplier.Absent;
+      mss-under-100 = λ window own headers stamped version peer h.
+          rw (lt-ltb own 100 h) (either-way (eqb window 0) multiplier.Absent);
+    }
+
+-- ---- the single fit
+
+keep-one : (label : ℕ) (x : SignatureFit) → keep found.Nothing label x ≡ ofOne label x
+unfolding keep
+keep-one label fit.Nothing = refl
+keep-one label fit.Exact = refl
+keep-one label (fit.Fuzzy r) = refl
+
+module _ (l : List ℕ) (good : checkList l ≡ list.Good) where
+  -- A good list fits, and its records are good.
+  fits : listFits l ≡ true
+  fits = by-test (listFits l) refl
+    where
+      by-test : (t : Bool) → listFits l ≡ t → t ≡ true
+      by-test true e = refl
+      by-test false e = let other = does-not-fit l e in let z : _≡_ {A = ℕ} 0 1 = cc in absurd (omega arith)
+
+  record-good : (j : ℕ) → j < recordCount l → recordGood l j ≡ true
+  record-good j h = by-check (first-bad-named l fits) good
+    where
+      by-check : {a : ListAnswer} → Checked l 0 (recordCount l) a → a ≡ list.Good → recordGood l j ≡ true
+      by-check (Checked.all-good all) e = all j (omega arith) (omega arith)
+      by-check (Checked.first-bad k b u bad before) e = let z : _≡_ {A = ℕ} 0 1 = cc in absurd (omega arith)
+
+single-fit : SingleFit
+unfolding searchList fitAt
+single-fit o l few good one =
+    rw (le-ltb 40 (o .olayout .count) few, good)
+    (ap answer.Found
+    (single o l one
+    ∙ rw (fits l good, lt-ltb 0 (recordCount l) (omega arith), record-good l good 0 (omega arith)) (keep-one (labelOf (recordAt l 0)) _)))
+
+-- ---- what is shut out
+
+answer-A : readPacket packetA mss.Absent .answer ≡ packet.Syn
+answer-A = ap (λ (x : Reading). x .answer) (values .packet .packet-A)
+
+window-A : readPacket packetA mss.Absent .observation .wsize ≡ 5840
+window-A = ap (λ (x : Reading). x .observation .wsize) (values .packet .packet-A)
+
+answer-of-nothing : readPacket [] mss.Absent .answer ≡ packet.Refused refusal.Version
+unfolding readPacket readIp
+answer-of-nothing = refl
+
+nothing-fits : searchList emptyObservation [] ≡ answer.DoesNotFit
+unfolding searchList checkList listFits emptyObservation emptyLayout be16
+nothing-fits = refl
+
+shut-out : ShutOut
+unfolding emptyObservation walkOf walkFrom optionsAfter asked runsPast putEntry entryByte seeOption laterMss laterScale shownQuirks trailingNonzero excessiveScaling ownTimestampZero peerTimestampNonzero anyNonzero addIf with bitOf placeOf empty fromQuirks be16 be32
+shut-out =
+    record {
+      refuses-all = λ h.
+          let e = h packetA in
+          let a = answer-A in
+          let r = e .1 in
+          let z : _≡_ {A = ℕ} 0 1 = cc in
+          omega arith;
+      none-always = λ h.
+          let e = h packetA in
+          let a = values .search .exact in
+          let z : _≡_ {A = ℕ} 0 1 = cc in
+          omega arith;
+      untouched = λ h.
+          let e : _≡_ {A = ℕ} 5840 0 = sym window-A ∙ ap (λ (o : TcpObservation). o .wsize) (h packetA) in
+          omega arith;
+      second-mss = refl;
+      constant-reader = λ c h.
+          let e : packet.Syn ≡ packet.Refused refusal.Version =
+          sym answer-A ∙ ap (λ (x : Reading). x .answer) (h packetA mss.Absent ∙ sym (h [] mss.Absent)) ∙ answer-of-nothing in
+          let z : _≡_ {A = ℕ} 0 1 = cc in
+          omega arith;
+      constant-search = λ c h.
+          let e : answer.Found (found.Exact 7) ≡ answer.DoesNotFit =
+          sym (values .search .exact)
+          ∙ h (readPacket packetA mss.Absent .observation) exampleList
+          ∙ sym (h emptyObservation [])
+          ∙ nothing-fits in
+          let z : _≡_ {A = ℕ} 0 1 = cc in
+          omega arith;
+    }
+
+pub demand2 : Demand2
+demand2 = record { multiplier = multiplier-theorem; single = single-fit; values = values; shutOut = shut-out }

@@ -1,0 +1,82 @@
+-- Demand 3: the theorems of the crate alike, and what follows for the search and for what the functions return.
+use mathlib.Core.Path.{_≡_, refl, sym, _∙_, ap}
+use mathlib.Core.List.{List}
+use Prim.Native.Nat.{ℕ}
+use denote.Ref.{RefT, now}
+use lib.ListN.{length}
+use Rattle.tcp.specs.declared.Mss.{Mss}
+use Rattle.flow.specs.declared.Reading.{Reading}
+use Rattle.flow.specs.Reading.{readPacket}
+use Rattle.search.specs.declared.SearchAnswer.{SearchAnswer}
+use Rattle.search.specs.Search.{searchList}
+use Rattle.alike.specs.Ip.{AlikeIpv4, AlikeIpv6}
+use Rattle.alike.specs.Packets.{Alike}
+use Rattle.alike.proofs.Equivalence.{ipv4-sym, ipv4-trans, ipv6-sym, ipv6-trans, tcp-refl, tcp-sym, tcp-trans, alike-refl, alike-sym, alike-trans}
+use Rattle.alike.proofs.Free.{free-alike, free-byte}
+use Rattle.alike.proofs.FreeTcp.{free-tcp}
+use Rattle.alike.proofs.Ip.{ip-alike-v4, ip-alike-v6}
+use Rattle.alike.proofs.Tcp.{tcp-alike}
+use Rattle.alike.proofs.Packets.{read-alike}
+use Rattle.acceptance.specs.Demand3.{TheRelation, Run, SameAnswer, Demand3}
+use Rattle.acceptance.proofs.NotFree.{not-free}
+
+-- ---- the relation
+
+ipv4-refl : (p : List ℕ) → AlikeIpv4 p p
+ipv4-refl p = record { sameLength = refl; first = λ i l u. refl; identification = refl; second = λ i l u. refl }
+
+ipv6-refl : (p : List ℕ) → AlikeIpv6 p p
+ipv6-refl p = record { sameLength = refl; first = refl; second = refl; flowLabel = refl; third = λ i l u. refl }
+
+same-length : (p q : List ℕ) → Alike p q → length p ≡ length q
+same-length p q (Alike.same e) = ap length e
+same-length p q (Alike.v4 four a body) = a .sameLength
+same-length p q (Alike.v6 six a body) = a .sameLength
+
+the-relation : TheRelation
+the-relation =
+    record {
+      packets = record { reflexive = alike-refl; symmetric = alike-sym; transitive = alike-trans };
+      ipv4 =
+          record { reflexive = ipv4-refl; symmetric = λ p q a. ipv4-sym a; transitive = λ p q r a b. ipv4-trans a b };
+      ipv6 =
+          record { reflexive = ipv6-refl; symmetric = λ p q a. ipv6-sym a; transitive = λ p q r a b. ipv6-trans a b };
+      tcp = record { reflexive = tcp-refl; symmetric = λ p q a. tcp-sym a; transitive = λ p q r a b. tcp-trans a b };
+      sameLength = same-length;
+      free = free-alike;
+      free-byte = free-byte;
+      free-tcp = free-tcp;
+      not-free = not-free;
+    }
+
+-- ---- the same answer
+
+search-alike
+    : (p q : List ℕ) (peer : Mss) (l : List ℕ)
+    → Alike p q
+    → searchList (readPacket p peer .observation) l ≡ searchList (readPacket q peer .observation) l
+search-alike p q peer l a = ap (λ (r : Reading). searchList (r .observation) l) (read-alike p q peer a)
+
+module _ (p q list : RefT (List ℕ)) (peer : Mss) (r s : Reading) (a b : SearchAnswer) (alike : Alike (now p) (now q))
+    (x : Run p peer list r a) (y : Run q peer list s b) where
+  same-reading : r ≡ s
+  same-reading = x .reads ∙ read-alike (now p) (now q) peer alike ∙ sym (y .reads)
+
+  same-search : a ≡ b
+  same-search =
+      x .searches ∙ ap (λ (z : Reading). searchList (z .observation) (now list)) same-reading ∙ sym (y .searches)
+
+same-answer : SameAnswer
+same-answer =
+    record {
+      ip-stage4 = ip-alike-v4;
+      ip-stage6 = ip-alike-v6;
+      tcp-stage = tcp-alike;
+      reader = read-alike;
+      search = search-alike;
+      returned = λ p q list peer r s a b alike x y.
+          (same-reading p q list peer r s a b alike x y, same-search p q list peer r s a b alike x y);
+    }
+
+pub demand3 : Demand3
+demand3 = record { relation = the-relation; answer = same-answer }

@@ -1,0 +1,132 @@
+-- The three answers stay three: what each means.
+use mathlib.Core.Path.{_≡_, refl, sym, _∙_, ap}
+use mathlib.Core.Bool.{Bool, true, false, cond, _&&_}
+use mathlib.Core.List.{List}
+use Prim.Native.Nat.{ℕ, zero, suc, _+_, _<_}
+use native.Mathlib.Omega.{arith}
+use lib.Dec.{ltb}
+use lib.ListN.{length, getD}
+use Rattle.basis.proofs.Tests.{and-left, and-right}
+use Rattle.observable.specs.declared.TcpObservation.{TcpObservation}
+use Rattle.distances.specs.declared.TtlFit.{TtlFit}
+use Rattle.matching.specs.declared.Features.{Features}
+use Rattle.matching.specs.declared.QuirksFit.{QuirksFit}
+use Rattle.matching.specs.declared.Signature.{Signature}
+use Rattle.matching.specs.declared.SignatureFit.the-variants as fit
+use Rattle.matching.specs.Gates.{layoutMatches}
+use Rattle.matching.specs.Fit.{featuresOf, scalarGates, toleranceOf, fitOf}
+use Rattle.matching.proofs.Laws.{Untolerated, exact-untolerated, untolerated-exact}
+use Rattle.siglist.specs.declared.ListAnswer.{ListAnswer}
+use Rattle.siglist.specs.declared.ListAnswer.the-variants as list
+use Rattle.siglist.specs.List.{recordCount, checkList}
+use Rattle.found.specs.declared.Found.{Found}
+use Rattle.search.specs.declared.SearchAnswer.{SearchAnswer}
+use Rattle.search.specs.declared.SearchAnswer.the-variants as answer
+use Rattle.search.specs.Search.{fitAt, numbersFrom, searchOver, searchAll, afterCheck, searchList}
+use Rattle.search.proofs.Order as order
+use Rattle.acceptance.specs.Honesty.{NothingTolerated, FitsExactly, fitOfRecord, Outcome, Honesty}
+
+-- ---- one record
+
+as-nothing : {t : TtlFit} {q : QuirksFit} → Untolerated t q → NothingTolerated t q
+as-nothing (Untolerated.nothing-tolerated a m) = NothingTolerated.nothing-tolerated a m
+
+as-untolerated : {t : TtlFit} {q : QuirksFit} → NothingTolerated t q → Untolerated t q
+as-untolerated (NothingTolerated.nothing-tolerated a m) = Untolerated.nothing-tolerated a m
+
+module _ (f : Features) (kinds bytes : List ℕ) (s : Signature) (count : ℕ) (entries : List ℕ) where
+  exact-to : fitOf f kinds bytes s count entries ≡ fit.Exact → FitsExactly f kinds bytes s count entries
+  unfolding fitOf toleranceOf
+  exact-to = by-gates (scalarGates f s && layoutMatches (f .count) kinds bytes count entries) refl
+    where
+      by-gates
+          : (t : Bool)
+          → scalarGates f s && layoutMatches (f .count) kinds bytes count entries ≡ t
+          → cond t (toleranceOf f s) fit.Nothing ≡ fit.Exact
+          → FitsExactly f kinds bytes s count entries
+      by-gates true gates e =
+          record {
+            gates = and-left (scalarGates f s) (layoutMatches (f .count) kinds bytes count entries) gates;
+            layout = and-right (scalarGates f s) (layoutMatches (f .count) kinds bytes count entries) gates;
+            untolerated = as-nothing (exact-untolerated _ _ e);
+          }
+      by-gates false gates e = let z : _≡_ {A = ℕ} 0 1 = cc in absurd (omega arith)
+
+  exact-from : FitsExactly f kinds bytes s count entries → fitOf f kinds bytes s count entries ≡ fit.Exact
+  unfolding fitOf toleranceOf
+  exact-from x = rw (x .gates, x .layout) (untolerated-exact (as-untolerated (x .untolerated)))
+
+-- ---- a search
+
+-- The record numbers of the plain search: as many as there are, each at its own place.
+numbers-length : (i n : ℕ) → length (numbersFrom i n) ≡ n
+unfolding numbersFrom
+numbers-length i zero = refl
+numbers-length i (suc n) = ap suc (numbers-length (i + 1) n)
+
+numbers-at : (i n k : ℕ) → k < n → getD (numbersFrom i n) k 0 ≡ i + k
+unfolding numbersFrom
+numbers-at i zero k h = absurd (omega arith)
+numbers-at i (suc n) zero h = omega arith
+numbers-at i (suc n) (suc k) h = numbers-at (i + 1) n k (omega arith) ∙ omega arith
+
+module _ (o : TcpObservation) (l : List ℕ) where
+  places : List ℕ
+  places = numbersFrom 0 (recordCount l)
+
+  -- A record at a place of the row is the record of that number.
+  here : (k : ℕ) → k < length places → getD places k 0 ≡ k
+  unfolding places
+  here k h = numbers-at 0 (recordCount l) k (omega (arith, numbers-length 0 (recordCount l))) ∙ omega arith
+
+  few : length places ≡ recordCount l
+  unfolding places
+  few = numbers-length 0 (recordCount l)
+
+  fit-here : (k : ℕ) → k < length places → fitAt (featuresOf o) (o .olayout .kinds) (o .olayout .bytes) l (getD places k 0) ≡ fitOfRecord o l k
+  fit-here k h = ap (fitOfRecord o l) (here k h)
+
+  as-outcome : {x : Found} → order.Outcome (featuresOf o) (o .olayout .kinds) (o .olayout .bytes) l places x → Outcome o l x
+  as-outcome (order.Outcome.first-exact k h e before) =
+      let size = few in
+      rw (here k h)
+      (Outcome.first-exact k (omega arith) (sym (fit-here k h) ∙ e) (λ j b x. before j b (fit-here j (omega arith) ∙ x)))
+  as-outcome (order.Outcome.first-fuzzy k r h e before exact) =
+      let size = few in
+      rw (here k h)
+      (Outcome.first-fuzzy k r (omega arith) (sym (fit-here k h) ∙ e)
+      (λ j b. sym (fit-here j (omega arith)) ∙ before j b)
+      (λ j b x. exact j (omega arith) (fit-here j (omega arith) ∙ x)))
+  as-outcome (order.Outcome.none before) =
+      let size = few in
+      Outcome.none (λ i b. sym (fit-here i (omega arith)) ∙ before i (omega arith))
+
+  found-outcome : Outcome o l (searchAll o l)
+  unfolding searchAll searchOver places
+  found-outcome = as-outcome (order.outcome (featuresOf o) (o .olayout .kinds) (o .olayout .bytes) l places)
+
+  after-found : (a : ListAnswer) (x : Found) → afterCheck a o l ≡ answer.Found x → Outcome o l x
+  after-found list.Good x e = let same : searchAll o l ≡ x = cc in rw (← same) found-outcome
+  after-found list.DoesNotFit x e = let z : _≡_ {A = ℕ} 0 1 = cc in absurd (omega arith)
+  after-found (list.BadRecord i) x e = let z : _≡_ {A = ℕ} 0 1 = cc in absurd (omega arith)
+
+  search-outcome : (x : Found) → searchList o l ≡ answer.Found x → Outcome o l x
+  unfolding searchList
+  search-outcome x = by-count (ltb 40 (o .olayout .count))
+    where
+      by-count
+          : (t : Bool)
+          → cond {A = SearchAnswer} t answer.LayoutTooLong (afterCheck (checkList l) o l) ≡ answer.Found x
+          → Outcome o l x
+      by-count true e = let z : _≡_ {A = ℕ} 0 1 = cc in absurd (omega arith)
+      by-count false e = after-found (checkList l) x e
+
+pub honesty : Honesty
+honesty =
+    record {
+      exact = λ f ks bs s n es. (exact-to f ks bs s n es, exact-from f ks bs s n es);
+      search = search-outcome;
+      exact-not-fuzzy = λ a b r e. let z : _≡_ {A = ℕ} 0 1 = cc in omega arith;
+      exact-not-none = λ a e. let z : _≡_ {A = ℕ} 0 1 = cc in omega arith;
+      fuzzy-not-none = λ a r e. let z : _≡_ {A = ℕ} 0 1 = cc in omega arith;
+    }

@@ -1,0 +1,18 @@
+-- What the product is accepted by, in one statement: the customer's conditions B and C, each with its file. docs/ACCEPTANCE.md walks
+-- from every sentence of the conditions to its place here.
+use Rattle.acceptance.specs.Demand1.{Demand1}
+use Rattle.acceptance.specs.Demand2.{Demand2}
+use Rattle.acceptance.specs.Demand3.{Demand3}
+use Rattle.acceptance.specs.Honesty.{Honesty}
+use Rattle.acceptance.specs.Refusals.{Refusals}
+
+pub record Acceptance : Type 0 where
+  -- B: "Exact, fuzzy and none stay three answers."
+  pub honesty : Honesty
+  -- C1: every input gets exactly one answer; "Bad input is refused by the number and in the order of document 01".
+  pub demand1 : Demand1
+  pub refusals : Refusals
+  -- C2: the definitions' values, the multiplier, the single fit.
+  pub demand2 : Demand2
+  -- C3: packets that differ only in free bytes get the same answer.
+  pub demand3 : Demand3

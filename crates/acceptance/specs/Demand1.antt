@@ -1,0 +1,277 @@
+-- Demand 1: "Each public function, refusals included, has exactly one result that meets its promise on each input, and that
+-- uniqueness is proved" (document 01, "What acceptance reads"). One line for each public function, crate by crate, over the
+-- function's own contract (`Post`, of the arguments at entry, the result, and the arguments at exit), with the definition that
+-- the one result is. The order is that of crates.txt; a function that is added gets a line in its crate's record.
+use mathlib.Core.Path.{_≡_}
+use mathlib.Core.Bool.{Bool}
+use mathlib.Core.List.{List}
+use Prim.Native.Nat.{ℕ, _+_, _*_, _-_, min}
+use contract.Lifetimes.{Lfts}
+use denote.Ref.{RefT, now}
+use Rattle.basis.specs.Unique.{ExactlyOne}
+use Rattle.tcp.specs.declared.IpVersion.{IpVersion}
+use Rattle.tcp.specs.declared.Mss.{Mss}
+use Rattle.tcp.specs.declared.PayloadSize.{PayloadSize}
+use Rattle.tcp.specs.declared.Wscale.{Wscale}
+-- numbers
+use Rattle.numbers.proofs.wide.Reads as wide'
+use Rattle.numbers.proofs.be16.Reads as be16'
+use Rattle.numbers.proofs.be32.Reads as be32'
+use Rattle.numbers.proofs.least.Reads as least'
+use Rattle.numbers.proofs.saturating_sub.Reads as saturating-sub'
+use Rattle.numbers.proofs.saturating_add.Reads as saturating-add'
+-- quirks
+use Rattle.quirks.specs.declared.Quirk.{Quirk}
+use Rattle.quirks.specs.declared.QuirkSet.{QuirkSet}
+use Rattle.quirks.specs.Quirks as quirks
+use Rattle.quirks.specs.Named.{namedSets}
+use Rattle.quirks.proofs.Quirk.bit.Reads as bit'
+use Rattle.quirks.proofs.QuirkSet.from_bits.Reads as from-bits'
+use Rattle.quirks.proofs.QuirkSet.bits.Reads as bits'
+use Rattle.quirks.proofs.QuirkSet.is_empty.Reads as is-empty'
+use Rattle.quirks.proofs.QuirkSet.contains.Reads as contains'
+use Rattle.quirks.proofs.QuirkSet.with.Reads as with'
+use Rattle.quirks.proofs.QuirkSet.insert.Reads as insert'
+use Rattle.quirks.proofs.QuirkSet.add_if.Reads as add-if'
+use Rattle.quirks.proofs.QuirkSet.difference.Reads as difference'
+use Rattle.quirks.proofs.QuirkSet.union.Reads as union'
+use Rattle.quirks.proofs.QuirkSet.intersection.Reads as intersection'
+use Rattle.quirks.proofs.named_sets.Reads as named-sets'
+-- ttl
+use Rattle.ttl.specs.declared.Ttl.{Ttl}
+use Rattle.ttl.specs.Ttl.{guessOf, maxDist, readingOf, byteOf}
+use Rattle.ttl.proofs.max_dist.Reads as max-dist'
+use Rattle.ttl.proofs.observed_ttl.Reads as observed-ttl'
+use Rattle.ttl.proofs.guess_distance.Reads as guess-distance'
+use Rattle.ttl.proofs.calculate_ttl.Reads as calculate-ttl'
+-- window_size
+use Rattle.window_size.specs.declared.Multiplier.{Multiplier}
+use Rattle.window_size.specs.Multiplier.{multiplierOf}
+use Rattle.window_size.proofs.detect_win_multi.Reads as detect-win-multi'
+-- ip_options
+use Rattle.ip_options.specs.IpOptions.{ipv4OptionLength, ipv6ExtensionLength}
+use Rattle.ip_options.proofs.calculate_ipv4_length.Reads as calculate-ipv4-length'
+use Rattle.ip_options.proofs.calculate_ipv6_length.Reads as calculate-ipv6-length'
+-- observable
+use Rattle.observable.specs.declared.TcpObservation.{TcpObservation}
+use Rattle.observable.specs.Observation.{emptyObservation, windowMultiplier, ownTimestampNonzero}
+use Rattle.observable.proofs.TcpObservation.empty.Reads as empty'
+use Rattle.observable.proofs.TcpObservation.window_multiplier.Reads as window-multiplier'
+use Rattle.observable.proofs.TcpObservation.own_timestamp_is_nonzero.Reads as own-timestamp'
+-- one_option
+use Rattle.one_option.specs.Options.{asked}
+use Rattle.one_option.specs.See.{laterMss, laterScale, shownQuirks}
+use Rattle.one_option.proofs.asked_bytes.Reads as asked-bytes'
+use Rattle.one_option.proofs.later_mss.Reads as later-mss'
+use Rattle.one_option.proofs.later_scale.Reads as later-scale'
+use Rattle.one_option.proofs.later_quirks.Reads as later-quirks'
+-- syn_options
+use Rattle.syn_options.specs.Walk.{walkOf, parseOptionsRaw}
+use Rattle.syn_options.proofs.walk_options.Reads as walk-options'
+use Rattle.syn_options.proofs.parse_options_raw.Reads as parse-options-raw'
+-- ip
+use Rattle.ip.specs.declared.Refusal.{Refusal}
+use Rattle.ip.specs.Ip.{readIpv4, readIpv6, readIp}
+use Rattle.ip.specs.Numbers.{number}
+use Rattle.ip.proofs.refusal_number.Reads as refusal-number'
+use Rattle.ip.proofs.process_tcp_ipv4.Reads as process-tcp-ipv4'
+use Rattle.ip.proofs.process_tcp_ipv6.Reads as process-tcp-ipv6'
+use Rattle.ip.proofs.read_ip.Reads as read-ip'
+-- flow
+use Rattle.flow.specs.Reading.{readPacket}
+use Rattle.flow.proofs.read_packet.Reads as read-packet'
+-- distances
+use Rattle.distances.specs.declared.SigPayload.{SigPayload}
+use Rattle.distances.specs.declared.SigVersion.{SigVersion}
+use Rattle.distances.specs.declared.WindowSize.{WindowSize}
+use Rattle.distances.specs.Gates.{versionMatches, windowMatches, payloadMatches}
+use Rattle.distances.specs.Distances.{ttlFit, reportedHops}
+use Rattle.distances.proofs.ip_version_matches.Reads as ip-version-matches'
+use Rattle.distances.proofs.ttl_fit.Reads as ttl-fit'
+use Rattle.distances.proofs.report_hop_distance.Reads as report-hop-distance'
+use Rattle.distances.proofs.window_size_matches.Reads as window-size-matches'
+use Rattle.distances.proofs.payload_size_matches.Reads as payload-size-matches'
+-- matching
+use Rattle.matching.specs.declared.Features.{Features}
+use Rattle.matching.specs.declared.Signature.{Signature}
+use Rattle.matching.specs.Gates.{olenMatches, mssMatches, scaleMatches, layoutMatches}
+use Rattle.matching.specs.Tolerance.{quirksFit}
+use Rattle.matching.specs.Fit.{featuresOf, scalarGates, toleranceOf}
+use Rattle.matching.proofs.olen_matches.Reads as olen-matches'
+use Rattle.matching.proofs.mss_matches.Reads as mss-matches'
+use Rattle.matching.proofs.wscale_matches.Reads as wscale-matches'
+use Rattle.matching.proofs.quirks_fit.Reads as quirks-fit'
+use Rattle.matching.proofs.olayout_matches.Reads as olayout-matches'
+use Rattle.matching.proofs.features_of.Reads as features-of'
+use Rattle.matching.proofs.gates.Reads as gates'
+use Rattle.matching.proofs.tolerance.Reads as tolerance'
+-- siglist
+use Rattle.siglist.specs.List.{headerOf, wellFormed, checkList}
+use Rattle.siglist.proofs.read_header.Reads as read-header'
+use Rattle.siglist.proofs.well_formed.Reads as well-formed'
+use Rattle.siglist.proofs.check_list.Reads as check-list'
+-- found
+use Rattle.matching.specs.declared.SignatureFit.{SignatureFit}
+use Rattle.found.specs.declared.Found.{Found}
+use Rattle.found.specs.Keep.{fitsNothing, keep, isExact}
+use Rattle.found.proofs.is_exact.Reads as is-exact'
+use Rattle.found.proofs.is_nothing.Reads as is-nothing'
+use Rattle.found.proofs.keep_fit.Reads as keep-fit'
+-- search
+use Rattle.search.specs.Search.{searchAll, searchList}
+use Rattle.search.proofs.search_checked.Reads as search-checked'
+use Rattle.search.proofs.search.Reads as search'
+
+-- On these arguments exactly one result meets the promise, and it is this one. The arguments at exit are those at entry: "All
+-- inputs are read only."
+pub record Answers {A R : Type 0} (post : A → R → A → Type 0) (arguments : A) (result : R) : Type 0 where
+  pub one : ExactlyOne R (λ (r : R). post arguments r arguments)
+  pub is : one .the ≡ result
+
+pub record Numbers : Type 0 where
+  pub wide : (x : ℕ) → Answers (wide'.Post tt) (x, tt) x
+  pub be16 : (high low : ℕ) → Answers (be16'.Post tt) (high, (low, tt)) (high * 256 + low)
+  pub be32 : (high low : ℕ) → Answers (be32'.Post tt) (high, (low, tt)) (high * 65536 + low)
+  pub least : (a b : ℕ) → Answers (least'.Post tt) (a, (b, tt)) (min a b)
+  pub saturating-sub : (a b : ℕ) → Answers (saturating-sub'.Post tt) (a, (b, tt)) (a - b)
+  pub saturating-add : (a b : ℕ) → Answers (saturating-add'.Post tt) (a, (b, tt)) (min (a + b) 65535)
+
+pub record Quirks : Type 0 where
+  pub bit : (q : Quirk) → Answers (bit'.Post tt) (q, tt) (quirks.bitOf q)
+  pub from-bits : (n : ℕ) → Answers (from-bits'.Post tt) (n, tt) (quirks.setOf n)
+  pub bits : (s : QuirkSet) → Answers (bits'.Post tt) (s, tt) (quirks.bitsOf s)
+  pub is-empty : (s : QuirkSet) → Answers (is-empty'.Post tt) (s, tt) (quirks.isEmpty s)
+  pub contains : (s : QuirkSet) (q : Quirk) → Answers (contains'.Post tt) (s, (q, tt)) (quirks.contains s q)
+  pub with : (s : QuirkSet) (q : Quirk) → Answers (with'.Post tt) (s, (q, tt)) (quirks.with s q)
+  pub insert : (s : QuirkSet) (q : Quirk) → Answers (insert'.Post tt) (s, (q, tt)) (quirks.with s q)
+  pub add-if : (s : QuirkSet) (t : Bool) (q : Quirk) → Answers (add-if'.Post tt) (s, (t, (q, tt))) (quirks.addIf t q s)
+  pub difference : (a b : QuirkSet) → Answers (difference'.Post tt) (a, (b, tt)) (quirks.difference a b)
+  pub union : (a b : QuirkSet) → Answers (union'.Post tt) (a, (b, tt)) (quirks.union a b)
+  pub intersection : (a b : QuirkSet) → Answers (intersection'.Post tt) (a, (b, tt)) (quirks.intersection a b)
+  pub named-sets : Answers (named-sets'.Post tt) tt namedSets
+
+pub record TtlReading : Type 0 where
+  pub max-dist : Answers (max-dist'.Post tt) tt maxDist
+  pub observed-ttl : (t : Ttl) → Answers (observed-ttl'.Post tt) (t, tt) (byteOf t)
+  pub guess-distance : (t : ℕ) → Answers (guess-distance'.Post tt) (t, tt) (guessOf t)
+  pub calculate-ttl : (t : ℕ) → Answers (calculate-ttl'.Post tt) (t, tt) (readingOf t)
+
+pub record Window : Type 0 where
+  pub detect-win-multi
+      : (window : ℕ) (own : Mss) (headers : ℕ) (stamped : Bool) (version : IpVersion) (peer : Mss)
+      → Answers (detect-win-multi'.Post tt)
+      (window, (own, (headers, (stamped, (version, (peer, tt))))))
+      (multiplierOf window own headers stamped version peer)
+
+pub record IpOptions : Type 0 where
+  pub calculate-ipv4-length
+      : (κs : Lfts 1) (packet : RefT (List ℕ))
+      → Answers (calculate-ipv4-length'.Post κs) (packet, tt) (ipv4OptionLength (now packet))
+  pub calculate-ipv6-length
+      : (κs : Lfts 1) (packet : RefT (List ℕ))
+      → Answers (calculate-ipv6-length'.Post κs) (packet, tt) (ipv6ExtensionLength (now packet))
+
+pub record Observable : Type 0 where
+  pub empty : Answers (empty'.Post tt) tt emptyObservation
+  pub window-multiplier : (o : TcpObservation) → Answers (window-multiplier'.Post tt) (o, tt) (windowMultiplier o)
+  pub own-timestamp-is-nonzero : (o : TcpObservation) → Answers (own-timestamp'.Post tt) (o, tt) (ownTimestampNonzero o)
+
+pub record OneOption : Type 0 where
+  pub asked-bytes
+      : (κs : Lfts 1) (kind : ℕ) (own : RefT (List ℕ))
+      → Answers (asked-bytes'.Post κs) (kind, (own, tt)) (asked kind (now own))
+  pub later-mss
+      : (κs : Lfts 1) (kind : ℕ) (own : RefT (List ℕ)) (m : Mss)
+      → Answers (later-mss'.Post κs) (kind, (own, (m, tt))) (laterMss m (record { kind = kind; own = now own }))
+  pub later-scale
+      : (κs : Lfts 1) (kind : ℕ) (own : RefT (List ℕ)) (w : Wscale)
+      → Answers (later-scale'.Post κs) (kind, (own, (w, tt))) (laterScale w (record { kind = kind; own = now own }))
+  pub later-quirks
+      : (κs : Lfts 1) (kind : ℕ) (own : RefT (List ℕ)) (syn : Bool) (q : QuirkSet)
+      → Answers (later-quirks'.Post κs)
+      (kind, (own, (syn, (q, tt))))
+      (shownQuirks syn q (record { kind = kind; own = now own }))
+
+pub record Options : Type 0 where
+  pub walk-options
+      : (κs : Lfts 1) (options : RefT (List ℕ)) (stop syn : Bool) (quirks : QuirkSet)
+      → Answers (walk-options'.Post κs) (options, (stop, (syn, (quirks, tt)))) (walkOf stop syn quirks (now options))
+  pub parse-options-raw
+      : (κs : Lfts 1) (buf : RefT (List ℕ)) → Answers (parse-options-raw'.Post κs) (buf, tt) (parseOptionsRaw (now buf))
+
+pub record Ip : Type 0 where
+  pub refusal-number : (refusal : Refusal) → Answers (refusal-number'.Post tt) (refusal, tt) (number refusal)
+  pub process-tcp-ipv4
+      : (κs : Lfts 1) (packet : RefT (List ℕ)) → Answers (process-tcp-ipv4'.Post κs) (packet, tt) (readIpv4 (now packet))
+  pub process-tcp-ipv6
+      : (κs : Lfts 1) (packet : RefT (List ℕ)) → Answers (process-tcp-ipv6'.Post κs) (packet, tt) (readIpv6 (now packet))
+  pub read-ip : (κs : Lfts 1) (packet : RefT (List ℕ)) → Answers (read-ip'.Post κs) (packet, tt) (readIp (now packet))
+
+pub record Flow : Type 0 where
+  pub read-packet
+      : (κs : Lfts 1) (packet : RefT (List ℕ)) (peer : Mss)
+      → Answers (read-packet'.Post κs) (packet, (peer, tt)) (readPacket (now packet) peer)
+
+pub record Distances : Type 0 where
+  pub ip-version-matches
+      : (o : IpVersion) (s : SigVersion) → Answers (ip-version-matches'.Post tt) (o, (s, tt)) (versionMatches o s)
+  pub ttl-fit : (o : ℕ) (s : Ttl) → Answers (ttl-fit'.Post tt) (o, (s, tt)) (ttlFit o s)
+  pub report-hop-distance : (o s : Ttl) → Answers (report-hop-distance'.Post tt) (o, (s, tt)) (reportedHops o s)
+  pub window-size-matches
+      : (o : ℕ) (s : WindowSize) (m : Multiplier)
+      → Answers (window-size-matches'.Post tt) (o, (s, (m, tt))) (windowMatches o s m)
+  pub payload-size-matches
+      : (o : PayloadSize) (s : SigPayload) → Answers (payload-size-matches'.Post tt) (o, (s, tt)) (payloadMatches o s)
+
+pub record Matching : Type 0 where
+  pub olen-matches : (o s : ℕ) → Answers (olen-matches'.Post tt) (o, (s, tt)) (olenMatches o s)
+  pub mss-matches : (o s : Mss) → Answers (mss-matches'.Post tt) (o, (s, tt)) (mssMatches o s)
+  pub wscale-matches : (o s : Wscale) → Answers (wscale-matches'.Post tt) (o, (s, tt)) (scaleMatches o s)
+  pub quirks-fit : (o s : QuirkSet) → Answers (quirks-fit'.Post tt) (o, (s, tt)) (quirksFit o s)
+  pub olayout-matches
+      : (κs : Lfts 3) (kinds bytes : RefT (List ℕ)) (count : ℕ) (entries : RefT (List ℕ)) (declared : ℕ)
+      → Answers (olayout-matches'.Post κs)
+      (kinds, (bytes, (count, (entries, (declared, tt)))))
+      (layoutMatches count (now kinds) (now bytes) declared (now entries))
+  pub features-of : (o : TcpObservation) → Answers (features-of'.Post tt) (o, tt) (featuresOf o)
+  pub gates : (f : Features) (s : Signature) → Answers (gates'.Post tt) (f, (s, tt)) (scalarGates f s)
+  pub tolerance : (f : Features) (s : Signature) → Answers (tolerance'.Post tt) (f, (s, tt)) (toleranceOf f s)
+
+pub record Siglist : Type 0 where
+  pub read-header : (κs : Lfts 1) (list : RefT (List ℕ)) → Answers (read-header'.Post κs) (list, tt) (headerOf (now list))
+  pub well-formed
+      : (κs : Lfts 2) (raw entries : RefT (List ℕ))
+      → Answers (well-formed'.Post κs) (raw, (entries, tt)) (wellFormed (now raw) (now entries))
+  pub check-list : (κs : Lfts 1) (list : RefT (List ℕ)) → Answers (check-list'.Post κs) (list, tt) (checkList (now list))
+
+pub record Held : Type 0 where
+  pub is-exact : (f : Found) → Answers (is-exact'.Post tt) (f, tt) (isExact f)
+  pub is-nothing : (f : SignatureFit) → Answers (is-nothing'.Post tt) (f, tt) (fitsNothing f)
+  pub keep-fit
+      : (held : Found) (label : ℕ) (f : SignatureFit)
+      → Answers (keep-fit'.Post tt) (held, (label, (f, tt))) (keep held label f)
+
+pub record Search : Type 0 where
+  pub search-checked
+      : (κs : Lfts 1) (list : RefT (List ℕ)) (o : TcpObservation)
+      → Answers (search-checked'.Post κs) (o, (list, tt)) (searchAll o (now list))
+  pub search
+      : (κs : Lfts 1) (list : RefT (List ℕ)) (o : TcpObservation)
+      → Answers (search'.Post κs) (o, (list, tt)) (searchList o (now list))
+
+pub record Demand1 : Type 0 where
+  pub numbers : Numbers
+  pub quirks : Quirks
+  pub ttl : TtlReading
+  pub window : Window
+  pub ipOptions : IpOptions
+  pub observable : Observable
+  pub oneOption : OneOption
+  pub options : Options
+  pub ip : Ip
+  pub flow : Flow
+  pub distances : Distances
+  pub matching : Matching
+  pub siglist : Siglist
+  pub held : Held
+  pub search : Search

@@ -1,0 +1,80 @@
+-- "Exact, fuzzy and none stay three answers": what each of the three means, for a record and for a search (document 01, module 7
+-- and "The signature list"). `Honesty` is the statement.
+use mathlib.Core.Path.{_≡_}
+use mathlib.Core.Bool.{true}
+use mathlib.Core.List.{List}
+use mathlib.Core.Logic.{_↔_}
+use Prim.Native.Nat.{ℕ, _<_}
+use Rattle.quirks.specs.Quirks.{isEmpty}
+use Rattle.observable.specs.declared.TcpObservation.{TcpObservation}
+use Rattle.distances.specs.declared.TtlFit.{TtlFit}
+use Rattle.distances.specs.declared.TtlFit.the-variants as ttlfit
+use Rattle.distances.specs.Distances.{ttlFit}
+use Rattle.matching.specs.declared.Features.{Features}
+use Rattle.matching.specs.declared.FuzzyReason.{FuzzyReason}
+use Rattle.matching.specs.declared.QuirksFit.{QuirksFit}
+use Rattle.matching.specs.declared.QuirksFit.the-variants as quirksfit
+use Rattle.matching.specs.declared.Signature.{Signature}
+use Rattle.matching.specs.declared.SignatureFit.{SignatureFit}
+use Rattle.matching.specs.declared.SignatureFit.the-variants as fit
+use Rattle.matching.specs.declared.Tolerated.{Tolerated}
+use Rattle.matching.specs.Gates.{layoutMatches}
+use Rattle.matching.specs.Tolerance.{maskedQuirks, quirksFit}
+use Rattle.matching.specs.Fit.{featuresOf, scalarGates, fitOf}
+use Rattle.siglist.specs.Record.{labelOf}
+use Rattle.siglist.specs.List.{recordCount, recordAt}
+use Rattle.found.specs.declared.Found.{Found}
+use Rattle.found.specs.declared.Found.the-variants as found
+use Rattle.search.specs.declared.SearchAnswer.the-variants as answer
+use Rattle.search.specs.Search.{fitAt, searchList}
+
+-- "Nothing tolerated": the TTL is in range, and no quirk is added or missing.
+pub data NothingTolerated : TtlFit → QuirksFit → Type 0 where
+  nothing-tolerated
+      : {d : ℕ} {q : Tolerated}
+      → isEmpty (q .added) ≡ true
+      → isEmpty (q .missing) ≡ true
+      → NothingTolerated (ttlfit.InRange d) (quirksfit.Tolerated q)
+
+-- "Seven gates must all hold", and nothing is tolerated.
+pub record FitsExactly (f : Features) (kinds bytes : List ℕ) (s : Signature) (count : ℕ) (entries : List ℕ) : Type 0 where
+  pub gates : scalarGates f s ≡ true
+  pub layout : layoutMatches (f .count) kinds bytes count entries ≡ true
+  pub untolerated
+      : NothingTolerated (ttlFit (f .ttl) (s .ittl)) (quirksFit (f .quirks) (maskedQuirks (s .quirks) (s .version) (f .version)))
+
+-- How record i of a list fits an observation; what is not a well-formed record of the list fits nothing.
+abbrev pub fitOfRecord : TcpObservation → List ℕ → ℕ → SignatureFit
+fitOfRecord o l i = fitAt (featuresOf o) (o .olayout .kinds) (o .olayout .bytes) l i
+
+abbrev pub labelAt : List ℕ → ℕ → ℕ
+labelAt l i = labelOf (recordAt l i)
+
+-- "the first exact record in list order; else the first fuzzy one, with its reason; else none"
+pub data Outcome (o : TcpObservation) (l : List ℕ) : Found → Type 0 where
+  first-exact
+      : (i : ℕ)
+      → i < recordCount l
+      → fitOfRecord o l i ≡ fit.Exact
+      → ((j : ℕ) → j < i → fitOfRecord o l j ≡ fit.Exact → ⊥)
+      → Outcome o l (found.Exact (labelAt l i))
+  first-fuzzy
+      : (i : ℕ) (reason : FuzzyReason)
+      → i < recordCount l
+      → fitOfRecord o l i ≡ fit.Fuzzy reason
+      → ((j : ℕ) → j < i → fitOfRecord o l j ≡ fit.Nothing)
+      → ((j : ℕ) → j < recordCount l → fitOfRecord o l j ≡ fit.Exact → ⊥)
+      → Outcome o l (found.Fuzzy (labelAt l i) reason)
+  none : ((i : ℕ) → i < recordCount l → fitOfRecord o l i ≡ fit.Nothing) → Outcome o l found.Nothing
+
+pub record Honesty : Type 0 where
+  -- "Nothing tolerated is exact, else fuzzy": exact exactly when the gates hold and nothing is tolerated.
+  pub exact
+      : (f : Features) (kinds bytes : List ℕ) (s : Signature) (count : ℕ) (entries : List ℕ)
+      → (fitOf f kinds bytes s count entries ≡ fit.Exact) ↔ FitsExactly f kinds bytes s count entries
+  -- What a search finds is one of the three outcomes.
+  pub search : (o : TcpObservation) (l : List ℕ) (x : Found) → searchList o l ≡ answer.Found x → Outcome o l x
+  -- No two of the three answers are one.
+  pub exact-not-fuzzy : (a b : ℕ) (r : FuzzyReason) → found.Exact a ≡ found.Fuzzy b r → ⊥
+  pub exact-not-none : (a : ℕ) → found.Exact a ≡ found.Nothing → ⊥
+  pub fuzzy-not-none : (a : ℕ) (r : FuzzyReason) → found.Fuzzy a r ≡ found.Nothing → ⊥

@@ -1,0 +1,158 @@
+-- Document 01, "Refusal numbers, in order of test": each number with what its row says, the order in which a packet, an option
+-- string, a list and a search are tested, and what a refusal gives. `Refusals` is the statement.
+use mathlib.Core.Path.{_≡_}
+use mathlib.Core.Bool.{false, true}
+use mathlib.Core.List.{List, [], _∷_}
+use mathlib.Core.Logic.{_↔_}
+use Prim.Native.Nat.{ℕ, _+_, _*_, _<_}
+use lib.ListN.{length}
+use Rattle.basis.specs.Bytes.{part}
+use Rattle.rfc.specs.Rfc791 as v4
+use Rattle.rfc.specs.Rfc8200 as v6
+use Rattle.rfc.specs.Rfc9293 as tcp
+use Rattle.tcp.specs.declared.Mss.{Mss}
+use Rattle.quirks.specs.Named.{empty}
+use Rattle.observable.specs.declared.TcpObservation.{TcpObservation}
+use Rattle.observable.specs.Observation.{emptyObservation}
+use Rattle.syn_options.specs.declared.OptionsAnswer.the-variants as optionsAnswer
+use Rattle.syn_options.specs.Walk.{startWalk, parsedOf, parseOptionsRaw, optionsRefusal}
+use Rattle.ip.specs.declared.Refusal.{Refusal}
+use Rattle.ip.specs.declared.Refusal.the-variants as refusal
+use Rattle.ip.specs.Numbers.{number}
+use Rattle.flow.specs.declared.Answer.the-variants as answer
+use Rattle.flow.specs.declared.Reading.{Reading}
+use Rattle.flow.specs.Flags.{maskedType}
+use Rattle.flow.specs.Reading.{readPacket}
+use Rattle.flow.specs.Refusals.{refusalOf}
+use Rattle.siglist.specs.declared.ListAnswer.the-variants as listAnswer
+use Rattle.siglist.specs.List.{recordCount, recordsOffset, layoutCount, layoutOffset, recordGood, checkList, listRefusal}
+use Rattle.search.specs.declared.SearchAnswer.the-variants as searchAnswer
+use Rattle.search.specs.Search.{searchList, searchRefusal}
+
+-- The number of the first row that holds, of rows in this order of test; 0 if none does.
+pub data First (Row : ℕ → Type 0) : List ℕ → ℕ → Type 0 where
+  here : {n : ℕ} {rest : List ℕ} → Row n → First Row (n ∷ rest) n
+  later : {m n : ℕ} {rest : List ℕ} → (Row m → ⊥) → First Row rest n → First Row (m ∷ rest) n
+  none : First Row [] 0
+
+-- ---- a packet
+
+-- The TCP part, by the places of document 01, "Headers and options".
+abbrev pub part4 : List ℕ → List ℕ
+part4 p = part (v4.dataStart p) (v4.dataEnd p) p
+
+abbrev pub part6 : List ℕ → List ℕ
+part6 p = v6.payload p
+
+-- "Flags invalid: SYN with FIN or RST, FIN with RST, or none of SYN, ACK, FIN, RST."
+pub data FlagsInvalid (flags : ℕ) : Type 0 where
+  syn-fin : tcp.syn flags ≡ 1 → tcp.fin flags ≡ 1 → FlagsInvalid flags
+  syn-rst : tcp.syn flags ≡ 1 → tcp.rst flags ≡ 1 → FlagsInvalid flags
+  fin-rst : tcp.fin flags ≡ 1 → tcp.rst flags ≡ 1 → FlagsInvalid flags
+  none-set : tcp.syn flags ≡ 0 → tcp.ack flags ≡ 0 → tcp.fin flags ≡ 0 → tcp.rst flags ≡ 0 → FlagsInvalid flags
+
+pub data PacketRow (p : List ℕ) : ℕ → Type 0 where
+  -- 1: "packet empty, or top nibble of byte 0 not 4 or 6"
+  no-bytes : length p ≡ 0 → PacketRow p 1
+  other-version : (v4.version p ≡ 4 → ⊥) → (v4.version p ≡ 6 → ⊥) → PacketRow p 1
+  -- 2: "under 20 bytes (v4), under 40 (v6)"
+  short4 : v4.version p ≡ 4 → length p < 20 → PacketRow p 2
+  short6 : v4.version p ≡ 6 → length p < 40 → PacketRow p 2
+  -- 3: "v4 header length under 5 words"
+  words4 : v4.version p ≡ 4 → v4.ihl p < 5 → PacketRow p 3
+  -- 4: "protocol or next header not 6"
+  protocol4 : v4.version p ≡ 4 → (v4.protocol p ≡ 6 → ⊥) → PacketRow p 4
+  protocol6 : v4.version p ≡ 6 → (v6.nextHeader p ≡ 6 → ⊥) → PacketRow p 4
+  -- 5: "v4 fragment offset above 0, or more-fragments set"
+  offset4 : v4.version p ≡ 4 → 0 < v4.fragmentOffset p → PacketRow p 5
+  more4 : v4.version p ≡ 4 → v4.moreFragments p ≡ 1 → PacketRow p 5
+  -- 6: "TCP part under 20 bytes"
+  tcp4 : v4.version p ≡ 4 → length (part4 p) < 20 → PacketRow p 6
+  tcp6 : v4.version p ≡ 6 → length (part6 p) < 20 → PacketRow p 6
+  -- 7: "flags invalid"
+  flags4 : v4.version p ≡ 4 → FlagsInvalid (tcp.control (part4 p)) → PacketRow p 7
+  flags6 : v4.version p ≡ 6 → FlagsInvalid (tcp.control (part6 p)) → PacketRow p 7
+
+-- "A packet meets 1 to 7 only".
+abbrev pub packetOrder : List ℕ
+packetOrder = 1 ∷ 2 ∷ 3 ∷ 4 ∷ 5 ∷ 6 ∷ 7 ∷ []
+
+-- The flags byte of a packet's TCP part.
+pub data FlagsByte (p : List ℕ) : ℕ → Type 0 where
+  of4 : v4.version p ≡ 4 → FlagsByte p (tcp.control (part4 p))
+  of6 : v4.version p ≡ 6 → FlagsByte p (tcp.control (part6 p))
+
+-- "Also returns": nothing, but for 7 the flags byte. Beside a refusal stands the one fixed empty observation, whatever the packet.
+pub data Refused (p : List ℕ) : Refusal → Type 0 where
+  nothing-more : {r : Refusal} → number r < 7 → Refused p r
+  flags-byte : {f : ℕ} → FlagsByte p f → Refused p (refusal.InvalidTcpFlags f)
+
+pub record Gives (p : List ℕ) (peer : Mss) : Type 0 where
+  pub why : Refusal
+  pub reading : readPacket p peer ≡ record { answer = answer.Refused why; observation = emptyObservation }
+  pub also : Refused p why
+
+-- "Valid flags whose masked type is neither SYN nor SYN+ACK answer 'nothing', which is not a refusal"; nothing stands beside it either.
+pub data Answered (p : List ℕ) : Reading → Type 0 where
+  syn : {f : ℕ} {o : TcpObservation} → FlagsByte p f → maskedType f ≡ 2 → Answered p (record { answer = answer.Syn; observation = o })
+  syn-ack
+      : {f : ℕ} {o : TcpObservation}
+      → FlagsByte p f
+      → maskedType f ≡ 18
+      → Answered p (record { answer = answer.SynAck; observation = o })
+  neither
+      : {f : ℕ}
+      → FlagsByte p f
+      → (maskedType f ≡ 2 → ⊥)
+      → (maskedType f ≡ 18 → ⊥)
+      → Answered p (record { answer = answer.Nothing; observation = emptyObservation })
+
+-- ---- an option string
+
+-- 8: "option string over 40 bytes"
+pub data OptionsRow (s : List ℕ) : ℕ → Type 0 where
+  over-40 : 40 < length s → OptionsRow s 8
+
+-- ---- a list and a search
+
+-- The first bad record of a list, by its index from 0.
+pub record FirstBad (l : List ℕ) (i : ℕ) : Type 0 where
+  pub within : i < recordCount l
+  pub bad : recordGood l i ≡ false
+  pub before : (j : ℕ) → j < i → recordGood l j ≡ true
+
+pub data ListRow (l : List ℕ) : ℕ → Type 0 where
+  -- 9: "list header or its areas do not fit"
+  header : length l < 8 → ListRow l 9
+  records : length l < recordsOffset l + 24 * recordCount l → ListRow l 9
+  entries : length l < layoutOffset l + 2 * layoutCount l → ListRow l 9
+  -- 10: "a list record is bad"
+  bad-record : (i : ℕ) → i < recordCount l → recordGood l i ≡ false → ListRow l 10
+
+pub data SearchRow (o : TcpObservation) (l : List ℕ) : ℕ → Type 0 where
+  of-list : {n : ℕ} → ListRow l n → SearchRow o l n
+  -- 11: "observation's layout count over 40"
+  layout-over-40 : 40 < o .olayout .count → SearchRow o l 11
+
+-- ---- the statement
+
+pub record Refusals : Type 0 where
+  -- "Given exactly when", "in order of test": a number is given exactly when its row holds and no row before it does, and 0, which
+  -- is no refusal, exactly when no row holds.
+  pub packet : (p : List ℕ) (peer : Mss) (n : ℕ) → (refusalOf (readPacket p peer .answer) ≡ n) ↔ First (PacketRow p) packetOrder n
+  pub packet-gives : (p : List ℕ) (peer : Mss) → 0 < refusalOf (readPacket p peer .answer) → Gives p peer
+  pub packet-answers : (p : List ℕ) (peer : Mss) → refusalOf (readPacket p peer .answer) ≡ 0 → Answered p (readPacket p peer)
+  -- "an option string 8"
+  pub options : (s : List ℕ) (n : ℕ) → (optionsRefusal (parseOptionsRaw s .answer) ≡ n) ↔ First (OptionsRow s) (8 ∷ []) n
+  pub options-give
+      : (s : List ℕ)
+      → parseOptionsRaw s .answer ≡ optionsAnswer.Refused
+      → parseOptionsRaw s ≡ record { answer = optionsAnswer.Refused; options = parsedOf (startWalk empty) }
+  -- a list 9, then 10, with the index of the first bad record
+  pub list : (l : List ℕ) (n : ℕ) → (listRefusal (checkList l) ≡ n) ↔ First (ListRow l) (9 ∷ 10 ∷ []) n
+  pub list-gives : (l : List ℕ) (i : ℕ) → checkList l ≡ listAnswer.BadRecord i → FirstBad l i
+  -- "a search 11, then 9, then 10", with the same index
+  pub search
+      : (o : TcpObservation) (l : List ℕ) (n : ℕ)
+      → (searchRefusal (searchList o l) ≡ n) ↔ First (SearchRow o l) (11 ∷ 9 ∷ 10 ∷ []) n
+  pub search-gives : (o : TcpObservation) (l : List ℕ) (i : ℕ) → searchList o l ≡ searchAnswer.BadRecord i → FirstBad l i

@@ -1,0 +1,51 @@
+// What a search holds from record to record (document 01, "The signature list"): added by the port.
+ghost use mathlib.Core.Path.{_≡_};
+ghost use Rattle.found.specs.Keep.{fitsNothing, keep, isExact};
+use matching::FuzzyReason;
+use matching::SignatureFit;
+
+// What a search finds: three answers, with the record's label.
+pub enum Found {
+    Nothing,
+    Exact(u16),
+    Fuzzy(u16, FuzzyReason),
+}
+
+pub fn is_exact(found: Found) -> bool
+    ensures { λ r. ⌜ r ≡ isExact found ⌝ }
+{
+    match found {
+        Found::Nothing => false,
+        Found::Exact(_) => true,
+        Found::Fuzzy(_, _) => false,
+    }
+}
+
+pub fn is_nothing(fit: SignatureFit) -> bool
+    ensures { λ r. ⌜ r ≡ fitsNothing fit ⌝ }
+{
+    match fit {
+        SignatureFit::Nothing => true,
+        SignatureFit::Exact => false,
+        SignatureFit::Fuzzy(_) => false,
+    }
+}
+
+// What is held after one record more.
+pub fn keep_fit(held: Found, label: u16, fit: SignatureFit) -> Found
+    ensures { λ r. ⌜ r ≡ keep held label fit ⌝ }
+{
+    match held {
+        Found::Exact(kept) => Found::Exact(kept),
+        Found::Nothing => match fit {
+            SignatureFit::Nothing => Found::Nothing,
+            SignatureFit::Exact => Found::Exact(label),
+            SignatureFit::Fuzzy(reason) => Found::Fuzzy(label, reason),
+        },
+        Found::Fuzzy(kept, why) => match fit {
+            SignatureFit::Nothing => Found::Fuzzy(kept, why),
+            SignatureFit::Exact => Found::Exact(label),
+            SignatureFit::Fuzzy(_) => Found::Fuzzy(kept, why),
+        },
+    }
+}
