@@ -1,4 +1,4 @@
--- The refusals of option strings, lists and searches, and all of them together.
+-- The refusals of option strings, lists and searches, and all of them together with those of packets and bundles.
 use mathlib.Core.Path.{_≡_, refl, sym, _∙_, ap}
 use mathlib.Core.Bool.{Bool, true, false, cond, _&&_, true≢false, false≢true}
 use mathlib.Core.List.{List, [], _∷_}
@@ -23,6 +23,8 @@ use Rattle.search.specs.declared.SearchAnswer.the-variants as searchAnswer
 use Rattle.search.specs.Search.{afterCheck, searchList, searchRefusal}
 use Rattle.search.proofs.Refusals.{search-order}
 use Rattle.acceptance.specs.Refusals.{First, OptionsRow, FirstBad, ListRow, SearchRow, Refusals}
+use Rattle.bundle.specs.Bundle.{listOf}
+use Rattle.acceptance.proofs.BundleRefusals.{bundle-row, bad-of-list, none-beside, answered}
 use Rattle.acceptance.proofs.First.{by-test, exactly}
 use Rattle.acceptance.proofs.PacketGives.{packet-gives, packet-answers}
 use Rattle.acceptance.proofs.PacketRefusals.{packet-first}
@@ -171,4 +173,8 @@ refusals =
       list-gives = list-gives;
       search = λ o l. exactly (search-row o l);
       search-gives = search-gives;
+      bundle = λ b. exactly (bundle-row b (list-row (listOf b)));
+      bundle-gives = λ b i e. list-gives (listOf b) i (bad-of-list b i e);
+      bundle-refused = none-beside;
+      bundle-answered = answered;
     }

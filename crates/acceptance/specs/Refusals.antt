@@ -1,5 +1,5 @@
 -- Document 01, "Refusal numbers, in order of test": each number with what its row says, the order in which a packet, an option
--- string, a list and a search are tested, and what a refusal gives. `Refusals` is the statement.
+-- string, a list, a search and a bundle are tested, and what a refusal gives. `Refusals` is the statement.
 use mathlib.Core.Path.{_≡_}
 use mathlib.Core.Bool.{false, true}
 use mathlib.Core.List.{List, [], _∷_}
@@ -28,6 +28,10 @@ use Rattle.siglist.specs.declared.ListAnswer.the-variants as listAnswer
 use Rattle.siglist.specs.List.{recordCount, recordsOffset, layoutCount, layoutOffset, recordGood, checkList, listRefusal}
 use Rattle.search.specs.declared.SearchAnswer.the-variants as searchAnswer
 use Rattle.search.specs.Search.{searchList, searchRefusal}
+
+use Rattle.bundle.specs.declared.BundleCheck.the-variants as bundleCheck
+use Rattle.bundle.specs.Bundle.{packetCount, packetsOffset, listLength, listOffset, listOf, packetEnd, checkBundle, bundleRefusal}
+use Rattle.bundle.specs.Answers.{startOf, bundleAnswer}
 
 -- The number of the first row that holds, of rows in this order of test; 0 if none does.
 pub data First (Row : ℕ → Type 0) : List ℕ → ℕ → Type 0 where
@@ -134,6 +138,19 @@ pub data SearchRow (o : TcpObservation) (l : List ℕ) : ℕ → Type 0 where
   -- 11: "observation's layout count over 40"
   layout-over-40 : 40 < o .olayout .count → SearchRow o l 11
 
+-- ---- a bundle
+
+pub data BundleRow (b : List ℕ) : ℕ → Type 0 where
+  -- 12: "bundle over 65,535 bytes, or its header, list area or a packet does not fit"; the packets' offset is within the bundle "also at
+  -- count 0", and a packet is its four bytes and as many more as its length says, each where the one before it ends.
+  over-65535 : 65535 < length b → BundleRow b 12
+  header : length b < 8 → BundleRow b 12
+  list-area : length b < listOffset b + listLength b → BundleRow b 12
+  offset : length b < packetsOffset b → BundleRow b 12
+  a-packet : (i : ℕ) → i < packetCount b → length b < packetEnd b (startOf b i) → BundleRow b 12
+  -- 9 and 10, of its list
+  of-list : {n : ℕ} → ListRow (listOf b) n → BundleRow b n
+
 -- ---- the statement
 
 pub record Refusals : Type 0 where
@@ -156,3 +173,9 @@ pub record Refusals : Type 0 where
       : (o : TcpObservation) (l : List ℕ) (n : ℕ)
       → (searchRefusal (searchList o l) ≡ n) ↔ First (SearchRow o l) (11 ∷ 9 ∷ 10 ∷ []) n
   pub search-gives : (o : TcpObservation) (l : List ℕ) (i : ℕ) → searchList o l ≡ searchAnswer.BadRecord i → FirstBad l i
+  -- "A bundle meets 12, then 9, then 10, before any packet", with the same index; beside a refusal no packet is answered, and in a
+  -- bundle that is not refused every packet is.
+  pub bundle : (b : List ℕ) (n : ℕ) → (bundleRefusal (checkBundle b) ≡ n) ↔ First (BundleRow b) (12 ∷ 9 ∷ 10 ∷ []) n
+  pub bundle-gives : (b : List ℕ) (i : ℕ) → checkBundle b ≡ bundleCheck.BadRecord i → FirstBad (listOf b) i
+  pub bundle-refused : (b : List ℕ) → 0 < bundleRefusal (checkBundle b) → bundleAnswer b .answers ≡ []
+  pub bundle-answered : (b : List ℕ) → checkBundle b ≡ bundleCheck.Good → length (bundleAnswer b .answers) ≡ packetCount b

@@ -1,0 +1,88 @@
+-- The refusals of bundles.
+use mathlib.Core.Path.{_≡_, refl, sym, _∙_, ap}
+use mathlib.Core.Bool.{Bool, true, false, cond, not}
+use mathlib.Core.List.{List, [], _∷_}
+use mathlib.Core.Logic.{_↔_}
+use Prim.Native.Nat.{ℕ, _<_}
+use native.Mathlib.Omega.{arith}
+use lib.ListN.{length}
+use Rattle.siglist.specs.declared.ListAnswer.{ListAnswer}
+use Rattle.siglist.specs.declared.ListAnswer.the-variants as listAnswer
+use Rattle.siglist.specs.List.{checkList, listRefusal}
+use Rattle.bundle.specs.declared.BundleCheck.{BundleCheck}
+use Rattle.bundle.specs.declared.BundleCheck.the-variants as bundleCheck
+use Rattle.bundle.specs.Bundle.{packetCount, packetsOffset, listOf, packetEnd, bundleFits, ofList, checkBundle, bundleRefusal}
+use Rattle.bundle.specs.Answers.{BundleAnswer, afterCheck, startOf, bundleAnswer}
+use Rattle.bundle.proofs.Packets.{good-fits}
+use Rattle.bundle.proofs.Refusals.{Past, Unfit, unfit, fit-not-unfit, bundle-order, all-answered}
+use Rattle.acceptance.specs.Refusals.{First, FirstBad, ListRow, BundleRow}
+use Rattle.acceptance.proofs.First.{by-test}
+
+module _ (b : List ℕ) where
+  as-row : Unfit b → BundleRow b 12
+  as-row (Unfit.over h) = BundleRow.over-65535 h
+  as-row (Unfit.header h) = BundleRow.header h
+  as-row (Unfit.list-area h) = BundleRow.list-area h
+  as-row (Unfit.offset h) = BundleRow.offset h
+  as-row (Unfit.a-packet p) = BundleRow.a-packet (p .packet) (p .counted) (p .past)
+
+  no-list-row : ListRow (listOf b) 12 → ⊥
+  no-list-row = elim [ ]
+
+  as-unfit : BundleRow b 12 → Unfit b
+  as-unfit (BundleRow.over-65535 h) = Unfit.over h
+  as-unfit (BundleRow.header h) = Unfit.header h
+  as-unfit (BundleRow.list-area h) = Unfit.list-area h
+  as-unfit (BundleRow.offset h) = Unfit.offset h
+  as-unfit (BundleRow.a-packet i counted past) = Unfit.a-packet (record { packet = i; counted = counted; past = past })
+  as-unfit (BundleRow.of-list r) = absurd (no-list-row r)
+
+  nine : BundleRow b 9 → ListRow (listOf b) 9
+  nine (BundleRow.of-list r) = r
+
+  ten : BundleRow b 10 → ListRow (listOf b) 10
+  ten (BundleRow.of-list r) = r
+
+  as-list : {n : ℕ} → First (ListRow (listOf b)) (9 ∷ 10 ∷ []) n → First (BundleRow b) (9 ∷ 10 ∷ []) n
+  as-list (First.here r) = First.here (BundleRow.of-list r)
+  as-list (First.later d (First.here r)) = First.later (λ s. d (nine s)) (First.here (BundleRow.of-list r))
+  as-list (First.later d (First.later e First.none)) = First.later (λ s. d (nine s)) (First.later (λ s. e (ten s)) First.none)
+
+  pub bundle-row
+      : First (ListRow (listOf b)) (9 ∷ 10 ∷ []) (listRefusal (checkList (listOf b)))
+      → First (BundleRow b) (12 ∷ 9 ∷ 10 ∷ []) (bundleRefusal (checkBundle b))
+  bundle-row of-list = rw (bundle-order b) (by-fit (bundleFits b) refl)
+    where
+      by-fit : (t : Bool) → bundleFits b ≡ t → First (BundleRow b) (12 ∷ 9 ∷ 10 ∷ []) (cond t (listRefusal (checkList (listOf b))) 12)
+      by-fit true e = First.later (λ r. fit-not-unfit b e (as-unfit r)) (as-list of-list)
+      by-fit false e = First.here (as-row (unfit b e))
+
+  of-bad : (a : ListAnswer) (i : ℕ) → ofList a ≡ bundleCheck.BadRecord i → a ≡ listAnswer.BadRecord i
+  of-bad listAnswer.Good i e = let z : _≡_ {A = ℕ} 0 1 = cc in absurd (omega arith)
+  of-bad listAnswer.DoesNotFit i e = let z : _≡_ {A = ℕ} 0 1 = cc in absurd (omega arith)
+  of-bad (listAnswer.BadRecord k) i e = let same : k ≡ i = cc in ap listAnswer.BadRecord same
+
+  pub bad-of-list : (i : ℕ) → checkBundle b ≡ bundleCheck.BadRecord i → checkList (listOf b) ≡ listAnswer.BadRecord i
+  unfolding checkBundle
+  bad-of-list i = by-fit (bundleFits b)
+    where
+      by-fit
+          : (t : Bool)
+          → cond {A = BundleCheck} t (ofList (checkList (listOf b))) bundleCheck.DoesNotFit ≡ bundleCheck.BadRecord i
+          → checkList (listOf b) ≡ listAnswer.BadRecord i
+      by-fit true e = of-bad (checkList (listOf b)) i e
+      by-fit false e = let z : _≡_ {A = ℕ} 0 1 = cc in absurd (omega arith)
+
+  pub none-beside : 0 < bundleRefusal (checkBundle b) → bundleAnswer b .answers ≡ []
+  unfolding bundleAnswer bundleRefusal
+  none-beside = by-check (checkBundle b)
+    where
+      by-check : (c : BundleCheck) → 0 < bundleRefusal c → afterCheck c b .answers ≡ []
+      by-check bundleCheck.Good h = absurd (omega arith)
+      by-check bundleCheck.DoesNotFit h = refl
+      by-check bundleCheck.ListDoesNotFit h = refl
+      by-check (bundleCheck.BadRecord i) h = refl
+
+  pub answered : checkBundle b ≡ bundleCheck.Good → length (bundleAnswer b .answers) ≡ packetCount b
+  unfolding bundleAnswer
+  answered good = rw good (all-answered b (good-fits b good))
