@@ -14,7 +14,15 @@ use Rattle.matching.proofs.Unique as matching
 use Rattle.siglist.proofs.Unique as siglist
 use Rattle.found.proofs.Unique as found
 use Rattle.search.proofs.Unique as search
-use Rattle.acceptance.specs.Demand1.{Numbers, Quirks, TtlReading, Window, IpOptions, Observable, OneOption, Options, Ip, Flow, Distances, Matching, Siglist, Held, Search, Demand1}
+use Rattle.bundle.proofs.Unique as bundle
+use Rattle.report.specs.declared.Progress.{Progress}
+use Rattle.report.proofs.Unique as report
+use Rattle.report.proofs.Whole.{all-pages, first-page-within, next-page-within}
+use Rattle.gateway.proofs.Unique as gateway
+use mathlib.Core.Path.{ap₂}
+use mathlib.Core.List.{List}
+use Prim.Native.Nat.{ℕ}
+use Rattle.acceptance.specs.Demand1.{Numbers, Quirks, TtlReading, Window, IpOptions, Observable, OneOption, Options, Ip, Flow, Distances, Matching, Siglist, Held, Search, Bundle, Report, Gateway, Demand1}
 
 of-numbers : Numbers
 of-numbers =
@@ -151,6 +159,35 @@ of-search =
       search = λ κs l o. let u = search.search-one κs l o in record { one = u; is = u .meets };
     }
 
+of-bundle : Bundle
+of-bundle =
+    record {
+      check-bundle = λ κs b. let u = bundle.check-bundle-one κs b in record { one = u; is = u .meets };
+      bundle-refusal = λ c. let u = bundle.bundle-refusal-one c in record { one = u; is = u .meets };
+      peer-of = λ n. let u = bundle.peer-of-one n in record { one = u; is = u .meets };
+      answer-packet = λ κs p peer l. let u = bundle.answer-packet-one κs p peer l in record { one = u; is = u .meets };
+      packet-at = λ κs b at. let u = bundle.packet-at-one κs b at in record { one = u; is = u .meets };
+      answer-at = λ κs b i. let u = bundle.answer-at-one κs b i in record { one = u; is = u .meets };
+    }
+
+of-report : Report
+of-report =
+    record {
+      first-page = λ κs b page longer. let u = report.first-page-one κs b page longer in record { one = u; is = ap₂ (λ (r : Progress) (t : List ℕ). (r, t)) (u .meets .0) (u .meets .1) };
+      next-page = λ κs b page progress. let u = report.next-page-one κs b page progress in record { one = u; is = ap₂ (λ (r : Progress) (t : List ℕ). (r, t)) (u .meets .0) (u .meets .1) };
+      whole = all-pages;
+      first-fits = first-page-within;
+      next-fits = next-page-within;
+    }
+
+of-gateway : Gateway
+of-gateway =
+    record {
+      check-list = λ κs l. let u = gateway.termread-check-list-one κs l in record { one = u; is = u .meets };
+      answer-checked = λ κs p peer l. let u = gateway.termread-answer-checked-one κs p peer l in record { one = u; is = u .meets };
+      answer = λ κs p peer l. let u = gateway.termread-answer-one κs p peer l in record { one = u; is = u .meets };
+    }
+
 pub demand1 : Demand1
 demand1 =
     record {
@@ -169,4 +206,7 @@ demand1 =
       siglist = of-siglist;
       held = of-held;
       search = of-search;
+      bundle = of-bundle;
+      report = of-report;
+      gateway = of-gateway;
     }

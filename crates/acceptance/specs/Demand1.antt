@@ -5,7 +5,8 @@
 use mathlib.Core.Path.{_≡_}
 use mathlib.Core.Bool.{Bool}
 use mathlib.Core.List.{List}
-use Prim.Native.Nat.{ℕ, _+_, _*_, _-_, min}
+use Prim.Native.Nat.{ℕ, _+_, _*_, _-_, _≤_, min}
+use lib.ListN.{length}
 use contract.Lifetimes.{Lfts}
 use denote.Ref.{RefT, now}
 use Rattle.basis.specs.Unique.{ExactlyOne}
@@ -121,6 +122,27 @@ use Rattle.found.proofs.keep_fit.Reads as keep-fit'
 use Rattle.search.specs.Search.{searchAll, searchList}
 use Rattle.search.proofs.search_checked.Reads as search-checked'
 use Rattle.search.proofs.search.Reads as search'
+-- bundle
+use Rattle.bundle.specs.declared.BundleCheck.{BundleCheck}
+use Rattle.bundle.specs.Bundle.{checkBundle, bundleRefusal, peerOf}
+use Rattle.bundle.specs.Answers.{answerOf, packetAt, packetAnswer}
+use Rattle.bundle.proofs.check_bundle.Reads as check-bundle'
+use Rattle.bundle.proofs.bundle_refusal.Reads as bundle-refusal'
+use Rattle.bundle.proofs.peer_of.Reads as peer-of'
+use Rattle.bundle.proofs.answer_packet.Reads as answer-packet'
+use Rattle.bundle.proofs.packet_at.Reads as packet-at'
+use Rattle.bundle.proofs.answer_at.Reads as answer-at'
+-- report
+use Rattle.report.specs.declared.Progress.{Progress}
+use Rattle.report.specs.Pages.{written, Page, progressOf, firstPage, nextPage, allPages, outputOfInput}
+use Rattle.report.proofs.Unique.{left-with}
+use Rattle.report.proofs.first_page.Reads as first-page'
+use Rattle.report.proofs.next_page.Reads as next-page'
+-- gateway
+use Rattle.gateway.specs.Code.{packetFields, fieldsOf, codeOf, gatewayAnswer, listCode}
+use Rattle.gateway.proofs.termread_check_list.Reads as termread-check-list'
+use Rattle.gateway.proofs.termread_answer_checked.Reads as termread-answer-checked'
+use Rattle.gateway.proofs.termread_answer.Reads as termread-answer'
 
 -- On these arguments exactly one result meets the promise, and it is this one. The arguments at exit are those at entry: "All
 -- inputs are read only."
@@ -259,6 +281,48 @@ pub record Search : Type 0 where
       : (κs : Lfts 1) (list : RefT (List ℕ)) (o : TcpObservation)
       → Answers (search'.Post κs) (o, (list, tt)) (searchList o (now list))
 
+pub record Bundle : Type 0 where
+  pub check-bundle : (κs : Lfts 1) (bundle : RefT (List ℕ)) → Answers (check-bundle'.Post κs) (bundle, tt) (checkBundle (now bundle))
+  pub bundle-refusal : (c : BundleCheck) → Answers (bundle-refusal'.Post tt) (c, tt) (bundleRefusal c)
+  pub peer-of : (n : ℕ) → Answers (peer-of'.Post tt) (n, tt) (peerOf n)
+  pub answer-packet
+      : (κs : Lfts 2) (packet : RefT (List ℕ)) (peer : Mss) (list : RefT (List ℕ))
+      → Answers (answer-packet'.Post κs) (packet, (peer, (list, tt))) (answerOf (now packet) peer (now list))
+  pub packet-at
+      : (κs : Lfts 1) (bundle : RefT (List ℕ)) (at : ℕ)
+      → Answers (packet-at'.Post κs) (bundle, (at, tt)) (packetAt (now bundle) at)
+  pub answer-at
+      : (κs : Lfts 1) (bundle : RefT (List ℕ)) (i : ℕ)
+      → Answers (answer-at'.Post κs) (bundle, (i, tt)) (packetAnswer (now bundle) i)
+
+-- A function that fills a page of the caller's: exactly one result and one content of the page meet its contract. The bundle is as it
+-- was; of the page, what is not the text is as it was.
+pub record PageAnswers {A E : Type 0} (post : A → Progress → E → Type 0) (arguments : A) (exit : List ℕ → E) (page : List ℕ) (p : Page) : Type 0 where
+  pub one : ExactlyOne (Progress × List ℕ) (λ (r : Progress × List ℕ). post arguments (r .0) (exit (r .1)))
+  pub is : one .the ≡ (progressOf p, written page 0 (p .text))
+
+pub record Report : Type 0 where
+  pub first-page
+      : (κs : Lfts 2) (bundle page : RefT (List ℕ)) (longer : Bool)
+      → PageAnswers (first-page'.Post κs) (bundle, (longer, (page, tt))) (λ bytes. (bundle, (longer, (left-with page bytes, tt)))) (now page) (firstPage (now bundle) longer (length (now page)))
+  pub next-page
+      : (κs : Lfts 2) (bundle page : RefT (List ℕ)) (progress : Progress)
+      → PageAnswers (next-page'.Post κs) (bundle, (progress, (page, tt))) (λ bytes. (bundle, (progress, (left-with page bytes, tt)))) (now page) (nextPage (now bundle) (length (now page)) (progress .left) (progress .at))
+  -- The pages, one after the other, are the output: nothing is lost, doubled or moved, and each fits its page.
+  pub whole : (b : List ℕ) (longer : Bool) (size : ℕ) → 19 ≤ size → allPages b longer size ≡ outputOfInput b longer
+  pub first-fits : (b : List ℕ) (longer : Bool) (size : ℕ) → length (firstPage b longer size .text) ≤ size
+  pub next-fits : (b : List ℕ) (size left at : ℕ) → length (nextPage b size left at .text) ≤ size
+
+pub record Gateway : Type 0 where
+  pub check-list
+      : (κs : Lfts 1) (list : RefT (List ℕ)) → Answers (termread-check-list'.Post κs) (list, tt) (listCode (checkList (now list)))
+  pub answer-checked
+      : (κs : Lfts 2) (packet : RefT (List ℕ)) (peer : ℕ) (list : RefT (List ℕ))
+      → Answers (termread-answer-checked'.Post κs) (packet, (peer, (list, tt))) (codeOf (packetFields (answerOf (now packet) (peerOf peer) (now list))))
+  pub answer
+      : (κs : Lfts 2) (packet : RefT (List ℕ)) (peer : ℕ) (list : RefT (List ℕ))
+      → Answers (termread-answer'.Post κs) (packet, (peer, (list, tt))) (codeOf (fieldsOf (gatewayAnswer (now packet) peer (now list))))
+
 pub record Demand1 : Type 0 where
   pub numbers : Numbers
   pub quirks : Quirks
@@ -275,3 +339,6 @@ pub record Demand1 : Type 0 where
   pub siglist : Siglist
   pub held : Held
   pub search : Search
+  pub bundle : Bundle
+  pub report : Report
+  pub gateway : Gateway

@@ -13,7 +13,7 @@ use Rattle.report.proofs.first_page.Reads as first-page'
 use Rattle.report.proofs.next_page.Reads as next-page'
 
 -- A page is left with other bytes: the same reference.
-abbrev left-with : RefT (List ℕ) → List ℕ → RefT (List ℕ)
+abbrev pub left-with : RefT (List ℕ) → List ℕ → RefT (List ℕ)
 left-with page bytes = record { ptr = page .ptr; name = page .name; now = bytes }
 
 -- A progress and the bytes of a page, as a promise of both determines them.
