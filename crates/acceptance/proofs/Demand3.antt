@@ -1,5 +1,5 @@
 -- Demand 3: the theorems of the crate alike, and what follows for the search and for what the functions return.
-use mathlib.Core.Path.{_≡_, refl, sym, _∙_, ap}
+use mathlib.Core.Path.{_≡_, refl, sym, _∙_, ap, ap₂}
 use mathlib.Core.List.{List}
 use Prim.Native.Nat.{ℕ}
 use denote.Ref.{RefT, now}
@@ -9,6 +9,17 @@ use Rattle.flow.specs.declared.Reading.{Reading}
 use Rattle.flow.specs.Reading.{readPacket}
 use Rattle.search.specs.declared.SearchAnswer.{SearchAnswer}
 use Rattle.search.specs.Search.{searchList}
+use Rattle.siglist.specs.declared.ListAnswer.{ListAnswer}
+use Rattle.siglist.specs.declared.ListAnswer.the-variants as list
+use Rattle.siglist.specs.List.{checkList}
+use Rattle.bundle.specs.declared.PacketAnswer.{PacketAnswer}
+use Rattle.bundle.specs.Bundle.{listOf, packetBytes, packetPeer, peerOf}
+use Rattle.bundle.specs.Answers.{answerOf, answerAt, afterReading}
+use Rattle.report.specs.Text.{lineOf}
+use Rattle.gateway.specs.declared.GatewayAnswer.{GatewayAnswer}
+use Rattle.gateway.specs.declared.GatewayAnswer.the-variants as gateway
+use Rattle.gateway.specs.Code.{packetFields, fieldsOf, codeOf, afterList, gatewayAnswer}
+use Rattle.acceptance.proofs.Overlap.{overlap}
 use Rattle.alike.specs.Ip.{AlikeIpv4, AlikeIpv6}
 use Rattle.alike.specs.Packets.{Alike}
 use Rattle.alike.proofs.Equivalence.{ipv4-sym, ipv4-trans, ipv6-sym, ipv6-trans, tcp-refl, tcp-sym, tcp-trans, alike-refl, alike-sym, alike-trans}
@@ -17,7 +28,7 @@ use Rattle.alike.proofs.FreeTcp.{free-tcp}
 use Rattle.alike.proofs.Ip.{ip-alike-v4, ip-alike-v6}
 use Rattle.alike.proofs.Tcp.{tcp-alike}
 use Rattle.alike.proofs.Packets.{read-alike}
-use Rattle.acceptance.specs.Demand3.{TheRelation, Run, SameAnswer, Demand3}
+use Rattle.acceptance.specs.Demand3.{TheRelation, Run, SameAnswer, Demand3, GatewaySame}
 use Rattle.acceptance.proofs.NotFree.{not-free}
 
 -- ---- the relation
@@ -78,5 +89,52 @@ same-answer =
           (same-reading p q list peer r s a b alike x y, same-search p q list peer r s a b alike x y);
     }
 
+-- ---- bundles and the gateway
+
+answer-alike : (p q : List ℕ) (peer : Mss) (l : List ℕ) → Alike p q → answerOf p peer l ≡ answerOf q peer l
+unfolding answerOf
+answer-alike p q peer l a = ap (λ (r : Reading). afterReading r l) (read-alike p q peer a)
+
+in-bundles
+    : (b c : List ℕ) (at to : ℕ)
+    → listOf b ≡ listOf c
+    → packetPeer b at ≡ packetPeer c to
+    → Alike (packetBytes b at) (packetBytes c to)
+    → answerAt b at ≡ answerAt c to
+unfolding answerAt
+in-bundles b c at to list peer alike =
+    answer-alike (packetBytes b at) (packetBytes c to) (packetPeer b at) (listOf b) alike
+    ∙ ap₂ (λ (m : Mss) (l : List ℕ). answerOf (packetBytes c to) m l) peer list
+
+gateway-alike : (p q : List ℕ) (peer : ℕ) (l : List ℕ) → Alike p q → gatewayAnswer p peer l ≡ gatewayAnswer q peer l
+unfolding gatewayAnswer
+gateway-alike p q peer l a = by-list (checkList l)
+  where
+    by-list : (c : ListAnswer) → afterList c p (peerOf peer) l ≡ afterList c q (peerOf peer) l
+    by-list list.Good = ap gateway.Packet (answer-alike p q (peerOf peer) l a)
+    by-list list.DoesNotFit = refl
+    by-list (list.BadRecord i) = refl
+
+gateway-same : GatewaySame
+gateway-same =
+    record {
+      checked = λ κs p q l peer r s a x y.
+          x ∙ ap (λ (z : PacketAnswer). codeOf (packetFields z)) (answer-alike (now p) (now q) (peerOf peer) (now l) a) ∙ sym y;
+      not-checked = λ κs p q l peer r s a x y.
+          x ∙ ap (λ (z : GatewayAnswer). codeOf (fieldsOf z)) (gateway-alike (now p) (now q) peer (now l) a) ∙ sym y;
+    }
+
 pub demand3 : Demand3
-demand3 = record { relation = the-relation; answer = same-answer }
+demand3 =
+    record {
+      relation = the-relation;
+      answer = same-answer;
+      bundles =
+          record {
+            answer = answer-alike;
+            line = λ p q peer l a. ap lineOf (answer-alike p q peer l a);
+            in-bundles = in-bundles;
+            not-whole = overlap;
+          };
+      gateway = gateway-same;
+    }

@@ -20,11 +20,17 @@ use Rattle.flow.proofs.read_packet.Reads as read-packet'
 use Rattle.search.specs.declared.SearchAnswer.{SearchAnswer}
 use Rattle.search.specs.Search.{searchList}
 use Rattle.search.proofs.search.Reads as search'
+use Rattle.bundle.specs.Bundle.{listOf, packetBytes, packetPeer}
+use Rattle.bundle.specs.Answers.{answerOf, answerAt}
+use Rattle.report.specs.Text.{lineOf}
+use Rattle.gateway.proofs.termread_answer_checked.Reads as answer-checked'
+use Rattle.gateway.proofs.termread_answer.Reads as answer'
 use Rattle.alike.specs.Ip.{AlikeIpv4, AlikeIpv6}
 use Rattle.alike.specs.Tcp.{AlikeTcp}
 use Rattle.alike.specs.Packets.{Alike}
 use Rattle.alike.specs.Free.{Only, Free, FreeTcp}
 use Rattle.acceptance.specs.NotFree.{NotFree}
+use Rattle.acceptance.specs.Overlap.{Overlap}
 
 -- A relation that is reflexive, symmetric and transitive.
 pub record Equivalence (R : List ℕ → List ℕ → Type 0) : Type 0 where
@@ -78,6 +84,38 @@ pub record SameAnswer : Type 0 where
       → Run q peer list s b
       → (r ≡ s) × (a ≡ b)
 
+-- What the gateway's functions return.
+pub record GatewaySame : Type 0 where
+  pub checked
+      : (κs : Lfts 2) (p q list : RefT (List ℕ)) (peer r s : ℕ)
+      → Alike (now p) (now q)
+      → answer-checked'.Post κs (p, (peer, (list, tt))) r (p, (peer, (list, tt)))
+      → answer-checked'.Post κs (q, (peer, (list, tt))) s (q, (peer, (list, tt)))
+      → r ≡ s
+  pub not-checked
+      : (κs : Lfts 2) (p q list : RefT (List ℕ)) (peer r s : ℕ)
+      → Alike (now p) (now q)
+      → answer'.Post κs (p, (peer, (list, tt))) r (p, (peer, (list, tt)))
+      → answer'.Post κs (q, (peer, (list, tt))) s (q, (peer, (list, tt)))
+      → r ≡ s
+
+-- Bundles, packet by packet: with the same list and the same peer's MSS, packets that are alike have the same answer and the same line.
+pub record BundleSame : Type 0 where
+  pub answer
+      : (p q : List ℕ) (peer : Mss) (l : List ℕ) → Alike p q → answerOf p peer l ≡ answerOf q peer l
+  pub line
+      : (p q : List ℕ) (peer : Mss) (l : List ℕ) → Alike p q → lineOf (answerOf p peer l) ≡ lineOf (answerOf q peer l)
+  pub in-bundles
+      : (b c : List ℕ) (at to : ℕ)
+      → listOf b ≡ listOf c
+      → packetPeer b at ≡ packetPeer c to
+      → Alike (packetBytes b at) (packetBytes c to)
+      → answerAt b at ≡ answerAt c to
+  -- Two bundles that differ in a free byte of a packet need not agree: that byte may be the list's.
+  pub not-whole : Overlap
+
 pub record Demand3 : Type 0 where
   pub relation : TheRelation
   pub answer : SameAnswer
+  pub bundles : BundleSame
+  pub gateway : GatewaySame

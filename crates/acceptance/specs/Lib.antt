@@ -4,5 +4,6 @@ pub mod Demand2
 pub mod Demand3
 pub mod Honesty
 pub mod NotFree
+pub mod Overlap
 pub mod Refusals
 pub mod Values

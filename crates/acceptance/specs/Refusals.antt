@@ -28,7 +28,6 @@ use Rattle.siglist.specs.declared.ListAnswer.the-variants as listAnswer
 use Rattle.siglist.specs.List.{recordCount, recordsOffset, layoutCount, layoutOffset, recordGood, checkList, listRefusal}
 use Rattle.search.specs.declared.SearchAnswer.the-variants as searchAnswer
 use Rattle.search.specs.Search.{searchList, searchRefusal}
-
 use Rattle.bundle.specs.declared.BundleCheck.the-variants as bundleCheck
 use Rattle.bundle.specs.Bundle.{packetCount, packetsOffset, listLength, listOffset, listOf, packetEnd, checkBundle, bundleRefusal}
 use Rattle.bundle.specs.Answers.{startOf, bundleAnswer}

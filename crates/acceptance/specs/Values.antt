@@ -1,7 +1,7 @@
 -- Document 01, "Values to reproduce": each line marked P, as a case of the definitions. One record a subject; `Values` is the table.
 use mathlib.Core.Path.{_≡_}
 use mathlib.Core.Bool.{true, false}
-use mathlib.Core.List.{List, [], _∷_}
+use mathlib.Core.List.{List, [], _∷_, _++_}
 use Prim.Native.Nat.{ℕ}
 use lib.ListN.{replicate, set}
 use Rattle.basis.specs.Bytes.{byteAt}
@@ -32,6 +32,7 @@ use Rattle.ttl.specs.declared.Ttl.the-variants as ttl
 use Rattle.ttl.specs.Ttl.{readingOf}
 use Rattle.window_size.specs.declared.Multiplier.the-variants as multiplier
 use Rattle.window_size.specs.Multiplier.{multiplierOf}
+use Rattle.report.specs.Pages.{outputOf}
 
 -- "TTL 0 Bad(0); 1, 33, 65, 97, 224 Value; 2, 34, 98, 225 Distance 30."
 pub record TtlValues : Type 0 where
@@ -140,6 +141,26 @@ pub record ThreeAnswers : Type 0 where
       ≡ search.Found (found.Fuzzy 7 (record { hops = hops.OutOfRange 36; added = setOf 0; missing = setOf 0 }))
   pub none : searchList (readPacket (set packetA 34 0x17) mss.Absent .observation) exampleList ≡ search.Found found.Nothing
 
+-- "The whole example", as a bundle: its header, the list behind it, then A, B (A with TTL byte 1c) and C, peer absent; and its four lines.
+abbrev pub exampleBundle : List ℕ
+exampleBundle =
+    0 ∷ 3 ∷ 0 ∷ 42 ∷ 0 ∷ 34 ∷ 0 ∷ 8 ∷ []
+    ++ exampleList
+    ++ (0 ∷ 0 ∷ 0 ∷ 44 ∷ packetA)
+    ++ (0 ∷ 0 ∷ 0 ∷ 44 ∷ set packetA 8 0x1c)
+    ++ (0 ∷ 0 ∷ 0 ∷ 3 ∷ 0x45 ∷ 0 ∷ 0 ∷ [])
+
+-- "packets 3", "syn exact 7", "syn fuzzy 7", "refused 2"
+abbrev pub exampleLines : List ℕ
+exampleLines =
+    112 ∷ 97 ∷ 99 ∷ 107 ∷ 101 ∷ 116 ∷ 115 ∷ 32 ∷ 51 ∷ 10
+    ∷ 115 ∷ 121 ∷ 110 ∷ 32 ∷ 101 ∷ 120 ∷ 97 ∷ 99 ∷ 116 ∷ 32 ∷ 55 ∷ 10
+    ∷ 115 ∷ 121 ∷ 110 ∷ 32 ∷ 102 ∷ 117 ∷ 122 ∷ 122 ∷ 121 ∷ 32 ∷ 55 ∷ 10
+    ∷ 114 ∷ 101 ∷ 102 ∷ 117 ∷ 115 ∷ 101 ∷ 100 ∷ 32 ∷ 50 ∷ 10 ∷ []
+
+pub record WholeExample : Type 0 where
+  pub lines : outputOf exampleBundle ≡ exampleLines
+
 pub record Values : Type 0 where
   pub ttl : TtlValues
   pub window : WindowValues
@@ -147,3 +168,4 @@ pub record Values : Type 0 where
   pub packet : PacketValues
   pub fit : FitValues
   pub search : ThreeAnswers
+  pub whole : WholeExample

@@ -9,9 +9,9 @@ ghost use Rattle.bundle.specs.Bundle.{packetCount, listLength, listOffse
 ghost use Rattle.bundle.specs.Answers.{answerOf, answerAt, packetAt, startOf, packetAfter, packetAnswer};
 use flow::Answer;
 use flow::read_packet;
+use found::Found;
 use ip::Refusal;
 use numbers::be16;
-use found::Found;
 use search::search_checked;
 use siglist::ListAnswer;
 use siglist::check_list;

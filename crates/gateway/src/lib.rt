@@ -8,10 +8,10 @@ ghost use Rattle.gateway.specs.Code.{plain, hopsOf, farOf, foundFields, 
 use bundle::PacketAnswer;
 use bundle::answer_packet;
 use bundle::peer_of;
+use found::Found;
 use ip::Refusal;
 use ip::refusal_number;
 use matching::Hops;
-use found::Found;
 use siglist::ListAnswer;
 use siglist::check_list;
 

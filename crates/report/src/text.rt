@@ -6,8 +6,8 @@ ghost use lib.ListN.{length};
 ghost use Rattle.report.specs.Pages.{written};
 ghost use Rattle.report.specs.Text.{width, decimal, foundText, answerText, lineOf, newline};
 use bundle::PacketAnswer;
-use ip::refusal_number;
 use found::Found;
+use ip::refusal_number;
 
 pub(crate) fn put(page: &mut [u8], at: usize, word: &[u8]) -> usize
     requires { ⌜ at + length (now word) ≤ length (now page) ⌝ }
