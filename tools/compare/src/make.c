@@ -58,6 +58,12 @@ size_t make_options(Random *r, uint8_t *s) {
         put_random(r, s, n);
         return n;
     }
+    if (chance(r, 2)) { /* many entries */
+        n = 10 + below(r, 31);
+        memset(s, 1, n);
+        if (chance(r, 50)) s[below(r, (uint32_t)n)] = byte_of(r);
+        return n;
+    }
     while (options--) n += one_option(r, whole + n);
     if (chance(r, 15)) {
         whole[n++] = 0;

@@ -1,34 +1,8 @@
-/* The port's answers and the original's, in one numbering. */
+/* The original's answers in the common numbering. */
 #include "numbers.h"
 #include "original.h"
 
 #include <string.h>
-
-uint64_t witness_packet(const uint8_t *p, size_t size, uint16_t peer, uint32_t which);
-uint64_t witness_options(const uint8_t *s, size_t size, uint32_t which);
-uint64_t witness_search(const uint8_t *o, size_t observed, const uint8_t *list, size_t size, uint32_t which);
-
-enum { UNUSED_FROM = 13, UNUSED_TO = 20, SEARCH_NUMBERS = 5 };
-
-void port_packet(const uint8_t *p, size_t size, uint16_t peer, Numbers *out) {
-    uint32_t i;
-    memset(out, 0, sizeof *out);
-    for (i = 0; i < UNUSED_FROM; i++) out->n[i] = witness_packet(p, size, peer, i);
-    for (i = UNUSED_TO; i < NUMBERS; i++) out->n[i] = witness_packet(p, size, peer, i);
-}
-
-void port_options(const uint8_t *s, size_t size, Numbers *out) {
-    uint32_t i;
-    memset(out, 0, sizeof *out);
-    for (i = 0; i < 4; i++) out->n[i] = witness_options(s, size, i);
-    for (i = UNUSED_TO; i < NUMBERS; i++) out->n[i] = witness_options(s, size, i);
-}
-
-void port_search(const uint8_t *o, size_t observed, const uint8_t *list, size_t size, Numbers *out) {
-    uint32_t i;
-    memset(out, 0, sizeof *out);
-    for (i = 0; i < SEARCH_NUMBERS; i++) out->n[i] = witness_search(o, observed, list, size, i);
-}
 
 static uint64_t word_at(const uint8_t *p) { return (uint64_t)be32_at(p) << 32 | be32_at(p + 4); }
 
