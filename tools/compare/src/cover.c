@@ -49,7 +49,7 @@ static void observation_keys(const uint8_t *o, unsigned answer) {
     key(6, "option length", o[4], 1);
     key(7, "MSS", o[5] ? mss < 99 ? 1 : mss == 99 ? 2 : mss == 100 ? 3 : mss > 65400 ? 4 : 5 : 0, 4);
     key(8, "scale", o[12] ? 1u + o[13] : 0, o[13] < 18 || o[13] == 255 ? 1 : 0);
-    key(9, "divisor x version x stamp", (unsigned)first_divisor(o) * 4 + v6 * 2 + (o[100] != 0), 2);
+    key(9, "divisor x version x peer", (unsigned)first_divisor(o) * 4 + v6 * 2 + (o[100] != 0), 2);
     key(10, "payload x version", o[99] * 2u + v6, 2);
     key(11, "layout count", o[14], 1);
     key(12, "tos", o[103], o[103] % 9 ? 0 : 1);
