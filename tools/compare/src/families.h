@@ -15,4 +15,8 @@ enum { BASES = 12, BASE_MOST = 128, STRINGS = 6 };
 size_t base_packet(int i, uint8_t *p);
 size_t base_string(int i, uint8_t *s);
 
+/* Lists of one record at the boundary of a condition, numbered from 0: an observation, a list and its size. */
+int boundaries(void);
+size_t boundary(int i, uint8_t *observation, uint8_t *list);
+
 #endif

@@ -100,6 +100,10 @@ static void searches(void) {
     Random r = {23};
     size_t size;
     int i, place;
+    for (i = 0; i < boundaries(); i++) {
+        size = boundary(i, o, list);
+        offer_search(o, list, size, -3 - i);
+    }
     for (i = 0; i < 600000; i++) {
         if (i % 3 == 0) chance(&r, 60) ? observe(&r, o) : make_observation(&r, o);
         size = make_list(&r, o, i % 2 ? 1 : below(&r, 5), 2, list);

@@ -88,7 +88,18 @@ static void every_ttl(void) {
                 }
 }
 
+static void at_boundaries(void) {
+    uint8_t o[OBSERVATION], list[LIST_MOST];
+    int i;
+    family("one record, a step to either side of each condition", SEARCH);
+    for (i = 0; i < boundaries(); i++) {
+        size_t size = boundary(i, o, list);
+        try_search(o, list, size);
+    }
+}
+
 void search_families(unsigned share) {
+    at_boundaries();
     derived("one record derived from a packet's observation, up to 3 changes", 1500000 / share, 4, 1, 3, 0);
     derived("2 records, derived and changed", 300000 / share, 5, 2, 3, 0);
     derived("0 to 11 records, derived and changed", 600000 / share, 6, 0, 4, 0);
