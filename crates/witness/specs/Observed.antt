@@ -27,6 +27,10 @@ unfoldable pub ttlAt : ℕ → ℕ → ℕ → Ttl
 ttlAt form t hops =
     cond (eqb form 0) (ttl.Value t) (cond (eqb form 1) (ttl.Distance t hops) (cond (eqb form 2) (ttl.Guess t) (ttl.Bad t)))
 
+-- Three bytes: form, TTL, distance.
+unfoldable pub ttlFrom : List ℕ → ℕ → Ttl
+ttlFrom s i = ttlAt (byteAt s i) (byteAt s (i + 1)) (byteAt s (i + 2))
+
 unfoldable pub mssIf : Bool → ℕ → Mss
 mssIf present n = cond present (mss.Present n) mss.Absent
 

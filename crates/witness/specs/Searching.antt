@@ -13,7 +13,8 @@ use Rattle.siglist.specs.declared.Found.the-variants as found
 use Rattle.siglist.specs.declared.SearchAnswer.{SearchAnswer}
 use Rattle.siglist.specs.declared.SearchAnswer.the-variants as answer
 use Rattle.siglist.specs.Search.{searchList}
-use Rattle.witness.specs.Observed.{observationAt}
+use Rattle.matching.specs.Tolerance.{reportedHops}
+use Rattle.witness.specs.Observed.{observationAt, ttlFrom}
 
 unfoldable pub firstOnly : ℕ → ℕ → ℕ
 firstOnly number w = cond (eqb w 0) number 0
@@ -46,3 +47,7 @@ answerOfSearch (answer.BadRecord index) w = badNumber index w
 
 unfoldable pub searchNumber : List ℕ → List ℕ → ℕ → ℕ
 searchNumber o l w = answerOfSearch (searchList (observationAt o) l) w
+
+-- The hop distance that is reported for an observed TTL against a signature's.
+unfoldable pub hopsOf : List ℕ → ℕ
+hopsOf s = reportedHops (ttlFrom s 0) (ttlFrom s 3)

@@ -5,7 +5,7 @@ ghost use lib.Dec.{eqb};
 ghost use Prim.Native.Nat.{_<_};
 ghost use Rattle.basis.specs.Bytes.{byteAt, be16, be32};
 ghost use Rattle.tcp.specs.declared.Mss.the-variants as mss;
-ghost use Rattle.witness.specs.Observed.{versionAt, ttlAt, mssIf, mssAt, scaleAt, payloadAt, quirksAt, rowTo, layoutAt, observationAt};
+ghost use Rattle.witness.specs.Observed.{versionAt, ttlAt, ttlFrom, mssIf, mssAt, scaleAt, payloadAt, quirksAt, rowTo, layoutAt, observationAt};
 use numbers::be16;
 use numbers::be32;
 use observable::TcpObservation;
@@ -55,6 +55,14 @@ fn ttl_at(form: u8, ttl: u8, hops: u8) -> Ttl
         return Ttl::Guess(ttl);
     }
     Ttl::Bad(ttl)
+}
+
+// A TTL of three bytes: form, TTL, distance.
+pub(crate) fn ttl_from(s: &[u8], i: usize) -> Ttl
+    requires { ⌜ i < 1000 ⌝ }
+    ensures { λ r. ⌜ r ≡ ttlFrom (now (s .entry)) i ⌝ }
+{
+    ttl_at(byte_at(s, i), byte_at(s, i + 1), byte_at(s, i + 2))
 }
 
 // A maximum segment size, if it is there.

@@ -1,13 +1,15 @@
 // Outside witnesses: the answers as numbers, for C drivers; not part of the product.
 ghost use mathlib.Core.Path.{_≡_};
 ghost use Rattle.witness.specs.Reading.{packetNumber, optionsNumber};
-ghost use Rattle.witness.specs.Searching.{searchNumber};
+ghost use Rattle.witness.specs.Searching.{hopsOf, searchNumber};
 use decoded::mss_of;
 use decoded::observation_of;
+use decoded::ttl_from;
 use found::answer_of_search;
 use shown::answer_number;
 use shown::observation_number;
 use shown::options_number;
+use shown::wide8;
 
 mod decoded;
 mod found;
@@ -41,4 +43,12 @@ pub extern "C" fn witness_search(observation: &[u8], list: &[u8], which: u32) ->
     ensures { λ r. ⌜ r ≡ searchNumber (now (observation .entry)) (now (list .entry)) which ⌝ }
 {
     answer_of_search(siglist::search(observation_of(observation), list), which)
+}
+
+// The hop distance that is reported for two TTLs of three bytes each (form, TTL, distance): an observed one, then a signature's.
+#[no_mangle]
+pub extern "C" fn witness_hops(ttls: &[u8]) -> u64
+    ensures { λ r. ⌜ r ≡ hopsOf (now (ttls .entry)) ⌝ }
+{
+    wide8(matching::report_hop_distance(ttl_from(ttls, 0), ttl_from(ttls, 3)))
 }

@@ -109,3 +109,8 @@ void oracle_search(const uint8_t *o, const uint8_t *list, size_t size, Numbers *
         if (fit[0] == 1) return;
     }
 }
+
+void oracle_hops(const uint8_t ttls[6], Numbers *out) {
+    memset(out, 0, sizeof *out);
+    out->n[0] = (uint64_t)original_report_hop_distance(ttls, ttls + 3);
+}

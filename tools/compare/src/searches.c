@@ -88,6 +88,22 @@ static void every_ttl(void) {
                 }
 }
 
+/* The hop distance to report: every two TTLs, of each form. */
+static void every_hops(void) {
+    static const uint8_t distances[4] = {0, 1, 36, 200};
+    unsigned forms, seen, declared, d;
+    family("reported hop distances: every observed TTL x every declared TTL x forms x 4 distances", HOPS);
+    for (forms = 0; forms < 16; forms++)
+        for (d = 0; d < 4; d++)
+            for (seen = 0; seen < 256; seen++)
+                for (declared = 0; declared < 256; declared++) {
+                    uint8_t ttls[6] = {(uint8_t)(forms / 4), (uint8_t)seen, 0, (uint8_t)(forms % 4), (uint8_t)declared, 0};
+                    if (ttls[0] == 1) ttls[2] = distances[(d + 1) % 4];
+                    if (ttls[3] == 1) ttls[5] = distances[d];
+                    try_hops(ttls);
+                }
+}
+
 static void at_boundaries(void) {
     uint8_t o[OBSERVATION], list[LIST_MOST];
     int i;
@@ -107,4 +123,5 @@ void search_families(unsigned share) {
     damaged(500000 / share);
     every_byte(share > 12 ? 1 : 12 / share);
     every_ttl();
+    every_hops();
 }

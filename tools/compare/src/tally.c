@@ -4,11 +4,11 @@
 #include <stdlib.h>
 #include <string.h>
 
-enum { FAMILIES = 40, ANSWERS = 20, KINDS = 4, MOST = 4096 };
+enum { FAMILIES = 40, ANSWERS = 21, KINDS = 5, MOST = 4096 };
 
 static const char *const answer_names[ANSWERS] = {
     "SYN", "SYN+ACK", "nothing", "refused 1", "refused 2", "refused 3", "refused 4", "refused 5", "refused 6", "refused 7",
-    "parsed", "malformed", "refused 8", "exact", "fuzzy", "none", "refused 9", "refused 10", "refused 11", "pairs",
+    "parsed", "malformed", "refused 8", "exact", "fuzzy", "none", "refused 9", "refused 10", "refused 11", "pairs", "hops",
 };
 
 typedef struct {
@@ -39,6 +39,7 @@ void family(const char *name, Kind kind) {
 static int answer_of(Kind kind, const Numbers *a) {
     uint64_t n = a->n[0];
     if (kind == PAIR) return 19;
+    if (kind == HOPS) return 20;
     if (kind == OPTIONS) return n == 8 ? 12 : a->n[1] ? 11 : 10;
     if (kind == SEARCH) return n >= 196608 ? 14 : n >= 131072 ? 13 : n == 65536 ? 15 : (int)n + 7;
     return n < 256 ? (int)n - 1 : (int)(n / 256) + 2;
@@ -128,6 +129,13 @@ Numbers try_search(const uint8_t *o, const uint8_t *list, size_t size) {
     return original;
 }
 
+void try_hops(const uint8_t ttls[6]) {
+    Numbers port, original;
+    oracle_hops(ttls, &original);
+    port_hops(ttls, &port);
+    settle(HOPS, ttls, 6, &port, &original);
+}
+
 void try_pair(const Numbers *a, const Numbers *b, const uint8_t *p, size_t size) {
     settle(PAIR, p, size, a, b);
 }
@@ -140,7 +148,7 @@ static void hex(const char *name, const uint8_t *p, size_t size) {
 }
 
 static void show_difference(int kind, int which, const Difference *d) {
-    static const char *const names[KINDS] = {"packet (peer MSS before it)", "options", "search (observation, list)", "pair"};
+    static const char *const names[KINDS] = {"packet (peer MSS before it)", "options", "search (observation, list)", "pair", "hops (two TTLs)"};
     int i;
     printf("\ndifference in number %d of %s, %llu times\n", which, names[kind], (unsigned long long)d->times);
     hex("first", d->first, d->first_size);
@@ -173,8 +181,9 @@ uint64_t report(void) {
         all[f->kind] += f->inputs;
         wrong += f->differences;
     }
-    printf("\npackets %llu, option strings %llu, searches %llu, pairs %llu, differences %llu\n", (unsigned long long)all[PACKET],
-           (unsigned long long)all[OPTIONS], (unsigned long long)all[SEARCH], (unsigned long long)all[PAIR], (unsigned long long)wrong);
+    printf("\npackets %llu, option strings %llu, searches %llu, pairs %llu, hop distances %llu, differences %llu\n", (unsigned long long)all[PACKET],
+           (unsigned long long)all[OPTIONS], (unsigned long long)all[SEARCH], (unsigned long long)all[PAIR],
+           (unsigned long long)all[HOPS], (unsigned long long)wrong);
     for (j = 0; j < ANSWERS; j++) printf("%s %llu%s", answer_names[j], (unsigned long long)sums[j], j + 1 < ANSWERS ? ", " : "\n");
     for (i = 0; i < 17; i++) bits[i] = quirks_seen[places[i]];
     row("quirks from the lowest bit up", bits, 17);

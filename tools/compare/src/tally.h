@@ -4,7 +4,7 @@
 
 #include "numbers.h"
 
-typedef enum { PACKET, OPTIONS, SEARCH, PAIR } Kind;
+typedef enum { PACKET, OPTIONS, SEARCH, PAIR, HOPS } Kind;
 
 void family(const char *name, Kind kind);
 
@@ -12,6 +12,8 @@ void family(const char *name, Kind kind);
 Numbers try_packet(const uint8_t *p, size_t size, uint16_t peer, uint8_t *observation);
 void try_options(const uint8_t *s, size_t size);
 Numbers try_search(const uint8_t *observation, const uint8_t *list, size_t size);
+
+void try_hops(const uint8_t ttls[6]);
 
 /* Two answers of the port that should be one; p is the input that is shown if they are not. */
 void try_pair(const Numbers *a, const Numbers *b, const uint8_t *p, size_t size);
