@@ -9,19 +9,22 @@ use Rattle.basis.specs.Tests.{allBelow}
 use Rattle.quirks.specs.Quirks.{placeOf, bitOf, holds, contains, isEmpty, with, addIf, difference}
 use Rattle.quirks.specs.Named.{fromQuirks, displayOrder, empty, fuzzyDeletable, fuzzyAddable, maskWhenObsV4, maskWhenObsV6, seventeen}
 use Rattle.ip_options.specs.IpOptions.{ipv4OptionLength}
-use Rattle.syn_options.specs.Options.{asked, runsPast, optionsAfter}
-use Rattle.syn_options.specs.Walk.{entryByte, putEntry, laterMss, laterScale, trailingNonzero, excessiveScaling, ownTimestampZero, peerTimestampNonzero, shownQuirks, seeOption, walkFrom, walkOf, parseOptionsRaw}
+use Rattle.one_option.specs.Options.{asked, runsPast, optionsAfter}
+use Rattle.one_option.specs.See.{laterMss, laterScale, trailingNonzero, excessiveScaling, ownTimestampZero, peerTimestampNonzero, shownQuirks, seeOption}
+use Rattle.syn_options.specs.Walk.{entryByte, putEntry, walkFrom, walkOf, parseOptionsRaw}
 use Rattle.observable.specs.Observation.{holdsKind, ownTimestampNonzero, windowMultiplier}
 use Rattle.flow.specs.Flags.{maskedType, flagsInvalid, isSynType}
-use Rattle.flow.specs.Ip.{ipv4Quirks, ipv4Facts, readIpv4, readIp}
+use Rattle.ip.specs.Ip.{ipv4Quirks, ipv4Facts, readIpv4, readIp}
 use Rattle.flow.specs.Tcp.{headerQuirks, shownQuirks as showing, payloadClass, observationOf, observed, readTcp}
 use Rattle.flow.specs.Reading.{readPacket}
-use Rattle.matching.specs.Gates.{versionMatches, olenMatches, mssMatches, windowMatches, scaleMatches, payloadMatches, entriesMatch, layoutMatches}
-use Rattle.matching.specs.Tolerance.{ttlFit, maskedQuirks, quirksFit, judgeInRange, judge}
+use Rattle.distances.specs.Gates.{versionMatches, windowMatches, payloadMatches}
+use Rattle.matching.specs.Gates.{olenMatches, mssMatches, scaleMatches, entriesMatch, layoutMatches}
+use Rattle.distances.specs.Distances.{ttlFit}
+use Rattle.matching.specs.Tolerance.{maskedQuirks, quirksFit, judgeInRange, judge}
 use Rattle.matching.specs.Fit.{featuresOf, scalarGates, toleranceOf, fitOf}
 use Rattle.siglist.specs.Record.{versionOf, ttlOf, mssOf, scaleOf, windowOf, payloadOf, signatureOf, versionGood, ttlGood, presenceGood, windowGood, payloadGood, quirksGood, scalarsGood, entryGood, entriesGood}
 use Rattle.siglist.specs.List.{listFits, layoutLies, recordGood, recordsFrom, checkList}
-use Rattle.siglist.specs.Search.{fitAt, keep, searchFrom, numbersFrom, searchOver, searchAll, searchList}
+use Rattle.search.specs.Search.{fitAt, keep, searchFrom, numbersFrom, searchOver, searchAll, searchList}
 use Rattle.acceptance.specs.Values.{TtlValues, WindowValues, OptionValues, PacketValues, FitValues, ThreeAnswers, Values}
 
 ttl-values : TtlValues

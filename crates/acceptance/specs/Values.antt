@@ -16,15 +16,15 @@ use Rattle.observable.specs.declared.TcpObservation.{TcpObservation}
 use Rattle.flow.specs.declared.Answer.the-variants as answer
 use Rattle.flow.specs.Reading.{readPacket}
 use Rattle.matching.specs.declared.Hops.the-variants as hops
-use Rattle.matching.specs.declared.TtlFit.the-variants as ttlfit
-use Rattle.matching.specs.declared.WindowSize.the-variants as wsize
-use Rattle.matching.specs.Gates.{windowMatches}
-use Rattle.matching.specs.Tolerance.{initialTtl, ttlFit}
-use Rattle.siglist.specs.declared.Found.the-variants as found
+use Rattle.distances.specs.declared.TtlFit.the-variants as ttlfit
+use Rattle.distances.specs.declared.WindowSize.the-variants as wsize
+use Rattle.distances.specs.Gates.{windowMatches}
+use Rattle.distances.specs.Distances.{initialTtl, ttlFit}
+use Rattle.search.specs.declared.Found.the-variants as found
 use Rattle.siglist.specs.declared.ListAnswer.the-variants as list
-use Rattle.siglist.specs.declared.SearchAnswer.the-variants as search
+use Rattle.search.specs.declared.SearchAnswer.the-variants as search
 use Rattle.siglist.specs.List.{checkList}
-use Rattle.siglist.specs.Search.{searchList}
+use Rattle.search.specs.Search.{searchList}
 use Rattle.tcp.specs.declared.Mss.the-variants as mss
 use Rattle.tcp.specs.declared.IpVersion.the-variants as version
 use Rattle.ttl.specs.declared.Ttl.the-variants as ttl

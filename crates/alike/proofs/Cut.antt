@@ -11,8 +11,8 @@ use lib.Dec.{eqb}
 use lib.ListN.{length, take, length-take, drop-of-length-le}
 use lib.Seq.{take-nil, getD-take}
 use Rattle.basis.specs.Bytes.{byteAt, be32}
-use Rattle.syn_options.specs.Options.{Opt, asked, optionsAfter, optionsOf}
-use Rattle.syn_options.proofs.See.{opt}
+use Rattle.one_option.specs.Options.{Opt, asked, optionsAfter, optionsOf}
+use Rattle.one_option.proofs.See.{opt}
 use Rattle.syn_options.proofs.Walk.{skipped}
 use Rattle.alike.specs.Options.{ZeroAlike}
 use Rattle.alike.proofs.Places.{be32-take, take-alike, take-byte}

@@ -7,9 +7,9 @@ use lib.ListN.{length}
 use Rattle.basis.specs.Bytes.{byteAt}
 use Rattle.rfc.specs.Rfc791.{version}
 use Rattle.rfc.specs.Rfc9293.{options}
-use Rattle.syn_options.specs.Options.{Opt, optionsOf}
-use Rattle.flow.specs.declared.IpRead.{IpRead}
-use Rattle.flow.specs.Ip.{readIp}
+use Rattle.one_option.specs.Options.{Opt, optionsOf}
+use Rattle.ip.specs.declared.IpRead.{IpRead}
+use Rattle.ip.specs.Ip.{readIp}
 use Rattle.alike.specs.Options.{Agree, AlikeStamps, AlikeOption, AlikeRow}
 use Rattle.alike.specs.Tcp.{AlikeTcp}
 use Rattle.alike.specs.Ip.{AlikeIpv4, AlikeIpv6, headerEnd4, lengthEnd4, headerEnd6, lengthEnd6}

@@ -10,11 +10,11 @@ use borrow.Author.Tests.{ltb-false, eqb-true}
 use Rattle.basis.specs.Bytes.{byteAt, be16, part}
 use Rattle.rfc.specs.Rfc791 as v4
 use Rattle.rfc.specs.Rfc8200 as v6
-use Rattle.flow.specs.declared.IpFacts.{IpFacts}
-use Rattle.flow.specs.declared.IpRead.{IpRead}
-use Rattle.flow.specs.declared.IpRead.the-variants as ip
-use Rattle.flow.specs.declared.Refusal.{Refusal}
-use Rattle.flow.specs.Ip.{ipv4Facts, readIpv4, ipv6Facts, readIpv6, readIp}
+use Rattle.ip.specs.declared.IpFacts.{IpFacts}
+use Rattle.ip.specs.declared.IpRead.{IpRead}
+use Rattle.ip.specs.declared.IpRead.the-variants as ip
+use Rattle.ip.specs.declared.Refusal.{Refusal}
+use Rattle.ip.specs.Ip.{ipv4Facts, readIpv4, ipv6Facts, readIpv6, readIp}
 use Rattle.flow.specs.Reading.{tcpPart}
 use Rattle.alike.specs.Options.{ZeroAlike, Agree}
 use Rattle.alike.specs.Tcp.{AlikeTcp}

@@ -6,7 +6,7 @@ use native.Mathlib.Omega.{arith}
 use lib.ListN.{length, take, drop, length-take, length-drop}
 use lib.Seq.{drop-cons, drop-drop, getD-drop}
 use Rattle.basis.specs.Bytes.{byteAt, be32}
-use Rattle.syn_options.specs.Options.{asked, optionsAfter, optionsOf}
+use Rattle.one_option.specs.Options.{asked, optionsAfter, optionsOf}
 use Rattle.syn_options.proofs.Walk.{skipped}
 use Rattle.alike.specs.Options.{ZeroAlike, Agree, AlikeStamps, AlikeOption, AlikeRow, AlikeOptions}
 use Rattle.alike.specs.Free.{Only, Reached, FreeStamp}

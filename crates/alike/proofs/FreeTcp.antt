@@ -4,7 +4,7 @@ use mathlib.Core.List.{List}
 use Prim.Native.Nat.{ℕ, _+_, _/_}
 use native.Mathlib.Omega.{arith}
 use Rattle.rfc.specs.Rfc9293.{sequence, acknowledgment, dataOffset, control, window, urgentPointer, optionsEnd, options}
-use Rattle.syn_options.specs.Options.{optionsOf}
+use Rattle.one_option.specs.Options.{optionsOf}
 use Rattle.alike.specs.Options.{ZeroAlike, AlikeOptions}
 use Rattle.alike.specs.Tcp.{AlikeTcp}
 use Rattle.alike.specs.Free.{Only, FreeStamp, FreeTcp}

@@ -8,11 +8,12 @@ use native.Mathlib.Omega.{arith}
 use native.Mathlib.Decide.{decLe}
 use lib.ListN.{length}
 use Rattle.basis.specs.Bytes.{byteAt, be32}
-use Rattle.syn_options.specs.declared.Seen.{Seen}
+use Rattle.one_option.specs.declared.Seen.{Seen}
 use Rattle.syn_options.specs.declared.Walked.{Walked}
-use Rattle.syn_options.specs.Options.{Opt, asked, runsPast}
-use Rattle.syn_options.specs.Walk.{entryByte, putEntry, seeOption, putOption, walkFrom}
-use Rattle.syn_options.proofs.See.{opt, stamps-none, stamps-own, stamps-both}
+use Rattle.one_option.specs.Options.{Opt, asked, runsPast}
+use Rattle.one_option.specs.See.{seeOption}
+use Rattle.syn_options.specs.Walk.{entryByte, putEntry, putOption, walkFrom}
+use Rattle.one_option.proofs.See.{opt, stamps-none, stamps-own, stamps-both}
 use Rattle.alike.specs.Options.{ZeroAlike, AlikeStamps, AlikeOption, AlikeRow}
 
 -- All that the walk looks at in the own bytes of a timestamps option: less than `AlikeStamps` asks, so that it outlives a cut.

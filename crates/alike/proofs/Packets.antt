@@ -3,7 +3,7 @@ use mathlib.Core.Path.{_≡_, refl}
 use mathlib.Core.List.{List}
 use Prim.Native.Nat.{ℕ}
 use Rattle.tcp.specs.declared.Mss.{Mss}
-use Rattle.flow.specs.declared.IpRead.{IpRead}
+use Rattle.ip.specs.declared.IpRead.{IpRead}
 use Rattle.flow.specs.Reading.{tcpPart, afterIp, readPacket}
 use Rattle.alike.specs.Packets.{AlikeBody, Alike}
 use Rattle.alike.proofs.Tcp.{tcp-alike}

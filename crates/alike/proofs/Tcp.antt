@@ -9,7 +9,7 @@ use Rattle.tcp.specs.declared.Mss.{Mss}
 use Rattle.tcp.specs.declared.Mss.the-variants as mss
 use Rattle.syn_options.specs.declared.Walked.{Walked}
 use Rattle.syn_options.specs.Walk.{startWalk, walkOf}
-use Rattle.flow.specs.declared.IpFacts.{IpFacts}
+use Rattle.ip.specs.declared.IpFacts.{IpFacts}
 use Rattle.flow.specs.Tcp.{headerQuirks, shownQuirks, payloadClass, observationOf, observed, knownPeer, readTcp}
 use Rattle.alike.specs.Tcp.{AlikeTcp}
 use Rattle.alike.proofs.Options.{like-row, walk-like}

@@ -8,10 +8,10 @@ use Rattle.basis.specs.Bytes.{byteAt, be32}
 use Rattle.rfc.specs.Rfc791 as v4
 use Rattle.rfc.specs.Rfc8200 as v6
 use Rattle.rfc.specs.Rfc9293 as tcp
-use Rattle.syn_options.specs.Options.{asked}
-use Rattle.flow.specs.declared.IpFacts.{IpFacts}
-use Rattle.flow.specs.declared.IpRead.the-variants as ip
-use Rattle.flow.specs.Ip.{readIp}
+use Rattle.one_option.specs.Options.{asked}
+use Rattle.ip.specs.declared.IpFacts.{IpFacts}
+use Rattle.ip.specs.declared.IpRead.the-variants as ip
+use Rattle.ip.specs.Ip.{readIp}
 use Rattle.flow.specs.Reading.{tcpPart}
 use Rattle.alike.specs.Options.{ZeroAlike}
 use Rattle.alike.specs.Ip.{headerEnd4, lengthEnd4, headerEnd6, lengthEnd6}

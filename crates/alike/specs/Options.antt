@@ -6,7 +6,7 @@ use Prim.Native.Nat.{ℕ, _<_, _≤_}
 use lib.Dec.{eqb}
 use lib.ListN.{length}
 use Rattle.basis.specs.Bytes.{byteAt, be32}
-use Rattle.syn_options.specs.Options.{Opt, optionsOf}
+use Rattle.one_option.specs.Options.{Opt, optionsOf}
 
 -- Both are zero, or both are nonzero.
 abbrev pub ZeroAlike : ℕ → ℕ → Type 0

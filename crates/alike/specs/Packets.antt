@@ -5,11 +5,11 @@ use Prim.Native.Nat.{ℕ, _≤_}
 use lib.ListN.{length}
 use Rattle.basis.specs.Bytes.{part}
 use Rattle.rfc.specs.Rfc791.{version}
-use Rattle.flow.specs.declared.IpFacts.{IpFacts}
-use Rattle.flow.specs.declared.IpRead.{IpRead}
-use Rattle.flow.specs.declared.IpRead.the-variants as ip
-use Rattle.flow.specs.declared.Refusal.{Refusal}
-use Rattle.flow.specs.Ip.{readIp}
+use Rattle.ip.specs.declared.IpFacts.{IpFacts}
+use Rattle.ip.specs.declared.IpRead.{IpRead}
+use Rattle.ip.specs.declared.IpRead.the-variants as ip
+use Rattle.ip.specs.declared.Refusal.{Refusal}
+use Rattle.ip.specs.Ip.{readIp}
 use Rattle.flow.specs.Reading.{tcpPart}
 use Rattle.alike.specs.Options.{Agree}
 use Rattle.alike.specs.Ip.{AlikeIpv4, AlikeIpv6, headerEnd4, lengthEnd4, headerEnd6, lengthEnd6}

@@ -1,5 +1,4 @@
 pub mod Flags
-pub mod Ip
 pub mod Observed
 pub mod Opening
 pub mod Parts

@@ -18,16 +18,17 @@ use Rattle.observable.specs.declared.TcpObservation.{TcpObservation}
 use Rattle.observable.specs.Observation.{emptyLayout, emptyObservation}
 use Rattle.rfc.specs.Rfc9293.{control, options}
 use Rattle.syn_options.specs.declared.Walked.{Walked}
-use Rattle.syn_options.specs.Options.{Opt, runsPast, optionsOf}
-use Rattle.syn_options.specs.Walk.{shownQuirks as shown, seeOption, putOption, walkFrom, startWalk, walkOf}
+use Rattle.one_option.specs.Options.{Opt, runsPast, optionsOf}
+use Rattle.one_option.specs.See.{shownQuirks as shown, seeOption}
+use Rattle.syn_options.specs.Walk.{putOption, walkFrom, startWalk, walkOf}
 use Rattle.syn_options.proofs.Entries.{Tidy, at-most-forty, past-count, zero-row}
-use Rattle.flow.specs.declared.IpFacts.{IpFacts}
-use Rattle.flow.specs.declared.IpRead.{IpRead}
-use Rattle.flow.specs.declared.IpRead.the-variants as ip
+use Rattle.ip.specs.declared.IpFacts.{IpFacts}
+use Rattle.ip.specs.declared.IpRead.{IpRead}
+use Rattle.ip.specs.declared.IpRead.the-variants as ip
 use Rattle.flow.specs.declared.Reading.{Reading}
-use Rattle.flow.specs.declared.Refusal.{Refusal}
+use Rattle.ip.specs.declared.Refusal.{Refusal}
 use Rattle.flow.specs.Flags.{flagsInvalid, isSynType, isSynAckType}
-use Rattle.flow.specs.Ip.{ipv4Quirks, ipv4Facts, readIpv4, ipv6Quirks, ipv6Facts, readIpv6, readIp}
+use Rattle.ip.specs.Ip.{ipv4Quirks, ipv4Facts, readIpv4, ipv6Quirks, ipv6Facts, readIpv6, readIp}
 use Rattle.flow.specs.Tcp.{headerQuirks, shownQuirks, observationOf, observed, knownPeer, readTcp}
 use Rattle.flow.specs.Reading.{tcpPart, afterIp, readPacket}
 

@@ -10,16 +10,17 @@ use Rattle.rfc.specs.Rfc791 as v4
 use Rattle.rfc.specs.Rfc8200 as v6
 use Rattle.rfc.specs.Rfc9293.{control}
 use Rattle.tcp.specs.declared.Mss.{Mss}
-use Rattle.flow.specs.declared.IpFacts.{IpFacts}
-use Rattle.flow.specs.declared.IpRead.{IpRead}
-use Rattle.flow.specs.declared.IpRead.the-variants as ip
+use Rattle.ip.specs.declared.IpFacts.{IpFacts}
+use Rattle.ip.specs.declared.IpRead.{IpRead}
+use Rattle.ip.specs.declared.IpRead.the-variants as ip
 use Rattle.flow.specs.declared.Reading.{Reading}
-use Rattle.flow.specs.declared.Refusal.{Refusal}
-use Rattle.flow.specs.declared.Refusal.the-variants as refusal
+use Rattle.ip.specs.declared.Refusal.{Refusal}
+use Rattle.ip.specs.declared.Refusal.the-variants as refusal
 use Rattle.flow.specs.Flags.{flagsInvalid, isSynType, isSynAckType}
-use Rattle.flow.specs.Ip.{ipv4Facts, readIpv4, ipv6Facts, readIpv6, readIp}
+use Rattle.ip.specs.Ip.{ipv4Facts, readIpv4, ipv6Facts, readIpv6, readIp}
 use Rattle.flow.specs.Tcp.{readTcp}
-use Rattle.flow.specs.Reading.{number, tcpPart, afterIp, readPacket}
+use Rattle.ip.specs.Numbers.{number}
+use Rattle.flow.specs.Reading.{tcpPart, afterIp, readPacket}
 use Rattle.flow.specs.Refusals.{isV4, isV6, partOf, rows, firstRow, refusalOf}
 
 either

@@ -6,30 +6,11 @@ use denote.Ref.{RefT, now}
 use Rattle.basis.specs.Unique.{ExactlyOne}
 use Rattle.basis.proofs.Unique.{equation}
 use Rattle.tcp.specs.declared.Mss.{Mss}
-use Rattle.flow.specs.declared.IpRead.{IpRead}
 use Rattle.flow.specs.declared.Reading.{Reading}
-use Rattle.flow.specs.declared.Refusal.{Refusal}
-use Rattle.flow.specs.Ip.{readIpv4, readIpv6, readIp}
-use Rattle.flow.specs.Reading.{number, readPacket}
-use Rattle.flow.proofs.refusal_number.Reads as refusal-number'
-use Rattle.flow.proofs.process_tcp_ipv4.Reads as process-tcp-ipv4'
-use Rattle.flow.proofs.process_tcp_ipv6.Reads as process-tcp-ipv6'
-use Rattle.flow.proofs.read_ip.Reads as read-ip'
+use Rattle.flow.specs.Reading.{readPacket}
 use Rattle.flow.proofs.read_packet.Reads as read-packet'
 
-pub refusal-number-one : (refusal : Refusal) → ExactlyOne ℕ (λ (r : ℕ). refusal-number'.Post tt (refusal, tt) r (refusal, tt))
-refusal-number-one refusal = equation (number refusal)
-
 module _ (κs : Lfts 1) (packet : RefT (List ℕ)) where
-  pub process-tcp-ipv4-one : ExactlyOne IpRead (λ (r : IpRead). process-tcp-ipv4'.Post κs (packet, tt) r (packet, tt))
-  process-tcp-ipv4-one = equation (readIpv4 (now packet))
-
-  pub process-tcp-ipv6-one : ExactlyOne IpRead (λ (r : IpRead). process-tcp-ipv6'.Post κs (packet, tt) r (packet, tt))
-  process-tcp-ipv6-one = equation (readIpv6 (now packet))
-
-  pub read-ip-one : ExactlyOne IpRead (λ (r : IpRead). read-ip'.Post κs (packet, tt) r (packet, tt))
-  read-ip-one = equation (readIp (now packet))
-
   pub read-packet-one
       : (peer : Mss) → ExactlyOne Reading (λ (r : Reading). read-packet'.Post κs (packet, (peer, tt)) r (packet, (peer, tt)))
   read-packet-one peer = equation (readPacket (now packet) peer)

@@ -5,24 +5,12 @@ use Rattle.basis.specs.Bytes.{part}
 use Rattle.tcp.specs.declared.Mss.{Mss}
 use Rattle.observable.specs.Observation.{emptyObservation}
 use Rattle.flow.specs.declared.Answer.the-variants as answer
-use Rattle.flow.specs.declared.IpFacts.{IpFacts}
-use Rattle.flow.specs.declared.IpRead.{IpRead}
-use Rattle.flow.specs.declared.IpRead.the-variants as ip
+use Rattle.ip.specs.declared.IpFacts.{IpFacts}
+use Rattle.ip.specs.declared.IpRead.{IpRead}
+use Rattle.ip.specs.declared.IpRead.the-variants as ip
 use Rattle.flow.specs.declared.Reading.{Reading}
-use Rattle.flow.specs.declared.Refusal.{Refusal}
-use Rattle.flow.specs.declared.Refusal.the-variants as refusal
-use Rattle.flow.specs.Ip.{readIp}
+use Rattle.ip.specs.Ip.{readIp}
 use Rattle.flow.specs.Tcp.{readTcp}
-
--- The number of a refusal in document 01's table.
-unfoldable pub number : Refusal → ℕ
-number refusal.Version = 1
-number refusal.TooShort = 2
-number refusal.HeaderLength = 3
-number refusal.UnsupportedProtocol = 4
-number refusal.Fragment = 5
-number refusal.TcpTooShort = 6
-number (refusal.InvalidTcpFlags flags) = 7
 
 -- The TCP part: "the part that begins after the IP header".
 abbrev pub tcpPart : IpFacts → List ℕ → List ℕ

@@ -11,7 +11,7 @@ use Rattle.rfc.specs.Rfc9293.{control}
 use Rattle.flow.specs.declared.Answer.{Answer}
 use Rattle.flow.specs.declared.Answer.the-variants as answer
 use Rattle.flow.specs.Flags.{flagsInvalid}
-use Rattle.flow.specs.Reading.{number}
+use Rattle.ip.specs.Numbers.{number}
 
 abbrev pub isV4 : List ℕ → Bool
 isV4 p = eqb (v4.version p) 4

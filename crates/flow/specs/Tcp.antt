@@ -15,10 +15,10 @@ use Rattle.observable.specs.declared.TcpObservation.{TcpObservation}
 use Rattle.observable.specs.Observation.{emptyObservation}
 use Rattle.syn_options.specs.declared.Walked.{Walked}
 use Rattle.syn_options.specs.Walk.{walkOf}
-use Rattle.flow.specs.declared.IpFacts.{IpFacts}
+use Rattle.ip.specs.declared.IpFacts.{IpFacts}
 use Rattle.flow.specs.declared.Answer.the-variants as answer
 use Rattle.flow.specs.declared.Reading.{Reading}
-use Rattle.flow.specs.declared.Refusal.the-variants as refusal
+use Rattle.ip.specs.declared.Refusal.the-variants as refusal
 use Rattle.flow.specs.Flags.{isSet, flagsInvalid, isSynType, isSynAckType}
 
 -- The quirks of a TCP header, added to those of the IP header, by its flags, sequence number, acknowledgment number and urgent

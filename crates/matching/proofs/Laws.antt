@@ -17,10 +17,11 @@ use Rattle.matching.specs.declared.QuirksFit.the-variants as quirksfit
 use Rattle.matching.specs.declared.Signature.{Signature}
 use Rattle.matching.specs.declared.SignatureFit.the-variants as answer
 use Rattle.matching.specs.declared.Tolerated.{Tolerated}
-use Rattle.matching.specs.declared.TtlFit.{TtlFit}
-use Rattle.matching.specs.declared.TtlFit.the-variants as ttlfit
+use Rattle.distances.specs.declared.TtlFit.{TtlFit}
+use Rattle.distances.specs.declared.TtlFit.the-variants as ttlfit
 use Rattle.matching.specs.Gates.{entriesMatch, layoutMatches}
-use Rattle.matching.specs.Tolerance.{ttlFit, maskedQuirks, quirksFit, judgeInRange, judge}
+use Rattle.distances.specs.Distances.{ttlFit}
+use Rattle.matching.specs.Tolerance.{maskedQuirks, quirksFit, judgeInRange, judge}
 use Rattle.matching.specs.Fit.{scalarGates, toleranceOf, fitOf}
 
 module _ (kinds bytes entries : List ℕ) where

@@ -3,7 +3,8 @@ use mathlib.Core.Path.{_≡_, refl}
 use mathlib.Core.Bool.{Bool, true, false, _&&_}
 use Rattle.matching.specs.declared.Features.{Features}
 use Rattle.matching.specs.declared.Signature.{Signature}
-use Rattle.matching.specs.Gates.{versionMatches, olenMatches, mssMatches, windowMatches, scaleMatches, payloadMatches}
+use Rattle.distances.specs.Gates.{versionMatches, windowMatches, payloadMatches}
+use Rattle.matching.specs.Gates.{olenMatches, mssMatches, scaleMatches}
 use Rattle.matching.specs.Fit.{scalarGates}
 
 pub and-false : (a : Bool) → a && false ≡ false

@@ -7,40 +7,24 @@ use denote.Ref.{RefT, now}
 use Rattle.basis.specs.Unique.{ExactlyOne}
 use Rattle.basis.proofs.Unique.{equation}
 use Rattle.quirks.specs.declared.QuirkSet.{QuirkSet}
-use Rattle.tcp.specs.declared.IpVersion.{IpVersion}
 use Rattle.tcp.specs.declared.Mss.{Mss}
-use Rattle.tcp.specs.declared.PayloadSize.{PayloadSize}
 use Rattle.tcp.specs.declared.Wscale.{Wscale}
-use Rattle.ttl.specs.declared.Ttl.{Ttl}
-use Rattle.window_size.specs.declared.Multiplier.{Multiplier}
 use Rattle.observable.specs.declared.TcpObservation.{TcpObservation}
 use Rattle.matching.specs.declared.Features.{Features}
 use Rattle.matching.specs.declared.QuirksFit.{QuirksFit}
-use Rattle.matching.specs.declared.SigPayload.{SigPayload}
-use Rattle.matching.specs.declared.SigVersion.{SigVersion}
 use Rattle.matching.specs.declared.Signature.{Signature}
 use Rattle.matching.specs.declared.SignatureFit.{SignatureFit}
-use Rattle.matching.specs.declared.TtlFit.{TtlFit}
-use Rattle.matching.specs.declared.WindowSize.{WindowSize}
-use Rattle.matching.specs.Gates.{versionMatches, olenMatches, mssMatches, windowMatches, scaleMatches, payloadMatches, layoutMatches}
-use Rattle.matching.specs.Tolerance.{ttlFit, reportedHops, quirksFit}
+use Rattle.matching.specs.Gates.{olenMatches, mssMatches, scaleMatches, layoutMatches}
+use Rattle.matching.specs.Tolerance.{quirksFit}
 use Rattle.matching.specs.Fit.{featuresOf, scalarGates, toleranceOf}
-use Rattle.matching.proofs.ip_version_matches.Reads as ip-version-matches'
 use Rattle.matching.proofs.olen_matches.Reads as olen-matches'
 use Rattle.matching.proofs.mss_matches.Reads as mss-matches'
 use Rattle.matching.proofs.wscale_matches.Reads as wscale-matches'
-use Rattle.matching.proofs.payload_size_matches.Reads as payload-size-matches'
-use Rattle.matching.proofs.window_size_matches.Reads as window-size-matches'
-use Rattle.matching.proofs.ttl_fit.Reads as ttl-fit'
-use Rattle.matching.proofs.report_hop_distance.Reads as report-hop-distance'
 use Rattle.matching.proofs.quirks_fit.Reads as quirks-fit'
 use Rattle.matching.proofs.olayout_matches.Reads as olayout-matches'
 use Rattle.matching.proofs.features_of.Reads as features-of'
 use Rattle.matching.proofs.gates.Reads as gates'
 use Rattle.matching.proofs.tolerance.Reads as tolerance'
-
-pub ip-version-matches-one : (o : IpVersion) (s : SigVersion) → ExactlyOne Bool (λ (r : Bool). ip-version-matches'.Post tt (o, (s, tt)) r (o, (s, tt)))
-ip-version-matches-one o s = equation (versionMatches o s)
 
 pub olen-matches-one : (o s : ℕ) → ExactlyOne Bool (λ (r : Bool). olen-matches'.Post tt (o, (s, tt)) r (o, (s, tt)))
 olen-matches-one o s = equation (olenMatches o s)
@@ -50,18 +34,6 @@ mss-matches-one o s = equation (mssMatches o s)
 
 pub wscale-matches-one : (o s : Wscale) → ExactlyOne Bool (λ (r : Bool). wscale-matches'.Post tt (o, (s, tt)) r (o, (s, tt)))
 wscale-matches-one o s = equation (scaleMatches o s)
-
-pub payload-size-matches-one : (o : PayloadSize) (s : SigPayload) → ExactlyOne Bool (λ (r : Bool). payload-size-matches'.Post tt (o, (s, tt)) r (o, (s, tt)))
-payload-size-matches-one o s = equation (payloadMatches o s)
-
-pub window-size-matches-one : (o : ℕ) (s : WindowSize) (m : Multiplier) → ExactlyOne Bool (λ (r : Bool). window-size-matches'.Post tt (o, (s, (m, tt))) r (o, (s, (m, tt))))
-window-size-matches-one o s m = equation (windowMatches o s m)
-
-pub ttl-fit-one : (o : ℕ) (s : Ttl) → ExactlyOne TtlFit (λ (r : TtlFit). ttl-fit'.Post tt (o, (s, tt)) r (o, (s, tt)))
-ttl-fit-one o s = equation (ttlFit o s)
-
-pub report-hop-distance-one : (o s : Ttl) → ExactlyOne ℕ (λ (r : ℕ). report-hop-distance'.Post tt (o, (s, tt)) r (o, (s, tt)))
-report-hop-distance-one o s = equation (reportedHops o s)
 
 pub quirks-fit-one : (o s : QuirkSet) → ExactlyOne QuirksFit (λ (r : QuirksFit). quirks-fit'.Post tt (o, (s, tt)) r (o, (s, tt)))
 quirks-fit-one o s = equation (quirksFit o s)

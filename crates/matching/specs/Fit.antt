@@ -9,8 +9,10 @@ use Rattle.matching.specs.declared.Features.{Features}
 use Rattle.matching.specs.declared.Signature.{Signature}
 use Rattle.matching.specs.declared.SignatureFit.{SignatureFit}
 use Rattle.matching.specs.declared.SignatureFit.the-variants as answer
-use Rattle.matching.specs.Gates.{versionMatches, olenMatches, mssMatches, windowMatches, scaleMatches, payloadMatches, layoutMatches}
-use Rattle.matching.specs.Tolerance.{ttlFit, maskedQuirks, quirksFit, judge}
+use Rattle.distances.specs.Gates.{versionMatches, windowMatches, payloadMatches}
+use Rattle.matching.specs.Gates.{olenMatches, mssMatches, scaleMatches, layoutMatches}
+use Rattle.distances.specs.Distances.{ttlFit}
+use Rattle.matching.specs.Tolerance.{maskedQuirks, quirksFit, judge}
 
 -- What a fit looks at in an observation, the entries of its layout apart.
 unfoldable pub featuresOf : TcpObservation → Features

@@ -1,19 +1,14 @@
 -- What a fit tolerates (document 01, module 7): a TTL out of range, and some quirks.
-use Prim.Native.Nat.{ℕ, _+_, _-_, min}
-use mathlib.Core.Bool.{Bool, true, false, cond, not, _&&_, _||_}
-use lib.Dec.{eqb, ltb}
+use mathlib.Core.Bool.{cond, _&&_}
 use Rattle.quirks.specs.declared.QuirkSet.{QuirkSet}
 use Rattle.quirks.specs.Quirks.{isEmpty, difference}
 use Rattle.quirks.specs.Named.{fuzzyDeletable, fuzzyAddable, maskWhenObsV4, maskWhenObsV6}
 use Rattle.tcp.specs.declared.IpVersion.{IpVersion}
 use Rattle.tcp.specs.declared.IpVersion.the-variants as version
-use Rattle.ttl.specs.declared.Ttl.{Ttl}
-use Rattle.ttl.specs.declared.Ttl.the-variants as ttl
-use Rattle.ttl.specs.Ttl.{byteOf, guessOf}
-use Rattle.matching.specs.declared.SigVersion.{SigVersion}
-use Rattle.matching.specs.declared.SigVersion.the-variants as sigversion
-use Rattle.matching.specs.declared.TtlFit.{TtlFit}
-use Rattle.matching.specs.declared.TtlFit.the-variants as ttlfit
+use Rattle.distances.specs.declared.SigVersion.{SigVersion}
+use Rattle.distances.specs.declared.SigVersion.the-variants as sigversion
+use Rattle.distances.specs.declared.TtlFit.{TtlFit}
+use Rattle.distances.specs.declared.TtlFit.the-variants as ttlfit
 use Rattle.matching.specs.declared.Tolerated.{Tolerated}
 use Rattle.matching.specs.declared.QuirksFit.{QuirksFit}
 use Rattle.matching.specs.declared.QuirksFit.the-variants as quirksfit
@@ -22,42 +17,6 @@ use Rattle.matching.specs.declared.Hops.the-variants as hops
 use Rattle.matching.specs.declared.FuzzyReason.{FuzzyReason}
 use Rattle.matching.specs.declared.SignatureFit.{SignatureFit}
 use Rattle.matching.specs.declared.SignatureFit.the-variants as answer
-
--- ---- the TTL
-
--- A record's initial TTL; a Distance sums its two numbers, at most 255.
-abbrev pub initialTtl : Ttl → ℕ
-initialTtl (ttl.Value t) = t
-initialTtl (ttl.Distance t d) = min (t + d) 255
-initialTtl (ttl.Guess t) = t
-initialTtl (ttl.Bad t) = t
-
-abbrev pub isBad : Ttl → Bool
-isBad (ttl.Value t) = false
-isBad (ttl.Distance t d) = false
-isBad (ttl.Guess t) = false
-isBad (ttl.Bad t) = true
-
--- "a TTL out of range (above the record's initial TTL, or more than 35 below it)"
-abbrev pub outOfRange : ℕ → ℕ → Bool
-outOfRange observed initial = ltb initial observed || ltb 35 (initial - observed)
-
--- "for Bad, above rejects and all else is in range"; the hop distance is how far below the initial TTL, 0 if above it.
-unfoldable pub ttlFit : ℕ → Ttl → TtlFit
-ttlFit observed signature =
-    cond (isBad signature)
-    (cond (ltb (initialTtl signature) observed) ttlfit.Rejected (ttlfit.InRange (initialTtl signature - observed)))
-    (cond (outOfRange observed (initialTtl signature))
-    (ttlfit.OutOfRange (initialTtl signature - observed))
-    (ttlfit.InRange (initialTtl signature - observed)))
-
--- The hops to report: from the initial TTL, or a guess where the TTL is above it or, but for Bad, out of range.
-unfoldable pub reportedHops : Ttl → Ttl → ℕ
-reportedHops observed signature =
-    cond
-    (ltb (initialTtl signature) (byteOf observed) || (not (isBad signature) && ltb 35 (initialTtl signature - byteOf observed)))
-    (guessOf (byteOf observed))
-    (initialTtl signature - byteOf observed)
 
 -- ---- the quirks
 

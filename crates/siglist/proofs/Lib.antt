@@ -1,7 +1,3 @@
-pub mod Codes
-pub mod Fits
 pub mod List
-pub mod Order
 pub mod Refusals
-pub mod Rows
 pub mod Unique

@@ -9,8 +9,10 @@ use lib.ListN.{length}
 use borrow.Author.Tests.{leb-true, le-leb}
 use Rattle.basis.proofs.Tests.{and-left, and-right}
 use Rattle.siglist.specs.declared.Areas.{Areas}
+use Rattle.siglist.specs.declared.Header.{Header}
+use Rattle.siglist.specs.declared.Header.the-variants as header
 use Rattle.siglist.specs.declared.ListAnswer.the-variants as answer
-use Rattle.siglist.specs.List.{recordCount, recordsOffset, layoutCount, layoutOffset, listFits, areasOf, AreasFit, recordGood, recordsFrom}
+use Rattle.siglist.specs.List.{recordCount, recordsOffset, layoutCount, layoutOffset, listFits, areasOf, headerOf, AreasFit, recordGood, recordsFrom}
 
 -- A list that fits has a whole header.
 pub header-fits : (l : List ℕ) → listFits l ≡ true → 8 ≤ length l
@@ -63,3 +65,20 @@ list-fits l a fit =
       le-leb (recordsOffset l + 24 * recordCount l) (length l) (omega arith),
       le-leb (layoutOffset l + 2 * layoutCount l) (length l) (omega arith),
     )
+
+-- What a header says of its list.
+pub header-areas : (l : List ℕ) (a : Areas) → headerOf l ≡ header.Fits a → AreasFit l a
+unfolding headerOf
+header-areas l a e = by-test (listFits l) refl e
+  where
+    by-test : (t : Bool) → listFits l ≡ t → cond {A = Header} t (header.Fits (areasOf l)) header.DoesNotFit ≡ header.Fits a → AreasFit l a
+    by-test true fits same = let those : areasOf l ≡ a = cc in areas-fit l a fits (sym those)
+    by-test false fits same = let z : _≡_ {A = ℕ} 0 1 = cc in absurd (omega arith)
+
+pub header-none : (l : List ℕ) → headerOf l ≡ header.DoesNotFit → listFits l ≡ false
+unfolding headerOf
+header-none l e = by-test (listFits l) e
+  where
+    by-test : (t : Bool) → cond {A = Header} t (header.Fits (areasOf l)) header.DoesNotFit ≡ header.DoesNotFit → t ≡ false
+    by-test true same = let z : _≡_ {A = ℕ} 0 1 = cc in absurd (omega arith)
+    by-test false same = refl

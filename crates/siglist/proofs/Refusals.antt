@@ -1,36 +1,12 @@
--- Refusals of a list and of a search, in document 01's order: "a search [meets] 11, then 9, then 10".
+-- Refusals of a list: 9, and then 10.
 use mathlib.Core.Path.{_≡_, refl, sym, _∙_, ap}
-use mathlib.Core.Bool.{Bool, true, false, cond, not}
+use mathlib.Core.Bool.{Bool, true, false, cond}
 use mathlib.Core.List.{List}
-use Prim.Native.Nat.{ℕ, zero, suc, _+_, _-_, _<_, _≤_}
+use Prim.Native.Nat.{ℕ, zero, suc, _+_, _<_, _≤_}
 use native.Mathlib.Omega.{arith}
-use lib.Dec.{ltb}
-use Rattle.observable.specs.declared.TcpObservation.{TcpObservation}
 use Rattle.siglist.specs.declared.ListAnswer.{ListAnswer}
 use Rattle.siglist.specs.declared.ListAnswer.the-variants as list
-use Rattle.siglist.specs.declared.SearchAnswer.{SearchAnswer}
 use Rattle.siglist.specs.List.{recordCount, listFits, recordGood, recordsFrom, checkList}
-use Rattle.siglist.specs.Search.{afterCheck, searchList, listRefusal, searchRefusal}
-
--- A search is refused by 11 where the layout is too long, else as its list is.
-by-list : (a : ListAnswer) (o : TcpObservation) (l : List ℕ) → searchRefusal (afterCheck a o l) ≡ listRefusal a
-unfolding searchRefusal listRefusal
-by-list list.Good o l = refl
-by-list list.DoesNotFit o l = refl
-by-list (list.BadRecord i) o l = refl
-
-pub search-order
-    : (o : TcpObservation) (l : List ℕ)
-    → searchRefusal (searchList o l) ≡ cond (ltb 40 (o .olayout .count)) 11 (listRefusal (checkList l))
-unfolding searchList searchRefusal
-search-order o l = by-count (ltb 40 (o .olayout .count))
-  where
-    by-count
-        : (t : Bool)
-        → searchRefusal (cond {A = SearchAnswer} t Rattle.siglist.specs.declared.SearchAnswer.the-variants.LayoutTooLong (afterCheck (checkList l) o l))
-        ≡ cond t 11 (listRefusal (checkList l))
-    by-count true = refl
-    by-count false = by-list (checkList l) o l
 
 -- A list is refused by 9 exactly when its header or areas do not fit.
 pub does-not-fit : (l : List ℕ) → listFits l ≡ false → checkList l ≡ list.DoesNotFit

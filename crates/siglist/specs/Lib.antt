@@ -1,3 +1,2 @@
 pub mod List
 pub mod Record
-pub mod Search

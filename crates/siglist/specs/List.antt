@@ -7,6 +7,8 @@ use lib.Dec.{eqb, leb, ltb}
 use lib.ListN.{length}
 use Rattle.basis.specs.Bytes.{be16, part}
 use Rattle.siglist.specs.declared.Areas.{Areas}
+use Rattle.siglist.specs.declared.Header.{Header}
+use Rattle.siglist.specs.declared.Header.the-variants as header
 use Rattle.siglist.specs.declared.ListAnswer.{ListAnswer}
 use Rattle.siglist.specs.declared.ListAnswer.the-variants as answer
 use Rattle.siglist.specs.Record.{firstEntry, entryCount, scalarsGood, entriesGood}
@@ -36,6 +38,10 @@ listFits l = leb 8 (length l) && areaFits (recordsOffset l) (24 * recordCount l)
 unfoldable pub areasOf : List ℕ → Areas
 areasOf l =
     record { records = recordCount l; «records_offset» = recordsOffset l; entries = layoutCount l; «entries_offset» = layoutOffset l }
+
+-- The header of a list that fits.
+unfoldable pub headerOf : List ℕ → Header
+headerOf l = cond (listFits l) (header.Fits (areasOf l)) header.DoesNotFit
 
 -- These are the numbers of a list's header, and its areas fit.
 pub record AreasFit (l : List ℕ) (a : Areas) : Type 0 where
@@ -71,6 +77,11 @@ layoutLies l first count =
 unfoldable pub recordGood : List ℕ → ℕ → Bool
 recordGood l i = scalarsGood (recordAt l i) && layoutLies l (firstEntry (recordAt l i)) (entryCount (recordAt l i))
 
+-- A record given as its 24 bytes and the entries of its layout, two bytes each: both are whole, and no condition makes it bad.
+unfoldable pub wellFormed : List ℕ → List ℕ → Bool
+wellFormed r entries =
+    eqb (length r) 24 && eqb (length entries) (2 * entryCount r) && scalarsGood r && entriesGood entries (entryCount r)
+
 -- Of so many records from this one on: all well formed, or the index of the first that is bad.
 unfoldable pub recordsFrom : List ℕ → ℕ → ℕ → ListAnswer
 recordsFrom l i zero = answer.Good
@@ -79,3 +90,9 @@ recordsFrom l i (suc n) = cond (recordGood l i) (recordsFrom l (i + 1) n) (answe
 -- Refusals 9 and 10, in this order.
 unfoldable pub checkList : List ℕ → ListAnswer
 checkList l = cond (listFits l) (recordsFrom l 0 (recordCount l)) answer.DoesNotFit
+
+-- The number of a list's refusal; 0 if it is none. Refusal 10 gives the index of the first bad record.
+unfoldable pub listRefusal : ListAnswer → ℕ
+listRefusal answer.Good = 0
+listRefusal answer.DoesNotFit = 9
+listRefusal (answer.BadRecord i) = 10

@@ -14,12 +14,12 @@ use Rattle.tcp.specs.declared.Wscale.the-variants as wscale
 use Rattle.ttl.specs.declared.Ttl.{Ttl}
 use Rattle.ttl.specs.declared.Ttl.the-variants as ttl
 use Rattle.matching.specs.declared.Signature.{Signature}
-use Rattle.matching.specs.declared.SigPayload.{SigPayload}
-use Rattle.matching.specs.declared.SigPayload.the-variants as payload
-use Rattle.matching.specs.declared.SigVersion.{SigVersion}
-use Rattle.matching.specs.declared.SigVersion.the-variants as version
-use Rattle.matching.specs.declared.WindowSize.{WindowSize}
-use Rattle.matching.specs.declared.WindowSize.the-variants as window
+use Rattle.distances.specs.declared.SigPayload.{SigPayload}
+use Rattle.distances.specs.declared.SigPayload.the-variants as payload
+use Rattle.distances.specs.declared.SigVersion.{SigVersion}
+use Rattle.distances.specs.declared.SigVersion.the-variants as version
+use Rattle.distances.specs.declared.WindowSize.{WindowSize}
+use Rattle.distances.specs.declared.WindowSize.the-variants as window
 
 -- ---- what the bytes mean
 

@@ -1,19 +1,13 @@
-// The signature list and its search (document 01, "The signature list"): added by the port.
+// The signature list (document 01, "The signature list"): added by the port.
 ghost use mathlib.Core.Path.{_≡_};
 ghost use Prim.Native.Nat.{_+_, _*_, _≤_, _<_};
 ghost use lib.ListN.{length};
-ghost use Rattle.siglist.specs.List.{listFits, areasOf, AreasFit, layoutLies, recordGood, checkList};
-ghost use Rattle.siglist.specs.Search.{searchAll, searchList};
-use finding::search_records;
-use matching::FuzzyReason;
-use matching::features_of;
+ghost use Rattle.siglist.specs.List.{listFits, areasOf, headerOf, AreasFit, layoutLies, recordGood, wellFormed, checkList};
 use numbers::be16;
-use observable::TcpObservation;
 use raw::entries_good;
 use raw::scalars_good;
 use raw::wide;
 
-mod finding;
 mod raw;
 
 // A list is well formed, or refused: 9, or 10 with the index of its first bad record.
@@ -23,26 +17,9 @@ pub enum ListAnswer {
     BadRecord(usize),
 }
 
-// What a search finds: three answers, with the record's label.
-pub enum Found {
-    Nothing,
-    Exact(u16),
-    Fuzzy(u16, FuzzyReason),
-}
-
-// A search's answer: what it finds, or refusal 11, 9 or 10.
-pub enum SearchAnswer {
-    Found(Found),
-    LayoutTooLong,
-    DoesNotFit,
-    BadRecord(usize),
-}
-
 const HEADER: usize = 8;
 
-pub(crate) const RECORD: usize = 24;
-
-// ---- the list
+pub const RECORD: usize = 24;
 
 // The numbers of a list's header.
 pub struct Areas {
@@ -50,6 +27,12 @@ pub struct Areas {
     pub records_offset: usize,
     pub entries: usize,
     pub entries_offset: usize,
+}
+
+// A list's header and its areas fit, or do not.
+pub enum Header {
+    Fits(Areas),
+    DoesNotFit,
 }
 
 fn areas_of(list: &[u8]) -> Areas
@@ -78,6 +61,16 @@ fn list_fits(list: &[u8]) -> bool
         return false;
     }
     entries_offset + 2 * entries <= list.len()
+}
+
+// A list's header, if it and its areas fit.
+pub fn read_header(list: &[u8]) -> Header
+    ensures { λ r. ⌜ r ≡ headerOf (now (list .entry)) ⌝ }
+{
+    if !list_fits(list) {
+        return Header::DoesNotFit;
+    }
+    Header::Fits(areas_of(list))
 }
 
 fn layout_good(list: &[u8], areas: Areas, first: usize, count: usize) -> bool
@@ -116,6 +109,23 @@ fn record_good(list: &[u8], areas: Areas, i: usize) -> bool
     )
 }
 
+// A record, given as its bytes and the entries of its layout, is well formed.
+pub fn well_formed(raw: &[u8], entries: &[u8]) -> bool
+    ensures { λ r. ⌜ r ≡ wellFormed (now (raw .entry)) (now (entries .entry)) ⌝ }
+{
+    if raw.len() != RECORD {
+        return false;
+    }
+    let count = wide(raw[20]) as usize;
+    if entries.len() != 2 * count {
+        return false;
+    }
+    if !scalars_good(raw) {
+        return false;
+    }
+    entries_good(entries, count)
+}
+
 // A list is well formed, or refused by 9, or by 10 with the index of its first bad record.
 pub fn check_list(list: &[u8]) -> ListAnswer
     ensures { λ r. ⌜ r ≡ checkList (now (list .entry)) ⌝ }
@@ -133,37 +143,4 @@ pub fn check_list(list: &[u8]) -> ListAnswer
         i += 1;
     }
     ListAnswer::Good
-}
-
-// ---- the search
-
-// The search of a list that was checked before. It is total: what is not a well-formed record of the list fits nothing.
-pub fn search_checked(observed: TcpObservation, list: &[u8]) -> Found
-    ensures { λ r. ⌜ r ≡ searchAll observed (now (list .entry)) ⌝ }
-{
-    if !list_fits(list) {
-        return Found::Nothing;
-    }
-    let areas = areas_of(list);
-    let features = features_of(observed);
-    let layout = observed.olayout;
-    let kinds = layout.kinds;
-    let bytes = layout.bytes;
-    search_records(features, &kinds, &bytes, list, areas)
-}
-
-// The search with its refusals: 11, then 9, then 10.
-pub fn search(observed: TcpObservation, list: &[u8]) -> SearchAnswer
-    ensures { λ r. ⌜ r ≡ searchList observed (now (list .entry)) ⌝ }
-{
-    let layout = observed.olayout;
-    let count = layout.count;
-    if 40 < count {
-        return SearchAnswer::LayoutTooLong;
-    }
-    match check_list(list) {
-        ListAnswer::DoesNotFit => SearchAnswer::DoesNotFit,
-        ListAnswer::BadRecord(i) => SearchAnswer::BadRecord(i),
-        ListAnswer::Good => SearchAnswer::Found(search_checked(observed, list)),
-    }
 }

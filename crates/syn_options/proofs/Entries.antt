@@ -14,7 +14,7 @@ use Rattle.quirks.specs.Named.{empty}
 use Rattle.syn_options.specs.declared.OptionsAnswer.the-variants as answer
 use Rattle.syn_options.specs.declared.OptionsRead.{OptionsRead}
 use Rattle.syn_options.specs.declared.Walked.{Walked}
-use Rattle.syn_options.specs.Options.{Opt, asked, runsPast, optionsAfter, optionsOf}
+use Rattle.one_option.specs.Options.{Opt, asked, runsPast, optionsAfter, optionsOf}
 use Rattle.syn_options.specs.Walk.{entryByte, putEntry, putOption, walkFrom, startWalk, walkOf, parsedOf, parseOptionsRaw, optionsRefusal}
 
 -- A string has no more options than bytes.

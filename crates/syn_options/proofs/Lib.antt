@@ -1,4 +1,3 @@
 pub mod Entries
-pub mod See
 pub mod Unique
 pub mod Walk

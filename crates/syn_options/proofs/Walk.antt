@@ -12,11 +12,12 @@ use lib.Seq.{drop-cons, drop-drop, take-all, getD-take, getD-drop}
 use borrow.Author.Tests.{lt-ltb, le-ltb, eq-eqb, ne-eqb}
 use Rattle.basis.specs.Bytes.{byteAt}
 use Rattle.tcp.specs.declared.Layout.{Layout}
-use Rattle.syn_options.specs.declared.Seen.{Seen}
+use Rattle.one_option.specs.declared.Seen.{Seen}
 use Rattle.syn_options.specs.declared.Walked.{Walked}
-use Rattle.syn_options.specs.Options.{Opt, asked, runsPast, optionOf, optionsAfter, optionsOf}
-use Rattle.syn_options.specs.Walk.{entryByte, putEntry, seeOption, putOption, walkFrom}
-use Rattle.syn_options.proofs.See.{opt}
+use Rattle.one_option.specs.Options.{Opt, asked, runsPast, optionOf, optionsAfter, optionsOf}
+use Rattle.one_option.specs.See.{seeOption}
+use Rattle.syn_options.specs.Walk.{entryByte, putEntry, putOption, walkFrom}
+use Rattle.one_option.proofs.See.{opt}
 
 -- ---- the options after some bytes
 

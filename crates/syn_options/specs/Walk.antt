@@ -1,29 +1,24 @@
 -- The walk over the options: layout, MSS, scale and quirks (document 01, "Headers and options").
 use Prim.Native.Nat.{ℕ, _+_}
-use mathlib.Core.Bool.{Bool, true, false, cond, not, _&&_}
+use mathlib.Core.Bool.{Bool, true, false, cond, _&&_}
 use mathlib.Core.List.{List, [], _∷_}
-use lib.Dec.{eqb, leb, ltb}
+use lib.Dec.{eqb, ltb}
 use lib.ListN.{length, take, replicate, set}
-use Rattle.basis.specs.Bytes.{byteAt, be16, be32, anyNonzero}
-use Rattle.quirks.specs.declared.Quirk.{Quirk}
-use Rattle.quirks.specs.declared.Quirk.the-variants as quirk
 use Rattle.quirks.specs.declared.QuirkSet.{QuirkSet}
-use Rattle.quirks.specs.Quirks.{addIf}
 use Rattle.quirks.specs.Named.{empty}
 use Rattle.tcp.specs.declared.Layout.{Layout}
-use Rattle.tcp.specs.declared.Mss.{Mss}
 use Rattle.tcp.specs.declared.Mss.the-variants as mss
-use Rattle.tcp.specs.declared.Wscale.{Wscale}
 use Rattle.tcp.specs.declared.Wscale.the-variants as wscale
-use Rattle.syn_options.specs.declared.Seen.{Seen}
+use Rattle.one_option.specs.declared.Seen.{Seen}
 use Rattle.syn_options.specs.declared.Walked.{Walked}
 use Rattle.syn_options.specs.declared.ParsedTcpOptions.{ParsedTcpOptions}
 use Rattle.syn_options.specs.declared.OptionsAnswer.{OptionsAnswer}
 use Rattle.syn_options.specs.declared.OptionsAnswer.the-variants as answer
 use Rattle.syn_options.specs.declared.OptionsRead.{OptionsRead}
-use Rattle.syn_options.specs.Options.{Opt, dataOf, runsPast, optionsOf}
+use Rattle.one_option.specs.Options.{Opt, runsPast, optionsOf}
+use Rattle.one_option.specs.See.{seeOption}
 
--- ---- one option
+-- ---- one entry
 
 -- "A layout entry is an option kind and a byte: bytes left after kind 0, else 0."
 unfoldable pub entryByte : ℕ → ℕ → ℕ
@@ -36,47 +31,6 @@ putEntry l o =
       kinds = set (l .kinds) (l .count) (o .kind);
       bytes = set (l .bytes) (l .count) (entryByte (o .kind) (length (o .own)));
       count = l .count + 1;
-    }
-
--- "A later MSS or scale replaces an earlier one only if its data suffices": kind 2 with two bytes (RFC 9293, section 3.7.1),
--- kind 3 with one (RFC 7323, section 2.2).
-unfoldable pub laterMss : Mss → Opt → Mss
-laterMss m o = cond (eqb (o .kind) 2 && leb 2 (length (dataOf o))) (mss.Present (be16 (dataOf o) 0)) m
-
-unfoldable pub laterScale : Wscale → Opt → Wscale
-laterScale s o = cond (eqb (o .kind) 3 && leb 1 (length (dataOf o))) (wscale.Present (byteAt (dataOf o) 0)) s
-
--- A byte other than 0 after kind 0.
-unfoldable pub trailingNonzero : Opt → Bool
-trailingNonzero o = eqb (o .kind) 0 && anyNonzero (o .own)
-
--- A scale over 14 (RFC 7323, section 2.3).
-unfoldable pub excessiveScaling : Opt → Bool
-excessiveScaling o = eqb (o .kind) 3 && leb 1 (length (dataOf o)) && ltb 14 (byteAt (dataOf o) 0)
-
--- Timestamps (RFC 7323, section 3.2): the own one is the first four bytes of data, the peer's the next four.
-unfoldable pub ownTimestampZero : Opt → Bool
-ownTimestampZero o = eqb (o .kind) 8 && leb 4 (length (dataOf o)) && eqb (be32 (dataOf o) 0) 0
-
--- "PeerTimestampNonZero on a SYN only"
-unfoldable pub peerTimestampNonzero : Bool → Opt → Bool
-peerTimestampNonzero syn o = eqb (o .kind) 8 && leb 8 (length (dataOf o)) && (syn && not (eqb (be32 (dataOf o) 4) 0))
-
--- "Quirks once shown stay."
-unfoldable pub shownQuirks : Bool → QuirkSet → Opt → QuirkSet
-shownQuirks syn q o =
-    addIf (peerTimestampNonzero syn o) quirk.PeerTimestampNonZero
-    (addIf (ownTimestampZero o) quirk.OwnTimestampZero
-    (addIf (excessiveScaling o) quirk.ExcessiveWindowScaling
-    (addIf (trailingNonzero o) quirk.TrailinigNonZero q)))
-
--- What is known after one option more.
-unfoldable pub seeOption : Bool → Seen → Opt → Seen
-seeOption syn s o =
-    record {
-      mss = laterMss (s .mss) o;
-      wscale = laterScale (s .wscale) o;
-      quirks = shownQuirks syn (s .quirks) o;
     }
 
 -- ---- the walk

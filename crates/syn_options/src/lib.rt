@@ -5,39 +5,27 @@ ghost use mathlib.Core.Bool.{_&&_};
 ghost use Prim.Native.Nat.{_+_, _-_, _<_, _≤_, min};
 ghost use lib.Dec.{ltb};
 ghost use lib.ListN.{length, drop};
-ghost use Rattle.basis.specs.Bytes.{anyNonzero};
-ghost use Rattle.syn_options.specs.Options.{asked, optionsOf};
+ghost use Rattle.one_option.specs.Options.{asked, optionsOf};
 ghost use Rattle.quirks.specs.Named.{empty};
-ghost use Rattle.syn_options.specs.Walk.{entryByte, laterMss, laterScale, shownQuirks, startWalk, walkFrom, walkOf, parsedOf, parseOptionsRaw};
-use numbers::be16;
-use numbers::be32;
+ghost use Rattle.syn_options.specs.Walk.{entryByte, startWalk, walkFrom, walkOf, parsedOf, parseOptionsRaw};
 use numbers::least;
-use quirks::Quirk;
+use one_option::Seen;
+use one_option::asked_bytes;
+use one_option::later_mss;
+use one_option::later_quirks;
+use one_option::later_scale;
 use quirks::QuirkSet;
 use tcp::Layout;
 use tcp::Mss;
 use tcp::Wscale;
 
-// The option kinds that are read.
+// The option kinds that take one byte.
 const EOL: u8 = 0;
 
 const NOP: u8 = 1;
 
-const MSS: u8 = 2;
-
-const WSCALE: u8 = 3;
-
-const TIMESTAMPS: u8 = 8;
-
 // The most bytes that options take: a data offset of 15 words, less the header's five.
 const MOST_OPTIONS: usize = 40;
-
-// What the options have said so far, the layout apart.
-pub struct Seen {
-    pub mss: Mss,
-    pub wscale: Wscale,
-    pub quirks: QuirkSet,
-}
 
 // What a walk gives.
 pub struct Walked {
@@ -66,27 +54,7 @@ pub struct OptionsRead {
     pub options: ParsedTcpOptions,
 }
 
-// ---- one option
-
-// The bytes that an option asks for after its kind, of those that are left.
-fn asked_bytes(kind: u8, rest: &[u8]) -> usize
-    ensures { λ r. ⌜ r ≡ asked kind (now (rest .entry)) ⌝ }
-{
-    if kind == EOL {
-        return rest.len();
-    }
-    if kind == NOP {
-        return 0;
-    }
-    if rest.len() == 0 {
-        return 1;
-    }
-    let length = rest[0] as usize;
-    if length < 2 {
-        return 1;
-    }
-    length - 1
-}
+// ---- the walk
 
 fn entry_byte(kind: u8, left: usize) -> u8
     requires { ⌜ left ≤ 40 ⌝ }
@@ -94,93 +62,6 @@ fn entry_byte(kind: u8, left: usize) -> u8
 {
     if kind == EOL { left as u8 } else { 0 }
 }
-
-// Some byte is not 0.
-fn any_nonzero(s: &[u8]) -> bool
-    ensures { λ r. ⌜ r ≡ anyNonzero (now (s .entry)) ⌝ }
-{
-    let mut i = 0;
-    while i < s.len() {
-        if s[i] != 0 {
-            return true;
-        }
-        i += 1;
-    }
-    false
-}
-
-// The MSS after one option more: a later one replaces an earlier one only if its data suffices.
-fn later_mss(kind: u8, own: &[u8], mss: Mss) -> Mss
-    ensures { λ r. ⌜ r ≡ laterMss mss (record { kind = kind; own = now (own .entry) }) ⌝ }
-{
-    if kind != MSS {
-        return mss;
-    }
-    if own.len() < 3 {
-        return mss;
-    }
-    Mss::Present(be16(own[1], own[2]))
-}
-
-fn later_scale(kind: u8, own: &[u8], wscale: Wscale) -> Wscale
-    ensures { λ r. ⌜ r ≡ laterScale wscale (record { kind = kind; own = now (own .entry) }) ⌝ }
-{
-    if kind != WSCALE {
-        return wscale;
-    }
-    if own.len() < 2 {
-        return wscale;
-    }
-    Wscale::Present(own[1])
-}
-
-fn end_quirks(own: &[u8], syn: bool, quirks: QuirkSet) -> QuirkSet
-    ensures { λ r. ⌜ r ≡ shownQuirks syn quirks (record { kind = 0; own = now (own .entry) }) ⌝ }
-{
-    quirks.add_if(any_nonzero(own), Quirk::TrailinigNonZero)
-}
-
-fn scale_quirks(own: &[u8], syn: bool, quirks: QuirkSet) -> QuirkSet
-    ensures { λ r. ⌜ r ≡ shownQuirks syn quirks (record { kind = 3; own = now (own .entry) }) ⌝ }
-{
-    if own.len() < 2 {
-        return quirks;
-    }
-    let scale = own[1];
-    quirks.add_if(14 < scale, Quirk::ExcessiveWindowScaling)
-}
-
-fn stamp_quirks(own: &[u8], syn: bool, before: QuirkSet) -> QuirkSet
-    ensures { λ r. ⌜ r ≡ shownQuirks syn before (record { kind = 8; own = now (own .entry) }) ⌝ }
-{
-    if own.len() < 5 {
-        return before;
-    }
-    let own_stamp = be32(be16(own[1], own[2]), be16(own[3], own[4]));
-    let quirks = before.add_if(own_stamp == 0, Quirk::OwnTimestampZero);
-    if own.len() < 9 {
-        return quirks;
-    }
-    let peer_stamp = be32(be16(own[5], own[6]), be16(own[7], own[8]));
-    quirks.add_if(syn & (peer_stamp != 0), Quirk::PeerTimestampNonZero)
-}
-
-fn later_quirks(kind: u8, own: &[u8], syn: bool, quirks: QuirkSet) -> QuirkSet
-    ensures { λ r. ⌜ r ≡ shownQuirks syn quirks (record { kind = kind; own = now (own .entry) }) ⌝ }
-{
-    if kind == TIMESTAMPS {
-        return stamp_quirks(own, syn, quirks);
-    }
-    if kind == WSCALE {
-        return scale_quirks(own, syn, quirks);
-    }
-    if kind == EOL {
-        return end_quirks(own, syn, quirks);
-    }
-    quirks
-}
-
-// ---- the walk
 
 // A walk that is to stop stops before an option that asks for more than is left.
 fn stops(stop: bool, asked: usize, left: usize) -> bool

@@ -2,8 +2,8 @@
 // plausible) fits fuzzily, C is too short. What it prints is held to the file stdout.
 use flow::Answer;
 use libc::STDOUT_FILENO;
-use siglist::Found;
-use siglist::SearchAnswer;
+use search::Found;
+use search::SearchAnswer;
 use tcp::Mss;
 
 // One record: any version, Value 64, window MSS x 4, layout MSS, quirks df, payload empty, label 7.
@@ -130,16 +130,16 @@ fn answer_packet(packet: &[u8], list: &[u8]) {
     match answer {
         Answer::Syn => {
             print(b"syn ");
-            print_search(siglist::search(observation, list));
+            print_search(search::search(observation, list));
         }
         Answer::SynAck => {
             print(b"synack ");
-            print_search(siglist::search(observation, list));
+            print_search(search::search(observation, list));
         }
         Answer::Nothing => print(b"nothing\n"),
         Answer::Refused(refusal) => {
             print(b"refused ");
-            print_number(flow::refusal_number(refusal) as u64);
+            print_number(ip::refusal_number(refusal) as u64);
         }
     }
 }

@@ -28,8 +28,8 @@ use Rattle.syn_options.specs.Walk.{parseOptionsRaw}
 use Rattle.flow.specs.declared.Answer.{Answer}
 use Rattle.flow.specs.declared.Answer.the-variants as answer
 use Rattle.flow.specs.declared.Reading.{Reading}
-use Rattle.flow.specs.declared.Refusal.{Refusal}
-use Rattle.flow.specs.declared.Refusal.the-variants as refusal
+use Rattle.ip.specs.declared.Refusal.{Refusal}
+use Rattle.ip.specs.declared.Refusal.the-variants as refusal
 use Rattle.flow.specs.Reading.{readPacket}
 use Rattle.witness.specs.Observed.{mssIf}
 

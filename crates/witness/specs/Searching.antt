@@ -8,12 +8,12 @@ use Rattle.quirks.specs.Quirks.{bitsOf}
 use Rattle.matching.specs.declared.FuzzyReason.{FuzzyReason}
 use Rattle.matching.specs.declared.Hops.{Hops}
 use Rattle.matching.specs.declared.Hops.the-variants as hops
-use Rattle.siglist.specs.declared.Found.{Found}
-use Rattle.siglist.specs.declared.Found.the-variants as found
-use Rattle.siglist.specs.declared.SearchAnswer.{SearchAnswer}
-use Rattle.siglist.specs.declared.SearchAnswer.the-variants as answer
-use Rattle.siglist.specs.Search.{searchList}
-use Rattle.matching.specs.Tolerance.{reportedHops}
+use Rattle.search.specs.declared.Found.{Found}
+use Rattle.search.specs.declared.Found.the-variants as found
+use Rattle.search.specs.declared.SearchAnswer.{SearchAnswer}
+use Rattle.search.specs.declared.SearchAnswer.the-variants as answer
+use Rattle.search.specs.Search.{searchList}
+use Rattle.distances.specs.Distances.{reportedHops}
 use Rattle.witness.specs.Observed.{observationAt, ttlFrom}
 
 unfoldable pub firstOnly : ℕ → ℕ → ℕ

@@ -4,8 +4,8 @@ ghost use Rattle.witness.specs.Searching.{firstOnly, hopsNumber, fuzzyNu
 use crate::shown::wide32;
 use matching::FuzzyReason;
 use matching::Hops;
-use siglist::Found;
-use siglist::SearchAnswer;
+use search::Found;
+use search::SearchAnswer;
 
 // A number that stands alone: all others are 0.
 fn first_only(number: u64, which: u32) -> u64

@@ -42,7 +42,7 @@ pub extern "C" fn witness_options(options: &[u8], which: u32) -> u64
 pub extern "C" fn witness_search(observation: &[u8], list: &[u8], which: u32) -> u64
     ensures { λ r. ⌜ r ≡ searchNumber (now (observation .entry)) (now (list .entry)) which ⌝ }
 {
-    answer_of_search(siglist::search(observation_of(observation), list), which)
+    answer_of_search(search::search(observation_of(observation), list), which)
 }
 
 // The hop distance that is reported for two TTLs of three bytes each (form, TTL, distance): an observed one, then a signature's.
@@ -50,5 +50,5 @@ pub extern "C" fn witness_search(observation: &[u8], list: &[u8], which: u32) ->
 pub extern "C" fn witness_hops(ttls: &[u8]) -> u64
     ensures { λ r. ⌜ r ≡ hopsOf (now (ttls .entry)) ⌝ }
 {
-    wide8(matching::report_hop_distance(ttl_from(ttls, 0), ttl_from(ttls, 3)))
+    wide8(distances::report_hop_distance(ttl_from(ttls, 0), ttl_from(ttls, 3)))
 }

@@ -5,7 +5,7 @@ ghost use Prim.Native.Nat.{_+_, _*_, _≤_};
 ghost use Rattle.basis.specs.Bytes.{be16, be32};
 ghost use Rattle.witness.specs.Reading.{versionNumber, ttlNumber, mssNumber, scaleNumber, payloadNumber, multiplierNumber, wordOf, layoutNumber, ipNumber, tcpNumber, observationNumber, refusalNumber, answerNumber, optionsAnswer, parsedNumber, readNumber};
 use flow::Answer;
-use flow::Refusal;
+use ip::Refusal;
 use numbers::be16;
 use numbers::be32;
 use observable::TcpObservation;

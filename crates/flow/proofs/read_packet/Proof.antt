@@ -1,6 +1,6 @@
 -- `flow::read_packet` meets its contract.
-use Rattle.flow.proofs.Ip.{tcp-part-lies}
-use Rattle.flow.proofs.Parts.{part-length}
+use Rattle.ip.proofs.Ip.{tcp-part-lies}
+use Rattle.ip.proofs.Parts.{part-length}
 use native.Mathlib.Omega.{arith}
 use mathlib.Core.Path.{sym, _∙_}
 use Rattle.flow.specs.Reading.{readPacket}

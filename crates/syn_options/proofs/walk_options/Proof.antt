@@ -1,7 +1,7 @@
 -- `syn_options::walk_options` meets its contract.
 use Rattle.syn_options.proofs.Walk.{forty}
 use Rattle.syn_options.specs.Walk.{startWalk, walkFrom, walkOf}
-use Rattle.syn_options.specs.Options.{optionsOf}
+use Rattle.one_option.specs.Options.{optionsOf}
 use Prim.Native.Nat.{ℕ}
 use mathlib.Core.List.{List}
 use mathlib.Core.Path.{_∙_, ap}

@@ -1,13 +1,14 @@
 -- `syn_options::walk_part` meets its contract.
-use Rattle.syn_options.specs.Options.{asked, optionsOf}
+use Rattle.one_option.specs.Options.{asked, optionsOf}
 use Rattle.basis.proofs.Bytes.{rest-of}
 use Rattle.basis.specs.Bytes.{byteAt}
 use lib.ListN.{length, drop, length-set}
 use Prim.Native.Nat.{ℕ, _+_, _≤_, _-_, min}
 use mathlib.Core.Path.{_≡_, sym, _∙_, ap}
 use mathlib.Core.Bool.{Bool, false}
-use Rattle.syn_options.specs.declared.Seen.{Seen}
-use Rattle.syn_options.specs.Walk.{walkFrom, seeOption}
+use Rattle.one_option.specs.declared.Seen.{Seen}
+use Rattle.one_option.specs.See.{seeOption}
+use Rattle.syn_options.specs.Walk.{walkFrom}
 use Rattle.syn_options.proofs.Walk.{soFar, turn-stops, turn-goes-on, walk-ends}
 use borrow.Author.Needs.{needs}
 use Rattle.syn_options.proofs.walk_part.Statement.{statement}

@@ -1,0 +1,84 @@
+-- `distances::report_hop_distance` meets its contract.
+use Rattle.basis.proofs.Rules.{cases}
+use Rattle.distances.specs.Distances.{reportedHops}
+use borrow.Author.Needs.{needs}
+use Rattle.distances.proofs.report_hop_distance.Statement.{statement}
+use Rattle.distances.proofs.report_hop_distance.Tie as tie
+
+observed-ttl-requires : tie.Need-observed-ttl-requires
+observed-ttl-requires c κs = search needs
+
+signature-initial-ttl-requires : tie.Need-signature-initial-ttl-requires
+signature-initial-ttl-requires c κs = search needs
+
+guess-distance-requires : tie.Need-guess-distance-requires
+guess-distance-requires c κs = search needs
+
+returns : tie.Need-returns
+unfolding reportedHops
+returns c = simp (← c .before .before .before .observed-ttl .ensures, ← c .before .before .signature-initial-ttl .ensures, ← c .guess-distance .ensures) (search cases)
+
+is-bad-requires : tie.Need-is-bad-requires
+is-bad-requires c κs = search needs
+
+returns-2 : tie.Need-returns-2
+unfolding reportedHops
+returns-2 c =
+    let at-is-bad = c .before in
+    let at-signature-initial-ttl = at-is-bad .before .before in
+    let at-observed-ttl = at-signature-initial-ttl .before in
+    simp (
+      ← at-observed-ttl .observed-ttl .ensures,
+      ← at-signature-initial-ttl .signature-initial-ttl .ensures,
+      ← at-is-bad .is-bad .ensures,
+      c .if2 .taken,
+    )
+    (search cases)
+
+guess-distance-requires-2 : tie.Need-guess-distance-requires-2
+guess-distance-requires-2 c κs = search needs
+
+returns-3 : tie.Need-returns-3
+unfolding reportedHops
+returns-3 c =
+    let at-if2 = c .before .before in
+    let at-is-bad = at-if2 .before in
+    let at-signature-initial-ttl = at-is-bad .before .before in
+    let at-observed-ttl = at-signature-initial-ttl .before in
+    simp (
+      ← at-observed-ttl .observed-ttl .ensures,
+      ← at-signature-initial-ttl .signature-initial-ttl .ensures,
+      ← at-is-bad .is-bad .ensures,
+      at-if2 .if2 .left,
+      ← c .guess-distance2 .ensures,
+    )
+    (search cases)
+
+returns-4 : tie.Need-returns-4
+unfolding reportedHops
+returns-4 c =
+    let at-if2 = c .before in
+    let at-is-bad = at-if2 .before in
+    let at-signature-initial-ttl = at-is-bad .before .before in
+    let at-observed-ttl = at-signature-initial-ttl .before in
+    simp (
+      ← at-observed-ttl .observed-ttl .ensures,
+      ← at-signature-initial-ttl .signature-initial-ttl .ensures,
+      ← at-is-bad .is-bad .ensures,
+      at-if2 .if2 .left,
+    )
+    (search cases)
+
+pub report-hop-distance-spec : {M : Type 1} → statement M
+report-hop-distance-spec =
+    tie.close
+    (tie.spec
+    observed-ttl-requires
+    signature-initial-ttl-requires
+    guess-distance-requires
+    returns
+    is-bad-requires
+    returns-2
+    guess-distance-requires-2
+    returns-3
+    returns-4)

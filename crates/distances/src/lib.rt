@@ -1,0 +1,177 @@
+// distances.rs: how far an observation is from a signature, by version, TTL, window and payload.
+ghost use mathlib.Core.Path.{_≡_};
+ghost use Rattle.distances.specs.Gates.{versionMatches, multipleMatches, windowMatches, payloadMatches};
+ghost use Rattle.distances.specs.Distances.{initialTtl, isBad, ttlFit, reportedHops};
+use tcp::IpVersion;
+use tcp::PayloadSize;
+use ttl::MAX_DIST;
+use ttl::Ttl;
+use ttl::guess_distance;
+use ttl::observed_ttl;
+use window_size::Multiplier;
+
+// The IP version that a signature declares.
+pub enum SigVersion {
+    Any,
+    V4,
+    V6,
+}
+
+// The payload that a signature declares.
+pub enum SigPayload {
+    Zero,
+    NonZero,
+    Any,
+}
+
+// The window that a signature declares.
+pub enum WindowSize {
+    Any,
+    Value(u16),
+    // A multiple of this modulus.
+    Mod(u16),
+    // So many times the MSS.
+    Mss(u8),
+    // So many times the MTU.
+    Mtu(u8),
+}
+
+// The hops against a signature's initial TTL: `Option<TtlFit>`.
+pub enum TtlFit {
+    Rejected,
+    InRange(u8),
+    OutOfRange(u8),
+}
+
+pub fn ip_version_matches(observed: IpVersion, signature: SigVersion) -> bool
+    ensures { λ r. ⌜ r ≡ versionMatches observed signature ⌝ }
+{
+    match signature {
+        SigVersion::Any => true,
+        SigVersion::V4 => match observed {
+            IpVersion::V4 => true,
+            IpVersion::V6 => false,
+        },
+        SigVersion::V6 => match observed {
+            IpVersion::V4 => false,
+            IpVersion::V6 => true,
+        },
+    }
+}
+
+// A signature's initial TTL: with a distance, both halves summed.
+fn signature_initial_ttl(signature: Ttl) -> u8
+    ensures { λ r. ⌜ r ≡ initialTtl signature ⌝ }
+{
+    match signature {
+        Ttl::Value(ttl) => ttl,
+        Ttl::Guess(ttl) => ttl,
+        Ttl::Bad(ttl) => ttl,
+        Ttl::Distance(ttl, distance) => {
+            if ttl <= 255 - distance {
+                ttl + distance
+            } else {
+                255
+            }
+        }
+    }
+}
+
+fn is_bad(signature: Ttl) -> bool
+    ensures { λ r. ⌜ r ≡ isBad signature ⌝ }
+{
+    match signature {
+        Ttl::Value(_) => false,
+        Ttl::Distance(_, _) => false,
+        Ttl::Guess(_) => false,
+        Ttl::Bad(_) => true,
+    }
+}
+
+// The observed TTL byte against a signature.
+pub fn ttl_fit(observed: u8, signature: Ttl) -> TtlFit
+    ensures { λ r. ⌜ r ≡ ttlFit observed signature ⌝ }
+{
+    let initial = signature_initial_ttl(signature);
+    if initial < observed {
+        if is_bad(signature) {
+            return TtlFit::Rejected;
+        }
+        return TtlFit::OutOfRange(0);
+    }
+    let hops = initial - observed;
+    if is_bad(signature) {
+        return TtlFit::InRange(hops);
+    }
+    if MAX_DIST < hops {
+        return TtlFit::OutOfRange(hops);
+    }
+    TtlFit::InRange(hops)
+}
+
+// The hop count to report: from the signature's initial TTL, or a guess where that is unusable.
+pub fn report_hop_distance(observed: Ttl, signature: Ttl) -> u8
+    ensures { λ r. ⌜ r ≡ reportedHops observed signature ⌝ }
+{
+    let seen = observed_ttl(observed);
+    let initial = signature_initial_ttl(signature);
+    if initial < seen {
+        return guess_distance(seen);
+    }
+    let hops = initial - seen;
+    if is_bad(signature) {
+        return hops;
+    }
+    if MAX_DIST < hops {
+        return guess_distance(seen);
+    }
+    hops
+}
+
+// The window is a multiple of the right kind, by the declared factor.
+fn multiple_matches(observed: Multiplier, declared: u8, of_mtu: bool) -> bool
+    ensures { λ r. ⌜ r ≡ multipleMatches observed declared «of_mtu» ⌝ }
+{
+    match observed {
+        Multiplier::Absent => false,
+        Multiplier::Present(found) => {
+            if found.multiple != declared as u16 {
+                return false;
+            }
+            if of_mtu { found.of_mtu } else { !found.of_mtu }
+        }
+    }
+}
+
+pub fn window_size_matches(observed: u16, signature: WindowSize, multiplier: Multiplier) -> bool
+    ensures { λ r. ⌜ r ≡ windowMatches observed signature multiplier ⌝ }
+{
+    match signature {
+        WindowSize::Any => true,
+        WindowSize::Value(value) => observed == value,
+        WindowSize::Mod(modulus) => {
+            if modulus == 0 {
+                return false;
+            }
+            observed % modulus == 0
+        }
+        WindowSize::Mss(multiple) => multiple_matches(multiplier, multiple, false),
+        WindowSize::Mtu(multiple) => multiple_matches(multiplier, multiple, true),
+    }
+}
+
+pub fn payload_size_matches(observed: PayloadSize, signature: SigPayload) -> bool
+    ensures { λ r. ⌜ r ≡ payloadMatches observed signature ⌝ }
+{
+    match signature {
+        SigPayload::Any => true,
+        SigPayload::Zero => match observed {
+            PayloadSize::Zero => true,
+            PayloadSize::NonZero => false,
+        },
+        SigPayload::NonZero => match observed {
+            PayloadSize::Zero => false,
+            PayloadSize::NonZero => true,
+        },
+    }
+}

@@ -1,0 +1,4 @@
+pub mod Fragments
+pub mod Ip
+pub mod Parts
+pub mod Unique

@@ -1,0 +1,79 @@
+-- `ip::process_tcp_ipv6` meets its contract.
+use Rattle.ip.proofs.Ip.{v6-short, v6-facts}
+use Rattle.ip.specs.Ip.{ipv6Facts}
+use Rattle.ip.specs.declared.IpRead.the-variants.{Facts}
+use mathlib.Core.Path.{_≡_}
+use Rattle.ip.specs.Ip.{readIpv6}
+use Rattle.rfc.specs.Rfc8200.{payloadEnd}
+use Rattle.basis.proofs.Rules.{cases}
+use Rattle.basis.specs.Bytes.{be16}
+use mathlib.Core.Path.{sym, _∙_, ap}
+use native.Mathlib.Omega.{arith}
+use borrow.Author.Needs.{needs}
+use Rattle.ip.proofs.process_tcp_ipv6.Statement.{statement}
+use Rattle.ip.proofs.process_tcp_ipv6.Tie as tie
+
+returns : tie.Need-returns
+unfolding readIpv6
+returns c = search cases
+
+shared-slice-read-next-header : tie.Need-shared-slice-read-next-header
+shared-slice-read-next-header c = search needs
+
+returns-2 : tie.Need-returns-2
+unfolding readIpv6
+returns-2 c = search cases
+
+shared-slice-read-be16 : tie.Need-shared-slice-read-be16
+shared-slice-read-be16 c = search needs
+
+shared-slice-read-be16-2 : tie.Need-shared-slice-read-be16-2
+shared-slice-read-be16-2 c = search needs
+
+be16-requires : tie.Need-be16-requires
+be16-requires c κs = search needs
+
+cast-least : tie.Need-cast-least
+cast-least c = search needs
+
+add-least : tie.Need-add-least
+add-least c = search needs
+
+least-requires : tie.Need-least-requires
+least-requires c κs = search needs
+
+add-if3 : tie.Need-add-if3
+add-if3 c = search needs
+
+returns-3 : tie.Need-returns-3
+unfolding be16
+returns-3 c = sym (v6-short (c .before .before .before .before .before .before .before .before .before .args .packet .now) (omega arith) (omega arith) (omega arith))
+
+ipv6-facts-requires : tie.Need-ipv6-facts-requires
+ipv6-facts-requires c κs = search needs
+
+returns-4 : tie.Need-returns-4
+unfolding be16
+returns-4 c =
+    let p = c .before .before .before .before .before .before .before .before .before .before .args .packet .now in
+    let end : c .before .before .least .result ≡ payloadEnd p = omega arith in
+    ap Facts (c .ipv6-facts .ensures ∙ ap (ipv6Facts p) end)
+    ∙ sym (v6-facts p (omega arith) (omega arith) (omega arith))
+
+pub process-tcp-ipv6-spec : {M : Type 1} → statement M
+process-tcp-ipv6-spec =
+    tie.close
+    (tie.spec
+    returns
+    shared-slice-read-next-header
+    returns-2
+    shared-slice-read-be16
+    shared-slice-read-be16-2
+    be16-requires
+    cast-least
+    add-least
+    least-requires
+    add-if3
+    returns-3
+    ipv6-facts-requires
+    returns-4)

@@ -1,0 +1,2 @@
+pub mod See
+pub mod Unique

@@ -1,0 +1,30 @@
+-- `one_option::scale_quirks` meets its contract.
+use Rattle.one_option.proofs.See.{scale-short, scale-enough, quirks-of, opt, just}
+use Prim.Native.Nat.{_<_, _≤_}
+use lib.ListN.{length}
+use native.Mathlib.Omega.{arith}
+use mathlib.Core.Path.{sym, _∙_}
+use borrow.Author.Needs.{needs}
+use Rattle.one_option.proofs.scale_quirks.Statement.{statement}
+use Rattle.one_option.proofs.scale_quirks.Tie as tie
+
+returns : tie.Need-returns
+returns c =
+    let a = c .before .before .args in
+    let few : length (a .own .now) ≤ 1 = omega arith in
+    sym (quirks-of (a .syn) (a .quirks) (a .own .now) (opt 3 (a .own .now)) (scale-short (a .syn) (just (a .quirks)) (a .own .now) few))
+
+shared-slice-read-scale : tie.Need-shared-slice-read-scale
+shared-slice-read-scale c = search needs
+
+add-if-requires : tie.Need-add-if-requires
+add-if-requires c κs = search needs
+
+returns-2 : tie.Need-returns-2
+returns-2 c =
+    let a = c .before .before .before .before .args in
+    let some : 1 < length (a .own .now) = omega arith in
+    rw (quirks-of (a .syn) (a .quirks) (a .own .now) (opt 3 (a .own .now)) (scale-enough (a .syn) (just (a .quirks)) (a .own .now) some), c .add-if .ensures)
+
+pub scale-quirks-spec : {M : Type 1} → statement M
+scale-quirks-spec = tie.close (tie.spec returns shared-slice-read-scale add-if-requires returns-2)

@@ -1,0 +1,143 @@
+-- Laws of a record's fit: a gate that fails, a bad record, and a record that is well formed and passes the gates.
+use mathlib.Core.Path.{_≡_, refl, sym, _∙_, ap}
+use mathlib.Core.Bool.{Bool, true, false, cond, _&&_, true≢false, false≢true}
+use mathlib.Core.List.{List}
+use Prim.Native.Nat.{ℕ, _+_, _*_, _-_, _<_, _≤_}
+use native.Mathlib.Omega.{arith}
+use lib.Dec.{eqb, leb, ltb}
+use lib.ListN.{length, length-take, length-drop}
+use borrow.Author.Tests.{lt-ltb, eq-eqb}
+use Rattle.basis.specs.Bytes.{part}
+use Rattle.matching.specs.declared.Features.{Features}
+use Rattle.matching.specs.declared.SignatureFit.{SignatureFit}
+use Rattle.matching.specs.declared.SignatureFit.the-variants as fit
+use Rattle.matching.specs.Gates.{layoutMatches}
+use Rattle.matching.specs.Fit.{scalarGates, toleranceOf, fitOf}
+use Rattle.basis.proofs.Tests.{and-left, and-right}
+use Rattle.matching.proofs.Scalars.{and-false}
+use Rattle.siglist.specs.declared.Areas.{Areas}
+use Rattle.siglist.specs.Record.{signatureOf, firstEntry, entryCount, scalarsGood}
+use Rattle.siglist.specs.List.{recordCount, layoutCount, AreasFit, recordStart, recordAt, entriesOf, layoutLies, recordGood, wellFormed}
+use Rattle.search.specs.Search.{fitAt, fitsNothing}
+use Rattle.siglist.proofs.List.{list-fits}
+
+-- A conjunction in which two parts do not both hold.
+not-both : (c g x y : Bool) → c && g ≡ false → g && (c && x && y) ≡ false
+not-both true true x y e = absurd (true≢false e)
+not-both true false x y e = refl
+not-both false true x y e = refl
+not-both false false x y e = refl
+
+second-holds : (c g : Bool) → c && g ≡ true → g ≡ true
+second-holds true g e = e
+second-holds false g e = absurd (false≢true e)
+
+is-nothing : (x : SignatureFit) → fitsNothing x ≡ true → x ≡ fit.Nothing
+unfolding fitsNothing
+is-nothing fit.Nothing e = refl
+is-nothing fit.Exact e = absurd (false≢true e)
+is-nothing (fit.Fuzzy r) e = absurd (false≢true e)
+
+falls-through
+    : (g c x : Bool) (t : SignatureFit) → c && x ≡ false → cond x (cond (g && c) t fit.Nothing) fit.Nothing ≡ fit.Nothing
+falls-through g true true t e = absurd (true≢false e)
+falls-through true false true t e = refl
+falls-through false false true t e = refl
+falls-through g c false t e = refl
+
+either-way : (t : Bool) → cond t fit.Nothing fit.Nothing ≡ fit.Nothing
+either-way true = refl
+either-way false = refl
+
+module _ (f : Features) (kinds bytes l : List ℕ) (a : Areas) (i : ℕ) (fits : AreasFit l a) (inside : i < a .records) where
+  here
+      : fitAt f kinds bytes l i
+      ≡ cond (recordGood l i)
+      (fitOf f kinds bytes (signatureOf (recordAt l i)) (entryCount (recordAt l i)) (entriesOf l (recordAt l i)))
+      fit.Nothing
+  unfolding fitAt
+  here = simp (list-fits l a fits, lt-ltb i (recordCount l) (omega arith))
+
+  fits-nothing
+      : fitOf f kinds bytes (signatureOf (recordAt l i)) (entryCount (recordAt l i)) (entriesOf l (recordAt l i)) ≡ fit.Nothing
+      → fitAt f kinds bytes l i ≡ fit.Nothing
+  fits-nothing e = rw (here, e) (either-way (recordGood l i))
+
+  pub gate-fails
+      : eqb (f .count) (entryCount (recordAt l i)) && scalarGates f (signatureOf (recordAt l i)) ≡ false
+      → fitAt f kinds bytes l i ≡ fit.Nothing
+  unfolding fitOf layoutMatches
+  gate-fails e = fits-nothing (rw (not-both (eqb (f .count) (entryCount (recordAt l i))) (scalarGates f (signatureOf (recordAt l i))) _ _ e))
+
+  pub not-tolerated : fitsNothing (toleranceOf f (signatureOf (recordAt l i))) ≡ true → fitAt f kinds bytes l i ≡ fit.Nothing
+  unfolding fitOf
+  not-tolerated e =
+      fits-nothing
+      (rw (is-nothing (toleranceOf f (signatureOf (recordAt l i))) e)
+      (either-way
+      (scalarGates f (signatureOf (recordAt l i))
+      && layoutMatches (f .count) kinds bytes (entryCount (recordAt l i)) (entriesOf l (recordAt l i)))))
+
+  pub not-held
+      : layoutMatches (f .count) kinds bytes (entryCount (recordAt l i)) (entriesOf l (recordAt l i)) && recordGood l i ≡ false
+      → fitAt f kinds bytes l i ≡ fit.Nothing
+  unfolding fitOf
+  not-held e =
+      here
+      ∙ falls-through (scalarGates f (signatureOf (recordAt l i)))
+      (layoutMatches (f .count) kinds bytes (entryCount (recordAt l i)) (entriesOf l (recordAt l i)))
+      (recordGood l i)
+      (toleranceOf f (signatureOf (recordAt l i)))
+      e
+
+  pub held-fit
+      : eqb (f .count) (entryCount (recordAt l i)) && scalarGates f (signatureOf (recordAt l i)) ≡ true
+      → layoutMatches (f .count) kinds bytes (entryCount (recordAt l i)) (entriesOf l (recordAt l i)) && recordGood l i ≡ true
+      → fitAt f kinds bytes l i ≡ toleranceOf f (signatureOf (recordAt l i))
+  unfolding fitOf
+  held-fit gates holds =
+      let open-gates = second-holds (eqb (f .count) (entryCount (recordAt l i))) (scalarGates f (signatureOf (recordAt l i))) gates in
+      let layout = and-left (layoutMatches (f .count) kinds bytes (entryCount (recordAt l i)) (entriesOf l (recordAt l i))) (recordGood l i) holds in
+      let good = and-right (layoutMatches (f .count) kinds bytes (entryCount (recordAt l i)) (entriesOf l (recordAt l i))) (recordGood l i) holds in
+      rw (here, good, open-gates, layout)
+
+part-length : (start end : ℕ) (l : List ℕ) → end ≤ length l → length (part start end l) ≡ end - start
+part-length start end l h = simp (length-take, length-drop) (omega arith)
+
+-- A record that lies in a list is whole.
+pub record-whole : (l : List ℕ) (a : Areas) (i : ℕ) → AreasFit l a → i < a .records → length (recordAt l i) ≡ 24
+record-whole l a i fits inside =
+    part-length (recordStart l i) (recordStart l i + 24) l (omega arith) ∙ omega arith
+
+-- Whether a record holds: its layout is the observation's, and it is well formed.
+module _ (n : ℕ) (kinds bytes l : List ℕ) (a : Areas) (i : ℕ) (fits : AreasFit l a) where
+  abbrev Holds : Bool
+  Holds = layoutMatches n kinds bytes (entryCount (recordAt l i)) (entriesOf l (recordAt l i)) && recordGood l i
+
+  is-bad : recordGood l i ≡ false → Holds ≡ false
+  is-bad e = rw e (and-false (layoutMatches n kinds bytes (entryCount (recordAt l i)) (entriesOf l (recordAt l i))))
+
+  pub layout-fails : layoutMatches n kinds bytes (entryCount (recordAt l i)) (entriesOf l (recordAt l i)) ≡ false → Holds ≡ false
+  layout-fails e = rw e
+
+  pub bad-place
+      : leb (entryCount (recordAt l i)) 40 && leb (firstEntry (recordAt l i) + entryCount (recordAt l i)) (a .entries) ≡ false
+      → Holds ≡ false
+  unfolding recordGood layoutLies
+  bad-place e = is-bad (rw (← fits .entries, e) (and-false (scalarsGood (recordAt l i))))
+
+  pub well-formed-decides
+      : leb (entryCount (recordAt l i)) 40 && leb (firstEntry (recordAt l i) + entryCount (recordAt l i)) (a .entries) ≡ true
+      → layoutMatches n kinds bytes (entryCount (recordAt l i)) (entriesOf l (recordAt l i)) ≡ true
+      → length (recordAt l i) ≡ 24
+      → length (entriesOf l (recordAt l i)) ≡ 2 * entryCount (recordAt l i)
+      → Holds ≡ wellFormed (recordAt l i) (entriesOf l (recordAt l i))
+  unfolding recordGood layoutLies wellFormed
+  well-formed-decides lie layout whole entries =
+      rw (
+        ← fits .entries,
+        lie,
+        layout,
+        eq-eqb (length (recordAt l i)) 24 whole,
+        eq-eqb (length (entriesOf l (recordAt l i))) (2 * entryCount (recordAt l i)) entries,
+      )

@@ -1,0 +1,6 @@
+pub mod Codes
+pub mod Fits
+pub mod Order
+pub mod Refusals
+pub mod Rows
+pub mod Unique

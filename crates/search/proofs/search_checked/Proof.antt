@@ -1,0 +1,55 @@
+-- `search::search_checked` meets its contract.
+use Rattle.search.proofs.Rows.{nothing-found}
+use Rattle.siglist.proofs.List.{header-areas, header-none}
+use Rattle.search.specs.Search.{numbersFrom, searchOver, searchAll}
+use Rattle.siglist.specs.List.{recordCount}
+use Rattle.matching.specs.Fit.{featuresOf}
+use mathlib.Core.Path.{sym, _∙_}
+use borrow.Author.Needs.{needs}
+use Rattle.search.proofs.search_checked.Statement.{statement}
+use Rattle.search.proofs.search_checked.Tie as tie
+
+read-header-requires : tie.Need-read-header-requires
+read-header-requires c κs = search needs
+
+enum-known-areas : tie.Need-enum-known-areas
+enum-known-areas c = search needs
+
+enum-told : tie.Need-enum-told
+enum-told c = search needs
+
+returns : tie.Need-returns
+unfolding searchAll searchOver
+returns c =
+    let a = c .before .before .before .before .args in
+    sym (nothing-found (featuresOf (a .observed)) (a .observed .olayout .kinds) (a .observed .olayout .bytes) (a .list .now) (header-none (a .list .now) (sym (c .before .before .read-header .ensures) ∙ c .enum-told .given .1)) (numbersFrom 0 (recordCount (a .list .now))))
+
+features-of-requires : tie.Need-features-of-requires
+features-of-requires c κs = search needs
+
+search-records-requires : tie.Need-search-records-requires
+search-records-requires c κs =
+    let told = c .before .before .before .before .before .before .before in
+    let read = told .before .before in
+    header-areas (read .before .before .args .list .now) _ (sym (read .read-header .ensures) ∙ told .areas .given .1)
+
+returns-2 : tie.Need-returns-2
+unfolding searchAll searchOver
+returns-2 c =
+    let featured = c .before .before .before .before .before .before in
+    let told = featured .before .before in
+    let read = told .before .before in
+    let fit = header-areas (read .before .before .args .list .now) _ (sym (read .read-header .ensures) ∙ told .areas .given .1) in
+    rw (c .search-records .ensures, featured .features-of .ensures, fit .records)
+
+pub search-checked-spec : {M : Type 1} → statement M
+search-checked-spec =
+    tie.close
+    (tie.spec
+    read-header-requires
+    enum-known-areas
+    enum-told
+    returns
+    features-of-requires
+    search-records-requires
+    returns-2)

@@ -1,0 +1,81 @@
+-- The search (document 01, "The signature list"): "the first exact record in list order; else the first fuzzy one, with its
+-- reason; else none". It goes over a row of record numbers; the plain search takes 0, 1, .. to the last.
+use Prim.Native.Nat.{ℕ, zero, suc, _+_}
+use mathlib.Core.Bool.{Bool, true, false, cond, _&&_}
+use mathlib.Core.List.{List, [], _∷_}
+use lib.Dec.{ltb}
+use Rattle.observable.specs.declared.TcpObservation.{TcpObservation}
+use Rattle.matching.specs.declared.Features.{Features}
+use Rattle.matching.specs.declared.FuzzyReason.{FuzzyReason}
+use Rattle.matching.specs.declared.SignatureFit.{SignatureFit}
+use Rattle.matching.specs.declared.SignatureFit.the-variants as fit
+use Rattle.matching.specs.Fit.{featuresOf, fitOf}
+use Rattle.search.specs.declared.Found.{Found}
+use Rattle.search.specs.declared.Found.the-variants as found
+use Rattle.siglist.specs.declared.ListAnswer.{ListAnswer}
+use Rattle.siglist.specs.declared.ListAnswer.the-variants as list
+use Rattle.search.specs.declared.SearchAnswer.{SearchAnswer}
+use Rattle.search.specs.declared.SearchAnswer.the-variants as answer
+use Rattle.siglist.specs.Record.{signatureOf, entryCount, labelOf}
+use Rattle.siglist.specs.List.{recordCount, listFits, recordAt, entriesOf, recordGood, checkList}
+
+-- How record i fits: what is not a well-formed record of the list fits nothing.
+unfoldable pub fitAt : Features → List ℕ → List ℕ → List ℕ → ℕ → SignatureFit
+fitAt f kinds bytes l i =
+    cond (listFits l && ltb i (recordCount l) && recordGood l i)
+    (fitOf f kinds bytes (signatureOf (recordAt l i)) (entryCount (recordAt l i)) (entriesOf l (recordAt l i)))
+    fit.Nothing
+
+-- What is held after one record more: an exact record stays, and so does the first fuzzy one until an exact one comes.
+unfoldable pub keep : Found → ℕ → SignatureFit → Found
+keep (found.Exact kept) label f = found.Exact kept
+keep found.Nothing label fit.Nothing = found.Nothing
+keep found.Nothing label fit.Exact = found.Exact label
+keep found.Nothing label (fit.Fuzzy reason) = found.Fuzzy label reason
+keep (found.Fuzzy kept why) label fit.Nothing = found.Fuzzy kept why
+keep (found.Fuzzy kept why) label fit.Exact = found.Exact label
+keep (found.Fuzzy kept why) label (fit.Fuzzy reason) = found.Fuzzy kept why
+
+unfoldable pub fitsNothing : SignatureFit → Bool
+fitsNothing fit.Nothing = true
+fitsNothing fit.Exact = false
+fitsNothing (fit.Fuzzy reason) = false
+
+unfoldable pub isExact : Found → Bool
+isExact found.Nothing = false
+isExact (found.Exact label) = true
+isExact (found.Fuzzy label reason) = false
+
+-- The search of a row of record numbers, with what was found before it.
+unfoldable pub searchFrom : Found → Features → List ℕ → List ℕ → List ℕ → List ℕ → Found
+searchFrom held f kinds bytes l [] = held
+searchFrom held f kinds bytes l (i ∷ is) =
+    searchFrom (keep held (labelOf (recordAt l i)) (fitAt f kinds bytes l i)) f kinds bytes l is
+
+-- So many numbers from this one on.
+unfoldable pub numbersFrom : ℕ → ℕ → List ℕ
+numbersFrom i zero = []
+numbersFrom i (suc n) = i ∷ numbersFrom (i + 1) n
+
+-- The search of a row of record numbers for an observation, and the plain search: of all records in list order.
+unfoldable pub searchOver : List ℕ → TcpObservation → List ℕ → Found
+searchOver is o l = searchFrom found.Nothing (featuresOf o) (o .olayout .kinds) (o .olayout .bytes) l is
+
+unfoldable pub searchAll : TcpObservation → List ℕ → Found
+searchAll o l = searchOver (numbersFrom 0 (recordCount l)) o l
+
+-- "a search [meets] 11, then 9, then 10"; 11: "observation's layout count over 40"
+abbrev pub afterCheck : ListAnswer → TcpObservation → List ℕ → SearchAnswer
+afterCheck list.DoesNotFit o l = answer.DoesNotFit
+afterCheck (list.BadRecord i) o l = answer.BadRecord i
+afterCheck list.Good o l = answer.Found (searchAll o l)
+
+unfoldable pub searchList : TcpObservation → List ℕ → SearchAnswer
+searchList o l = cond (ltb 40 (o .olayout .count)) answer.LayoutTooLong (afterCheck (checkList l) o l)
+
+-- The number of a search's refusal; 0 if it is none. Refusal 10 gives the index of the first bad record.
+unfoldable pub searchRefusal : SearchAnswer → ℕ
+searchRefusal (answer.Found f) = 0
+searchRefusal answer.LayoutTooLong = 11
+searchRefusal answer.DoesNotFit = 9
+searchRefusal (answer.BadRecord i) = 10

@@ -1,0 +1,293 @@
+// The search: how a record fits, and what is held after it.
+ghost use mathlib.Core.Path.{_≡_};
+ghost use mathlib.Core.Bool.{true, _&&_};
+ghost use lib.Dec.{eqb, leb};
+ghost use Rattle.matching.specs.Fit.{scalarGates};
+ghost use Rattle.distances.specs.Gates.{versionMatches, windowMatches, payloadMatches};
+ghost use Rattle.matching.specs.Gates.{mssMatches, scaleMatches, layoutMatches};
+ghost use Prim.Native.Nat.{ℕ, _+_, _*_, _-_, _≤_, _<_};
+ghost use mathlib.Core.List.{List};
+ghost use lib.ListN.{length};
+ghost use Rattle.siglist.specs.Record.{entryCount, labelOf, versionOf, mssOf, scaleOf, windowOf, payloadOf, signatureOf};
+ghost use Rattle.siglist.specs.List.{recordAt, entriesOf, AreasFit, recordGood};
+ghost use Rattle.search.specs.Search.{fitAt, fitsNothing, keep, isExact, searchFrom, numbersFrom};
+use crate::Found;
+use crate::raw::mss_of;
+use crate::raw::scale_of;
+use crate::raw::signature_of;
+use crate::raw::wide;
+use crate::raw::window_of;
+use distances::window_size_matches;
+use matching::Features;
+use matching::SignatureFit;
+use matching::mss_matches;
+use matching::olayout_matches;
+use matching::olen_matches;
+use matching::tolerance;
+use matching::wscale_matches;
+use numbers::be16;
+use siglist::Areas;
+use siglist::RECORD;
+use siglist::well_formed;
+use tcp::IpVersion;
+use tcp::Mss;
+use tcp::PayloadSize;
+use tcp::Wscale;
+use window_size::Multiplier;
+
+pub(crate) fn is_exact(found: Found) -> bool
+    ensures { λ r. ⌜ r ≡ isExact found ⌝ }
+{
+    match found {
+        Found::Nothing => false,
+        Found::Exact(_) => true,
+        Found::Fuzzy(_, _) => false,
+    }
+}
+
+pub(crate) fn is_nothing(fit: SignatureFit) -> bool
+    ensures { λ r. ⌜ r ≡ fitsNothing fit ⌝ }
+{
+    match fit {
+        SignatureFit::Nothing => true,
+        SignatureFit::Exact => false,
+        SignatureFit::Fuzzy(_) => false,
+    }
+}
+
+// What is held after one record more.
+pub(crate) fn keep_fit(held: Found, label: u16, fit: SignatureFit) -> Found
+    ensures { λ r. ⌜ r ≡ keep held label fit ⌝ }
+{
+    match held {
+        Found::Exact(kept) => Found::Exact(kept),
+        Found::Nothing => match fit {
+            SignatureFit::Nothing => Found::Nothing,
+            SignatureFit::Exact => Found::Exact(label),
+            SignatureFit::Fuzzy(reason) => Found::Fuzzy(label, reason),
+        },
+        Found::Fuzzy(kept, why) => match fit {
+            SignatureFit::Nothing => Found::Fuzzy(kept, why),
+            SignatureFit::Exact => Found::Exact(label),
+            SignatureFit::Fuzzy(_) => Found::Fuzzy(kept, why),
+        },
+    }
+}
+
+// The gates of a record, each read off its bytes.
+pub(crate) fn payload_gate(observed: PayloadSize, code: u8) -> bool
+    ensures { λ r. ⌜ r ≡ payloadMatches observed (payloadOf code) ⌝ }
+{
+    match observed {
+        PayloadSize::Zero => code != 1,
+        PayloadSize::NonZero => code != 0,
+    }
+}
+
+pub(crate) fn version_gate(observed: IpVersion, code: u8) -> bool
+    ensures { λ r. ⌜ r ≡ versionMatches observed (versionOf code) ⌝ }
+{
+    match observed {
+        IpVersion::V4 => code != 6,
+        IpVersion::V6 => code != 4,
+    }
+}
+
+pub(crate) fn mss_gate(observed: Mss, present: u8, high: u8, low: u8) -> bool
+    ensures { λ r. ⌜ r ≡ mssMatches observed (mssOf present (high * 256 + low)) ⌝ }
+{
+    mss_matches(observed, mss_of(present, be16(high, low)))
+}
+
+pub(crate) fn scale_gate(observed: Wscale, present: u8, number: u8) -> bool
+    ensures { λ r. ⌜ r ≡ scaleMatches observed (scaleOf present number) ⌝ }
+{
+    wscale_matches(observed, scale_of(present, number))
+}
+
+pub(crate) fn window_gate(
+    observed: u16,
+    multiplier: Multiplier,
+    form: u8,
+    high: u8,
+    low: u8,
+) -> bool
+    ensures { λ r. ⌜ r ≡ windowMatches observed (windowOf form (high * 256 + low)) multiplier ⌝ }
+{
+    window_size_matches(observed, window_of(form, be16(high, low)), multiplier)
+}
+
+// The gates of a record but for the entries of its layout, those first that reject most.
+pub(crate) fn gates_at(observed: Features, raw: &[u8]) -> bool
+    requires { ⌜ length (now raw) ≡ 24 ⌝ }
+    ensures { λ r. ⌜ r ≡ eqb (observed .count) (entryCount (now (raw .entry))) && scalarGates observed (signatureOf (now (raw .entry))) ⌝ }
+{
+    if observed.count != wide(raw[20]) as usize {
+        return false;
+    }
+    let wscale = observed.wscale;
+    if !scale_gate(wscale, raw[11], raw[12]) {
+        return false;
+    }
+    let mss = observed.mss;
+    if !mss_gate(mss, raw[5], raw[6], raw[7]) {
+        return false;
+    }
+    if !olen_matches(observed.olen, raw[4]) {
+        return false;
+    }
+    let pclass = observed.pclass;
+    if !payload_gate(pclass, raw[13]) {
+        return false;
+    }
+    let version = observed.version;
+    if !version_gate(version, raw[0]) {
+        return false;
+    }
+    let multiplier = observed.multiplier;
+    window_gate(observed.wsize, multiplier, raw[8], raw[9], raw[10])
+}
+
+// Whether so many entries from one on lie within the layout area.
+pub(crate) fn entries_lie(areas: Areas, first: usize, count: usize) -> bool
+    requires { ⌜ first < 65536 ⌝ }
+    ensures { λ r. ⌜ r ≡ leb count 40 && leb (first + count) (areas .entries) ⌝ }
+{
+    if 40 < count {
+        return false;
+    }
+    first + count <= areas.entries
+}
+
+// Whether a record's layout is the observation's, and the record well formed.
+pub(crate) fn holds_at(
+    count: usize,
+    kinds: &[u8],
+    bytes: &[u8],
+    list: &[u8],
+    areas: Areas,
+    i: usize,
+) -> bool
+    requires { ⌜ AreasFit (now list) areas × (i < areas .records) ⌝ }
+    ensures { λ r. ⌜ r ≡ layoutMatches count (now (kinds .entry)) (now (bytes .entry)) (entryCount (recordAt (now (list .entry)) i)) (entriesOf (now (list .entry)) (recordAt (now (list .entry)) i)) && recordGood (now (list .entry)) i ⌝ }
+{
+    let at = areas.records_offset + RECORD * i;
+    let end_of_record = at + RECORD;
+    let raw = &list[at..end_of_record];
+    let first = be16(raw[18], raw[19]) as usize;
+    let declared = wide(raw[20]) as usize;
+    if !entries_lie(areas, first, declared) {
+        return false;
+    }
+    let start = areas.entries_offset + 2 * first;
+    let end = start + 2 * declared;
+    let entries = &list[start..end];
+    if !olayout_matches(kinds, bytes, count, entries, declared) {
+        return false;
+    }
+    well_formed(raw, entries)
+}
+
+// How a record fits. Gates, TTL and quirks come first: only of a record that passes them is it asked whether it is well formed.
+pub(crate) fn fit_at(
+    observed: Features,
+    kinds: &[u8],
+    bytes: &[u8],
+    list: &[u8],
+    areas: Areas,
+    i: usize,
+) -> SignatureFit
+    requires { ⌜ AreasFit (now list) areas × (i < areas .records) ⌝ }
+    ensures { λ r. ⌜ r ≡ fitAt observed (now (kinds .entry)) (now (bytes .entry)) (now (list .entry)) i ⌝ }
+{
+    let at = areas.records_offset + RECORD * i;
+    let end_of_record = at + RECORD;
+    let raw = &list[at..end_of_record];
+    if !gates_at(observed, raw) {
+        return SignatureFit::Nothing;
+    }
+    let fit = tolerance(observed, signature_of(raw));
+    if is_nothing(fit) {
+        return SignatureFit::Nothing;
+    }
+    if !holds_at(observed.count, kinds, bytes, list, areas, i) {
+        return SignatureFit::Nothing;
+    }
+    fit
+}
+
+pub(crate) fn label_at(list: &[u8], areas: Areas, i: usize) -> u16
+    requires { ⌜ AreasFit (now list) areas × (i < areas .records) ⌝ }
+    ensures { λ r. ⌜ r ≡ labelOf (recordAt (now (list .entry)) i) ⌝ }
+{
+    let at = areas.records_offset + RECORD * i;
+    let end_of_record = at + RECORD;
+    let raw = &list[at..end_of_record];
+    be16(raw[22], raw[23])
+}
+
+// What is held after record i: its label is read only if it fits.
+pub(crate) fn search_step(
+    held: Found,
+    observed: Features,
+    kinds: &[u8],
+    bytes: &[u8],
+    list: &[u8],
+    areas: Areas,
+    i: usize,
+) -> Found
+    requires { ⌜ AreasFit (now list) areas × (i < areas .records) ⌝ }
+    ensures { λ r. ⌜ r ≡ keep held (labelOf (recordAt (now (list .entry)) i)) (fitAt observed (now (kinds .entry)) (now (bytes .entry)) (now (list .entry)) i) ⌝ }
+{
+    let fit = fit_at(observed, kinds, bytes, list, areas, i);
+    if is_nothing(fit) {
+        return held;
+    }
+    keep_fit(held, label_at(list, areas, i), fit)
+}
+
+// The first record from one on that passes the gates, or the end: those before it leave a search as it is.
+pub(crate) fn next_candidate(observed: Features, list: &[u8], areas: Areas, from: usize) -> usize
+    requires { ⌜ AreasFit (now list) areas × (from ≤ areas .records) ⌝ }
+    ensures { λ r. ⌜ (from ≤ r) × (r ≤ areas .records) × ((held : Found) (kinds bytes : List ℕ) → searchFrom held observed kinds bytes (now (list .entry)) (numbersFrom r (areas .records - r)) ≡ searchFrom held observed kinds bytes (now (list .entry)) (numbersFrom from (areas .records - from))) ⌝ }
+{
+    let mut i = from;
+    while i < areas.records {
+        let at = areas.records_offset + RECORD * i;
+        let end_of_record = at + RECORD;
+        let raw = &list[at..end_of_record];
+        if gates_at(observed, raw) {
+            return i;
+        }
+        i += 1;
+    }
+    i
+}
+
+// The records in list order; an exact one ends the search.
+pub(crate) fn search_records(
+    observed: Features,
+    kinds: &[u8; 40],
+    bytes: &[u8; 40],
+    list: &[u8],
+    areas: Areas,
+) -> Found
+    requires { ⌜ AreasFit (now list) areas ⌝ }
+    ensures { λ r. ⌜ r ≡ searchFrom Found.Nothing observed (now (kinds .entry)) (now (bytes .entry)) (now (list .entry)) (numbersFrom 0 (areas .records)) ⌝ }
+{
+    let count = areas.records;
+    let mut held = Found::Nothing;
+    let mut i = 0;
+    while i < count {
+        i = next_candidate(observed, list, areas, i);
+        if count <= i {
+            return held;
+        }
+        held = search_step(held, observed, kinds, bytes, list, areas, i);
+        if is_exact(held) {
+            return held;
+        }
+        i += 1;
+    }
+    held
+}

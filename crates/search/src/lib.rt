@@ -1,0 +1,59 @@
+// The search of a signature list (document 01, "The signature list"): added by the port.
+ghost use mathlib.Core.Path.{_≡_};
+ghost use Rattle.search.specs.Search.{searchAll, searchList};
+use finding::search_records;
+use matching::FuzzyReason;
+use matching::features_of;
+use observable::TcpObservation;
+use siglist::Header;
+use siglist::ListAnswer;
+use siglist::check_list;
+use siglist::read_header;
+
+mod finding;
+mod raw;
+
+// What a search finds: three answers, with the record's label.
+pub enum Found {
+    Nothing,
+    Exact(u16),
+    Fuzzy(u16, FuzzyReason),
+}
+
+// A search's answer: what it finds, or refusal 11, 9 or 10.
+pub enum SearchAnswer {
+    Found(Found),
+    LayoutTooLong,
+    DoesNotFit,
+    BadRecord(usize),
+}
+
+// The search of a list that was checked before. It is total: what is not a well-formed record of the list fits nothing.
+pub fn search_checked(observed: TcpObservation, list: &[u8]) -> Found
+    ensures { λ r. ⌜ r ≡ searchAll observed (now (list .entry)) ⌝ }
+{
+    let Header::Fits(areas) = read_header(list) else {
+        return Found::Nothing;
+    };
+    let features = features_of(observed);
+    let layout = observed.olayout;
+    let kinds = layout.kinds;
+    let bytes = layout.bytes;
+    search_records(features, &kinds, &bytes, list, areas)
+}
+
+// The search with its refusals: 11, then 9, then 10.
+pub fn search(observed: TcpObservation, list: &[u8]) -> SearchAnswer
+    ensures { λ r. ⌜ r ≡ searchList observed (now (list .entry)) ⌝ }
+{
+    let layout = observed.olayout;
+    let count = layout.count;
+    if 40 < count {
+        return SearchAnswer::LayoutTooLong;
+    }
+    match check_list(list) {
+        ListAnswer::DoesNotFit => SearchAnswer::DoesNotFit,
+        ListAnswer::BadRecord(i) => SearchAnswer::BadRecord(i),
+        ListAnswer::Good => SearchAnswer::Found(search_checked(observed, list)),
+    }
+}
