@@ -5,12 +5,17 @@ use contract.Lifetimes.{Lfts}
 use denote.Ref.{RefT, now}
 use Rattle.basis.specs.Unique.{ExactlyOne}
 use Rattle.basis.proofs.Unique.{equation}
-use Rattle.witness.specs.Reading.{packetNumber, optionsNumber}
-use Rattle.witness.specs.Searching.{hopsOf, searchNumber}
+use Rattle.witness.specs.Reading.{packetNumber, plainOf, optionsNumber}
+use Rattle.witness.specs.Searching.{hopsOf, foundNumber, searchNumber}
+use Rattle.flow.specs.declared.Reading.{Reading}
+use Rattle.search.specs.declared.Found.{Found}
+use Rattle.witness.specs.declared.Plain.{Plain}
 use Rattle.witness.proofs.witness_packet.Reads as witness-packet'
 use Rattle.witness.proofs.witness_options.Reads as witness-options'
 use Rattle.witness.proofs.witness_search.Reads as witness-search'
 use Rattle.witness.proofs.witness_hops.Reads as witness-hops'
+use Rattle.witness.proofs.shown.plain_of.Reads as plain-of'
+use Rattle.witness.proofs.found.found_number.Reads as found-number'
 
 pub witness-packet-one
     : (κs : Lfts 1) (packet : RefT (List ℕ)) (peer which : ℕ)
@@ -30,3 +35,11 @@ witness-search-one κs observation list which = equation (searchNumber (now obse
 pub witness-hops-one
     : (κs : Lfts 1) (ttls : RefT (List ℕ)) → ExactlyOne ℕ (λ (r : ℕ). witness-hops'.Post κs (ttls, tt) r (ttls, tt))
 witness-hops-one κs ttls = equation (hopsOf (now ttls))
+
+pub plain-of-one : (κs : Lfts 0) (reading : Reading) → ExactlyOne Plain (λ (r : Plain). plain-of'.Post κs (reading, tt) r (reading, tt))
+plain-of-one κs reading = equation (plainOf reading)
+
+pub found-number-one
+    : (κs : Lfts 0) (found : Found) (which : ℕ)
+    → ExactlyOne ℕ (λ (r : ℕ). found-number'.Post κs (found, (which, tt)) r (found, (which, tt)))
+found-number-one κs found which = equation (foundNumber found which)

@@ -31,6 +31,7 @@ use Rattle.flow.specs.declared.Reading.{Reading}
 use Rattle.ip.specs.declared.Refusal.{Refusal}
 use Rattle.ip.specs.declared.Refusal.the-variants as refusal
 use Rattle.flow.specs.Reading.{readPacket}
+use Rattle.witness.specs.declared.Plain.{Plain}
 use Rattle.witness.specs.Observed.{mssIf}
 
 -- ---- single values
@@ -124,6 +125,27 @@ readingNumber r w = cond (eqb w 0) (answerNumber (r .answer)) (observationNumber
 
 unfoldable pub packetNumber : List ℕ → ℕ → ℕ → ℕ
 packetNumber p peer w = readingNumber (readPacket p (mssIf (not (eqb peer 0)) peer)) w
+
+-- The same numbers side by side, without the multiplier.
+unfoldable pub plainOf : Reading → Plain
+plainOf r =
+    record {
+      answer = answerNumber (r .answer);
+      version = versionNumber (r .observation .version);
+      ttl = ttlNumber (r .observation .ittl);
+      olen = r .observation .olen;
+      tos = r .observation .tos;
+      «tot_hdr» = r .observation .«tot_hdr»;
+      quirks = bitsOf (r .observation .quirks);
+      mss = mssNumber (r .observation .mss);
+      wsize = r .observation .wsize;
+      wscale = scaleNumber (r .observation .wscale);
+      pclass = payloadNumber (r .observation .pclass);
+      «peer_mss» = mssNumber (r .observation .«peer_mss»);
+      count = r .observation .olayout .count;
+      kinds = r .observation .olayout .kinds;
+      bytes = r .observation .olayout .bytes;
+    }
 
 -- ---- an option string
 

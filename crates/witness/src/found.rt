@@ -47,7 +47,8 @@ fn fuzzy_number(label: u16, reason: FuzzyReason, which: u32) -> u64
     0
 }
 
-fn found_number(found: Found, which: u32) -> u64
+// What is found, one number of it.
+pub fn found_number(found: Found, which: u32) -> u64
     ensures { λ r. ⌜ r ≡ foundNumber found which ⌝ }
 {
     match found {

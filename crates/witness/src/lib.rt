@@ -12,8 +12,28 @@ use shown::options_number;
 use shown::wide8;
 
 mod decoded;
-mod found;
-mod shown;
+pub mod found;
+pub mod shown;
+
+// A reading as a struct of numbers: those of witness_packet, but for the multiplier.
+#[repr(C)]
+pub struct Plain {
+    pub answer: u64,
+    pub version: u64,
+    pub ttl: u64,
+    pub olen: u8,
+    pub tos: u8,
+    pub tot_hdr: u16,
+    pub quirks: u32,
+    pub mss: u64,
+    pub wsize: u16,
+    pub wscale: u64,
+    pub pclass: u64,
+    pub peer_mss: u64,
+    pub count: usize,
+    pub kinds: [u8; 40],
+    pub bytes: [u8; 40],
+}
 
 // One number of the reading of a packet (specs/Reading.antt says which); a peer's MSS of 0 is an absent one.
 #[no_mangle]

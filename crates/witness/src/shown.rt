@@ -3,8 +3,10 @@ ghost use mathlib.Core.Path.{_≡_};
 ghost use mathlib.Core.Bool.{cond};
 ghost use Prim.Native.Nat.{_+_, _*_, _≤_};
 ghost use Rattle.basis.specs.Bytes.{be16, be32};
-ghost use Rattle.witness.specs.Reading.{versionNumber, ttlNumber, mssNumber, scaleNumber, payloadNumber, multiplierNumber, wordOf, layoutNumber, ipNumber, tcpNumber, observationNumber, refusalNumber, answerNumber, optionsAnswer, parsedNumber, readNumber};
+ghost use Rattle.witness.specs.Reading.{versionNumber, ttlNumber, mssNumber, scaleNumber, payloadNumber, multiplierNumber, wordOf, layoutNumber, ipNumber, tcpNumber, observationNumber, refusalNumber, answerNumber, plainOf, optionsAnswer, parsedNumber, readNumber};
+use crate::Plain;
 use flow::Answer;
+use flow::Reading;
 use ip::Refusal;
 use numbers::be16;
 use numbers::be32;
@@ -247,6 +249,43 @@ pub(crate) fn answer_number(answer: Answer) -> u64
         Answer::SynAck => 2,
         Answer::Nothing => 3,
         Answer::Refused(refusal) => refusal_number(refusal),
+    }
+}
+
+// ---- a reading, whole
+
+// A reading as a struct of numbers.
+pub fn plain_of(reading: Reading) -> Plain
+    ensures { λ r. ⌜ r ≡ plainOf reading ⌝ }
+{
+    let answer = reading.answer;
+    let o = reading.observation;
+    let version = o.version;
+    let ittl = o.ittl;
+    let quirks = o.quirks;
+    let mss = o.mss;
+    let wscale = o.wscale;
+    let pclass = o.pclass;
+    let peer_mss = o.peer_mss;
+    let layout = o.olayout;
+    let kinds = layout.kinds;
+    let bytes = layout.bytes;
+    Plain {
+        answer: answer_number(answer),
+        version: version_number(version),
+        ttl: ttl_number(ittl),
+        olen: o.olen,
+        tos: o.tos,
+        tot_hdr: o.tot_hdr,
+        quirks: quirks.bits(),
+        mss: mss_number(mss),
+        wsize: o.wsize,
+        wscale: scale_number(wscale),
+        pclass: payload_number(pclass),
+        peer_mss: mss_number(peer_mss),
+        count: layout.count,
+        kinds,
+        bytes,
     }
 }
 
