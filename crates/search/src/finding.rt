@@ -153,7 +153,8 @@ pub(crate) fn holds_at(
     well_formed(raw, entries)
 }
 
-// How a record fits. Gates, TTL and quirks come first: only of a record that passes them is it asked whether it is well formed.
+// How a record that passes the gates fits. TTL and quirks come first: only of a record that passes them too is it asked whether it
+// is well formed.
 pub(crate) fn fit_at(
     observed: Features,
     kinds: &[u8],
@@ -162,15 +163,12 @@ pub(crate) fn fit_at(
     areas: Areas,
     i: usize,
 ) -> SignatureFit
-    requires { ⌜ AreasFit (now list) areas × (i < areas .records) ⌝ }
+    requires { ⌜ AreasFit (now list) areas × (i < areas .records) × (eqb (observed .count) (entryCount (recordAt (now list) i)) && scalarGates observed (signatureOf (recordAt (now list) i)) ≡ true) ⌝ }
     ensures { λ r. ⌜ r ≡ fitAt observed (now (kinds .entry)) (now (bytes .entry)) (now (list .entry)) i ⌝ }
 {
     let at = areas.records_offset + RECORD * i;
     let end_of_record = at + RECORD;
     let raw = &list[at..end_of_record];
-    if !gates_at(observed, raw) {
-        return SignatureFit::Nothing;
-    }
     let fit = tolerance(observed, signature_of(raw));
     if is_nothing(fit) {
         return SignatureFit::Nothing;
@@ -191,7 +189,7 @@ pub(crate) fn label_at(list: &[u8], areas: Areas, i: usize) -> u16
     be16(raw[22], raw[23])
 }
 
-// What is held after record i: its label is read only if it fits.
+// What is held after record i, which passes the gates: its label is read only if it fits.
 pub(crate) fn search_step(
     held: Found,
     observed: Features,
@@ -201,7 +199,7 @@ pub(crate) fn search_step(
     areas: Areas,
     i: usize,
 ) -> Found
-    requires { ⌜ AreasFit (now list) areas × (i < areas .records) ⌝ }
+    requires { ⌜ AreasFit (now list) areas × (i < areas .records) × (eqb (observed .count) (entryCount (recordAt (now list) i)) && scalarGates observed (signatureOf (recordAt (now list) i)) ≡ true) ⌝ }
     ensures { λ r. ⌜ r ≡ keep held (labelOf (recordAt (now (list .entry)) i)) (fitAt observed (now (kinds .entry)) (now (bytes .entry)) (now (list .entry)) i) ⌝ }
 {
     let fit = fit_at(observed, kinds, bytes, list, areas, i);
@@ -214,7 +212,7 @@ pub(crate) fn search_step(
 // The first record from one on that passes the gates, or the end: those before it leave a search as it is.
 pub(crate) fn next_candidate(observed: Features, list: &[u8], areas: Areas, from: usize) -> usize
     requires { ⌜ AreasFit (now list) areas × (from ≤ areas .records) ⌝ }
-    ensures { λ r. ⌜ (from ≤ r) × (r ≤ areas .records) × ((held : Found) (kinds bytes : List ℕ) → searchFrom held observed kinds bytes (now (list .entry)) (numbersFrom r (areas .records - r)) ≡ searchFrom held observed kinds bytes (now (list .entry)) (numbersFrom from (areas .records - from))) ⌝ }
+    ensures { λ r. ⌜ (from ≤ r) × (r ≤ areas .records) × (r < areas .records → eqb (observed .count) (entryCount (recordAt (now (list .entry)) r)) && scalarGates observed (signatureOf (recordAt (now (list .entry)) r)) ≡ true) × ((held : Found) (kinds bytes : List ℕ) → searchFrom held observed kinds bytes (now (list .entry)) (numbersFrom r (areas .records - r)) ≡ searchFrom held observed kinds bytes (now (list .entry)) (numbersFrom from (areas .records - from))) ⌝ }
 {
     let mut i = from;
     while i < areas.records {

@@ -1,5 +1,5 @@
 -- `search::fit_at` meets its contract.
-use Rattle.search.proofs.Fits.{gate-fails, not-tolerated, not-held, held-fit}
+use Rattle.search.proofs.Fits.{not-tolerated, not-held, held-fit}
 use Rattle.found.specs.Keep.{fitsNothing}
 use Rattle.matching.specs.Fit.{toleranceOf}
 use borrow.Author.Tests.{not-true, not-false}
@@ -26,16 +26,6 @@ part-raw-start c = search needs
 part-raw-end : tie.Need-part-raw-end
 part-raw-end c = search needs
 
-gates-at-requires : tie.Need-gates-at-requires
-gates-at-requires c κs = search needs
-
-returns : tie.Need-returns
-returns c =
-    let a = c .before .before .before .before .before .before .before .args in
-    let fits = c .before .before .before .before .before .before .before .pre .0 in
-    let inside = c .before .before .before .before .before .before .before .pre .1 in
-    sym (gate-fails (a .observed) (a .kinds .now) (a .bytes .now) (a .list .now) (a .areas) (a .i) fits inside (rw (← fits .recordsAt) (sym (c .before .gates-at .ensures) ∙ not-true (c .before .gates-at .result) (c .if1 .taken))))
-
 signature-of-requires : tie.Need-signature-of-requires
 signature-of-requires c κs = search needs
 
@@ -45,33 +35,34 @@ tolerance-requires c κs = search needs
 is-nothing-requires : tie.Need-is-nothing-requires
 is-nothing-requires c κs = search needs
 
+returns : tie.Need-returns
+returns c =
+    let a = c .before .before .before .before .before .before .before .before .before .args in
+    let fits = c .before .before .before .before .before .before .before .before .before .pre .0 in
+    let inside = c .before .before .before .before .before .before .before .before .before .pre .1 in
+    sym (not-tolerated (a .observed) (a .kinds .now) (a .bytes .now) (a .list .now) (a .areas) (a .i) fits inside (rw (← fits .recordsAt) (ap fitsNothing (sym (c .before .before .tolerance .ensures ∙ ap (toleranceOf (a .observed)) (c .before .before .before .signature-of .ensures))) ∙ sym (c .before .is-nothing .ensures) ∙ c .if1 .taken)))
+
+holds-at-requires : tie.Need-holds-at-requires
+holds-at-requires c κs = search needs
+
 returns-2 : tie.Need-returns-2
 returns-2 c =
     let a = c .before .before .before .before .before .before .before .before .before .before .before .args in
     let fits = c .before .before .before .before .before .before .before .before .before .before .before .pre .0 in
     let inside = c .before .before .before .before .before .before .before .before .before .before .before .pre .1 in
-    sym (not-tolerated (a .observed) (a .kinds .now) (a .bytes .now) (a .list .now) (a .areas) (a .i) fits inside (rw (← fits .recordsAt) (ap fitsNothing (sym (c .before .before .tolerance .ensures ∙ ap (toleranceOf (a .observed)) (c .before .before .before .signature-of .ensures))) ∙ sym (c .before .is-nothing .ensures) ∙ c .if2 .taken)))
-
-holds-at-requires : tie.Need-holds-at-requires
-holds-at-requires c κs = search needs
+    sym (not-held (a .observed) (a .kinds .now) (a .bytes .now) (a .list .now) (a .areas) (a .i) fits inside (sym (c .before .holds-at .ensures) ∙ not-true (c .before .holds-at .result) (c .if2 .taken)))
 
 returns-3 : tie.Need-returns-3
 returns-3 c =
-    let a = c .before .before .before .before .before .before .before .before .before .before .before .before .before .args in
-    let fits = c .before .before .before .before .before .before .before .before .before .before .before .before .before .pre .0 in
-    let inside = c .before .before .before .before .before .before .before .before .before .before .before .before .before .pre .1 in
-    sym (not-held (a .observed) (a .kinds .now) (a .bytes .now) (a .list .now) (a .areas) (a .i) fits inside (sym (c .before .holds-at .ensures) ∙ not-true (c .before .holds-at .result) (c .if3 .taken)))
-
-returns-4 : tie.Need-returns-4
-returns-4 c =
-    let a = c .before .before .before .before .before .before .before .before .before .before .before .before .before .args in
-    let fits = c .before .before .before .before .before .before .before .before .before .before .before .before .before .pre .0 in
-    let inside = c .before .before .before .before .before .before .before .before .before .before .before .before .before .pre .1 in
+    let a = c .before .before .before .before .before .before .before .before .before .before .before .args in
+    let fits = c .before .before .before .before .before .before .before .before .before .before .before .pre .0 in
+    let inside = c .before .before .before .before .before .before .before .before .before .before .before .pre .1 in
+    let gates = c .before .before .before .before .before .before .before .before .before .before .before .pre .2 in
     (c .before .before .before .before .tolerance .ensures ∙ ap (toleranceOf (a .observed)) (c .before .before .before .before .before .signature-of .ensures))
     ∙ sym
     (held-fit (a .observed) (a .kinds .now) (a .bytes .now) (a .list .now) (a .areas) (a .i) fits inside
-    (rw (← fits .recordsAt) (sym (c .before .before .before .before .before .before .before .gates-at .ensures) ∙ not-false (c .before .before .before .before .before .before .before .gates-at .result) (c .before .before .before .before .before .before .if1 .left)))
-    (sym (c .before .holds-at .ensures) ∙ not-false (c .before .holds-at .result) (c .if3 .left))
+    gates
+    (sym (c .before .holds-at .ensures) ∙ not-false (c .before .holds-at .result) (c .if2 .left))
     ∙ rw (← fits .recordsAt))
 
 pub fit-at-spec : {M : Type 1} → statement M
@@ -84,12 +75,10 @@ fit-at-spec =
     sub-raw
     part-raw-start
     part-raw-end
-    gates-at-requires
-    returns
     signature-of-requires
     tolerance-requires
     is-nothing-requires
-    returns-2
+    returns
     holds-at-requires
-    returns-3
-    returns-4)
+    returns-2
+    returns-3)

@@ -7,6 +7,7 @@ use Rattle.found.specs.declared.Found.{Found}
 use mathlib.Core.List.{List}
 use mathlib.Core.Path.{_≡_, refl, sym, _∙_}
 use Prim.Native.Nat.{ℕ, _+_, _-_, _≤_}
+use native.Mathlib.Omega.{arith}
 use borrow.Author.Needs.{needs}
 use Rattle.search.proofs.finding.next_candidate.Statement.{statement}
 use Rattle.search.proofs.finding.next_candidate.Tie as tie
@@ -46,7 +47,13 @@ gates-at-requires : tie.Need-gates-at-requires Inv-loop μ-loop
 gates-at-requires c κs = search needs
 
 returns : tie.Need-returns Inv-loop μ-loop
-returns c = (c .before .before .before .before .before .before .loop .inv .0, c .before .before .before .before .before .before .loop .inv .1, c .before .before .before .before .before .before .loop .inv .3)
+returns c =
+    let l = c .before .before .before .before .before .before .loop in (
+      l .inv .0,
+      l .inv .1,
+      λ inside. rw (← l .inv .2 .recordsAt) (sym (c .before .gates-at .ensures) ∙ c .if2 .taken),
+      l .inv .3,
+    )
 
 add-i : tie.Need-add-i Inv-loop μ-loop
 add-i c = search needs
@@ -69,7 +76,7 @@ loop-again c =
     )
 
 returns-2 : tie.Need-returns-2 Inv-loop μ-loop
-returns-2 c = (c .before .before .loop .inv .0, c .before .before .loop .inv .1, c .before .before .loop .inv .3)
+returns-2 c = (c .before .before .loop .inv .0, c .before .before .loop .inv .1, λ inside. absurd (omega arith), c .before .before .loop .inv .3)
 
 pub next-candidate-spec : {M : Type 1} → statement M
 next-candidate-spec =

@@ -31,11 +31,13 @@ returns c =
     let l = c .before .before .before .loop in
     let next = c .before .next-candidate in
     sym
-    (sym (next .ensures .2 (l .held) (a .kinds .now) (a .bytes .now) ∙ l .inv .3)
+    (sym (next .ensures .3 (l .held) (a .kinds .now) (a .bytes .now) ∙ l .inv .3)
     ∙ no-record (a .observed) (a .kinds .now) (a .bytes .now) (a .list .now) (l .held) (next .result) (a .areas .records) (c .if1 .taken))
 
 search-step-requires : tie.Need-search-step-requires Inv-loop μ-loop
-search-step-requires c κs = search needs
+search-step-requires c κs =
+    let gates = c .before .before .before .next-candidate .ensures .2 (search needs) in
+    search needs
 
 is-exact-requires : tie.Need-is-exact-requires Inv-loop μ-loop
 is-exact-requires c κs = search needs
@@ -50,7 +52,7 @@ returns-2 c =
     (sym
     (ap (λ (h : Found). searchFrom h (a .observed) (a .kinds .now) (a .bytes .now) (a .list .now) (numbersFrom (next .result + 1) (a .areas .records - (next .result + 1)))) (step .ensures)
     ∙ one-record (a .observed) (a .kinds .now) (a .bytes .now) (a .list .now) (l .held) (next .result) (a .areas .records) ((c .before .before .before .before .before .if1 .left))
-    ∙ next .ensures .2 (l .held) (a .kinds .now) (a .bytes .now)
+    ∙ next .ensures .3 (l .held) (a .kinds .now) (a .bytes .now)
     ∙ l .inv .3)
     ∙ exact-ends (a .observed) (a .kinds .now) (a .bytes .now) (a .list .now) (step .result) (numbersFrom (next .result + 1) (a .areas .records - (next .result + 1))) (sym (c .before .is-exact .ensures) ∙ c .if2 .taken))
 
@@ -71,7 +73,7 @@ loop-again c =
       l .inv .2,
       ap (λ (h : Found). searchFrom h (a .observed) (a .kinds .now) (a .bytes .now) (a .list .now) (numbersFrom (next .result + 1) (a .areas .records - (next .result + 1)))) (step .ensures)
           ∙ one-record (a .observed) (a .kinds .now) (a .bytes .now) (a .list .now) (l .held) (next .result) (a .areas .records) ((c .before .before .before .before .before .if1 .left))
-          ∙ next .ensures .2 (l .held) (a .kinds .now) (a .bytes .now)
+          ∙ next .ensures .3 (l .held) (a .kinds .now) (a .bytes .now)
           ∙ l .inv .3,
     )
 

@@ -1,0 +1,35 @@
+// What tools/benchmark counts, in an archive of its own; not part of the product.
+ghost use mathlib.Core.Path.{_≡_};
+ghost use Rattle.counted.specs.Counted.{peerOf, observed, found};
+use tcp::Mss;
+use witness::Plain;
+use witness::found::found_number;
+use witness::shown::plain_of;
+
+// A peer's MSS of 0 is an absent one.
+fn peer_of(size: u16) -> Mss
+    ensures { λ r. ⌜ r ≡ peerOf size ⌝ }
+{
+    if size == 0 {
+        return Mss::Absent;
+    }
+    Mss::Present(size)
+}
+
+// The reading of a packet, whole.
+#[no_mangle]
+pub extern "C" fn counted_observe(packet: &[u8], peer: u16) -> Plain
+    ensures { λ r. ⌜ r ≡ observed (now (packet .entry)) peer ⌝ }
+{
+    plain_of(flow::read_packet(packet, peer_of(peer)))
+}
+
+// From a packet to what the search of a checked list finds for it.
+#[no_mangle]
+pub extern "C" fn counted_answer(packet: &[u8], peer: u16, list: &[u8]) -> u64
+    ensures { λ r. ⌜ r ≡ found (now (packet .entry)) peer (now (list .entry)) ⌝ }
+{
+    let reading = flow::read_packet(packet, peer_of(peer));
+    let observation = reading.observation;
+    found_number(search::search_checked(observation, list), 0)
+}
