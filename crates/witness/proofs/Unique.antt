@@ -1,0 +1,32 @@
+-- Exactly one result meets each function's own contract.
+use Prim.Native.Nat.{ℕ}
+use mathlib.Core.List.{List}
+use contract.Lifetimes.{Lfts}
+use denote.Ref.{RefT, now}
+use Rattle.basis.specs.Unique.{ExactlyOne}
+use Rattle.basis.proofs.Unique.{equation}
+use Rattle.witness.specs.Reading.{packetNumber, optionsNumber}
+use Rattle.witness.specs.Searching.{hopsOf, searchNumber}
+use Rattle.witness.proofs.witness_packet.Reads as witness-packet'
+use Rattle.witness.proofs.witness_options.Reads as witness-options'
+use Rattle.witness.proofs.witness_search.Reads as witness-search'
+use Rattle.witness.proofs.witness_hops.Reads as witness-hops'
+
+pub witness-packet-one
+    : (κs : Lfts 1) (packet : RefT (List ℕ)) (peer which : ℕ)
+    → ExactlyOne ℕ (λ (r : ℕ). witness-packet'.Post κs (packet, (peer, (which, tt))) r (packet, (peer, (which, tt))))
+witness-packet-one κs packet peer which = equation (packetNumber (now packet) peer which)
+
+pub witness-options-one
+    : (κs : Lfts 1) (options : RefT (List ℕ)) (which : ℕ)
+    → ExactlyOne ℕ (λ (r : ℕ). witness-options'.Post κs (options, (which, tt)) r (options, (which, tt)))
+witness-options-one κs options which = equation (optionsNumber (now options) which)
+
+pub witness-search-one
+    : (κs : Lfts 2) (observation list : RefT (List ℕ)) (which : ℕ)
+    → ExactlyOne ℕ (λ (r : ℕ). witness-search'.Post κs (observation, (list, (which, tt))) r (observation, (list, (which, tt))))
+witness-search-one κs observation list which = equation (searchNumber (now observation) (now list) which)
+
+pub witness-hops-one
+    : (κs : Lfts 1) (ttls : RefT (List ℕ)) → ExactlyOne ℕ (λ (r : ℕ). witness-hops'.Post κs (ttls, tt) r (ttls, tt))
+witness-hops-one κs ttls = equation (hopsOf (now ttls))

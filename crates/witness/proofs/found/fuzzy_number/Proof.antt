@@ -1,0 +1,60 @@
+-- `witness::fuzzy_number` meets its contract.
+use Rattle.basis.proofs.Rules.{cases}
+use Rattle.witness.specs.Searching.{fuzzyNumber}
+use borrow.Author.Needs.{needs}
+use Rattle.witness.proofs.found.fuzzy_number.Statement.{statement}
+use Rattle.witness.proofs.found.fuzzy_number.Tie as tie
+
+add-result : tie.Need-add-result
+add-result c = search needs
+
+returns : tie.Need-returns
+unfolding fuzzyNumber
+returns c = search cases
+
+hops-number-requires : tie.Need-hops-number-requires
+hops-number-requires c κs = search needs
+
+returns-2 : tie.Need-returns-2
+unfolding fuzzyNumber
+returns-2 c = search cases
+
+bits-requires : tie.Need-bits-requires
+bits-requires c κs = search needs
+
+wide32-requires : tie.Need-wide32-requires
+wide32-requires c κs = search needs
+
+returns-3 : tie.Need-returns-3
+unfolding fuzzyNumber
+returns-3 c = simp (← c .before .bits .ensures, ← c .wide32 .ensures) (search cases)
+
+bits-requires-2 : tie.Need-bits-requires-2
+bits-requires-2 c κs = search needs
+
+wide32-requires-2 : tie.Need-wide32-requires-2
+wide32-requires-2 c κs = search needs
+
+returns-4 : tie.Need-returns-4
+unfolding fuzzyNumber
+returns-4 c = simp (← c .before .bits2 .ensures, ← c .wide322 .ensures) (search cases)
+
+returns-5 : tie.Need-returns-5
+unfolding fuzzyNumber
+returns-5 c = search cases
+
+pub fuzzy-number-spec : {M : Type 1} → statement M
+fuzzy-number-spec =
+    tie.close
+    (tie.spec
+    add-result
+    returns
+    hops-number-requires
+    returns-2
+    bits-requires
+    wide32-requires
+    returns-3
+    bits-requires-2
+    wide32-requires-2
+    returns-4
+    returns-5)

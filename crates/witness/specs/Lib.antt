@@ -1,0 +1,3 @@
+pub mod Observed
+pub mod Reading
+pub mod Searching

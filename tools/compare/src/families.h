@@ -1,0 +1,22 @@
+/* The families of inputs. The counts of random inputs are divided by share. */
+#ifndef FAMILIES_H
+#define FAMILIES_H
+
+#include <stddef.h>
+#include <stdint.h>
+
+void packet_families(unsigned share);
+void option_families(unsigned share);
+void search_families(unsigned share);
+void pair_families(unsigned share);
+
+/* Base packets and base option strings, from which single bytes and lengths are changed. */
+enum { BASES = 12, BASE_MOST = 128, STRINGS = 6 };
+size_t base_packet(int i, uint8_t *p);
+size_t base_string(int i, uint8_t *s);
+
+/* Lists of one record at the boundary of a condition, numbered from 0: an observation, a list and its size. */
+int boundaries(void);
+size_t boundary(int i, uint8_t *observation, uint8_t *list);
+
+#endif

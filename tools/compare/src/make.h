@@ -1,0 +1,33 @@
+/* Random inputs, the same in every run of one seed. */
+#ifndef MAKE_H
+#define MAKE_H
+
+#include "numbers.h"
+
+typedef struct {
+    uint64_t state;
+} Random;
+
+enum { PACKET_MOST = 256, LIST_MOST = 2048, RECORDS_MOST = 12 };
+
+uint32_t draw(Random *r);
+uint32_t below(Random *r, uint32_t n);
+int chance(Random *r, uint32_t percent);
+uint8_t byte_of(Random *r);
+
+/* An option string of at most 40 bytes, made of options. */
+size_t make_options(Random *r, uint8_t *s);
+
+/* A packet of version 4 or 6 whose lengths agree, and what may befall one. */
+size_t make_packet(Random *r, uint8_t *p);
+size_t damage_packet(Random *r, uint8_t *p, size_t size);
+uint16_t make_peer(Random *r);
+
+/* An observation that no packet need give. */
+void make_observation(Random *r, uint8_t *o);
+
+/* A list whose records are derived from an observation, each changed so many times. */
+size_t make_list(Random *r, const uint8_t *o, unsigned records, unsigned changes, uint8_t *list);
+size_t damage_list(Random *r, uint8_t *list, size_t size);
+
+#endif

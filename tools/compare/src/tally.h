@@ -1,0 +1,27 @@
+/* What is counted: inputs and answers by family, quirks and the like over all, and differences. */
+#ifndef TALLY_H
+#define TALLY_H
+
+#include "numbers.h"
+
+typedef enum { PACKET, OPTIONS, SEARCH, PAIR, HOPS } Kind;
+
+void family(const char *name, Kind kind);
+
+/* Ask both sides, count the answer, and note a difference; the original's answer is handed back. */
+Numbers try_packet(const uint8_t *p, size_t size, uint16_t peer, uint8_t *observation);
+void try_options(const uint8_t *s, size_t size);
+Numbers try_search(const uint8_t *observation, const uint8_t *list, size_t size);
+
+void try_hops(const uint8_t ttls[6]);
+
+/* Two answers of the port that should be one; p is the input that is shown if they are not. */
+void try_pair(const Numbers *a, const Numbers *b, const uint8_t *p, size_t size);
+
+/* The place, 1 to 12, of the divisor that gives an observation's multiplier; 0 if there is none. */
+int first_divisor(const uint8_t *observation);
+
+/* Prints the tables; gives the number of differences. */
+uint64_t report(void);
+
+#endif
