@@ -116,8 +116,9 @@ fn answers(bundle: &Bundle, unchecked: bool) -> Result<Vec<Answer>, ListRefusal>
 }
 
 fn output(bytes: &[u8], options: Options) -> String {
-    let Some(bundle) = read_bundle(bytes) else {
-        return "refused 12\n".into();
+    let bundle = match read_bundle(bytes) {
+        Some(bundle) => bundle,
+        None => return "refused 12\n".into(),
     };
     match answers(&bundle, options.unchecked) {
         Err(refusal) => list_refusal_text(refusal, options.reasons) + "\n",
