@@ -6,8 +6,8 @@ def lines(*answers):
     return f"packets {len(answers)}\n" + "".join(a + "\n" for a in answers)
 
 
-def each_packet():
-    """One packet of each kind of line, and of each way to a refusal, against the record of the whole example."""
+def answered():
+    """A packet of each kind of line that is no refusal, against the record of the whole example."""
     yield "exact", A, "syn exact 7"
     yield "TTL out of range", B, "syn fuzzy 7"
     yield "no DF: df missing", v4(tcp(), identity=1, fragment=0), "syn fuzzy 7"
@@ -29,6 +29,10 @@ def each_packet():
     yield "version 6, SYN+ACK", v6(tcp(flags=0x12, ack=1)), "synack exact 7"
     for flags in (0x10, 0x01, 0x04, 0x11, 0x14, 0x18):
         yield f"flags {flags:#x}", v4(tcp(flags=flags, ack=1)), "nothing"
+
+
+def refused():
+    """A packet of each way to a refusal."""
     yield "empty", b"", "refused 1"
     for first in (0x00, 0x35, 0x50, 0x75, 0xF5):
         yield f"first byte {first:#x}", v4(tcp(), first=first), "refused 1"
@@ -52,7 +56,7 @@ def each_packet():
 
 
 def packets():
-    every = list(each_packet())
+    every = list(answered()) + list(refused())
     for name, data, answer in every:
         yield f"one packet: {name}", bundle([data]), lines(answer)
     yield "all of them in one bundle", bundle([data for _, data, _ in every]), lines(*(answer for _, _, answer in every))
