@@ -1,0 +1,143 @@
+/* The terminal reader called from C: reads a bundle (document 01) on standard input and prints what the program `termread` prints.
+
+   usage: gateway [-r] [-u] <BUNDLE
+     -r   print the reason of a fuzzy answer, and what a refusal gives, behind each line
+     -u   have the list checked with each packet, instead of once
+
+   Built and run by tools/link_examples:
+     gcc -std=c99 -O2 -I include -o gateway examples/gateway.c target/staticlib/libgateway.a */
+#include "termread.h"
+
+#include <stdio.h>
+#include <string.h>
+
+enum { BUNDLE_MOST = 65535, BUNDLE_HEADER = 8, BEFORE_PACKET = 4 };
+
+struct options {
+    int reasons;
+    int unchecked;
+};
+
+static size_t be16(const uint8_t *at) { return (size_t)at[0] * 256 + at[1]; }
+
+/* ---- an answer as text */
+
+static void print_quirks(const char *word, uint32_t quirks) {
+    static const struct {
+        uint32_t bit;
+        const char *name;
+    } names[] = {
+        {TERMREAD_QUIRK_ECN, "ecn"},
+        {TERMREAD_QUIRK_DF, "df"},
+        {TERMREAD_QUIRK_ID_NONZERO, "id+"},
+        {TERMREAD_QUIRK_ID_ZERO, "id-"},
+    };
+    size_t i;
+    for (i = 0; i < sizeof names / sizeof names[0]; i++)
+        if (quirks & names[i].bit) printf(" %s %s", word, names[i].name);
+}
+
+static void print_refused(uint64_t code, int reasons) {
+    printf("refused %u", termread_refusal(code));
+    if (reasons && termread_refusal(code) == TERMREAD_REFUSED_FLAGS) printf(" flags %u", termread_flags(code));
+    if (reasons && termread_refusal(code) == TERMREAD_REFUSED_RECORD) printf(" record %u", termread_bad_record(code));
+}
+
+static void print_reason(uint64_t code) {
+    if (termread_out_of_range(code)) printf(" hops %u", termread_hops(code));
+    print_quirks("added", termread_added(code));
+    print_quirks("missing", termread_missing(code));
+}
+
+/* Each outcome is asked for by its name: a fuzzy answer can not pass for an exact one. */
+static void print_answer(uint64_t code, int reasons) {
+    const char *kind = termread_kind(code) == TERMREAD_SYN ? "syn" : "synack";
+    switch (termread_outcome(code)) {
+    case TERMREAD_EXACT: printf("%s exact %u", kind, termread_label(code)); break;
+    case TERMREAD_FUZZY:
+        printf("%s fuzzy %u", kind, termread_label(code));
+        if (reasons) print_reason(code);
+        break;
+    case TERMREAD_NONE: printf("%s none", kind); break;
+    case TERMREAD_NOTHING: printf("nothing"); break;
+    case TERMREAD_REFUSED: print_refused(code, reasons); break;
+    default: printf("unknown code");
+    }
+    printf("\n");
+}
+
+/* ---- a bundle */
+
+/* The end of the packet that starts at a place, or 0 if it does not fit. */
+static size_t packet_end(const uint8_t *bundle, size_t length, size_t at) {
+    size_t end;
+    if (at > length || length - at < BEFORE_PACKET) return 0;
+    end = at + BEFORE_PACKET + be16(bundle + at + 2);
+    return end <= length ? end : 0;
+}
+
+static int bundle_fits(const uint8_t *bundle, size_t length) {
+    size_t at, left;
+    if (length > BUNDLE_MOST || length < BUNDLE_HEADER) return 0;
+    if (be16(bundle + 6) + be16(bundle + 4) > length) return 0;
+    at = be16(bundle + 2);
+    for (left = be16(bundle); left > 0; left--) {
+        at = packet_end(bundle, length, at);
+        if (at == 0) return 0;
+    }
+    return at <= length;
+}
+
+static void print_packets(const uint8_t *bundle, size_t length, struct options options) {
+    const uint8_t *list = bundle + be16(bundle + 6);
+    size_t list_length = be16(bundle + 4), at = be16(bundle + 2), left;
+    printf("packets %zu\n", be16(bundle));
+    for (left = be16(bundle); left > 0; left--) {
+        const uint8_t *packet = bundle + at + BEFORE_PACKET;
+        uint16_t peer = (uint16_t)be16(bundle + at);
+        size_t size = be16(bundle + at + 2);
+        uint64_t code = options.unchecked ? termread_answer(packet, size, peer, list, list_length)
+                                          : termread_answer_checked(packet, size, peer, list, list_length);
+        print_answer(code, options.reasons);
+        at = packet_end(bundle, length, at);
+    }
+}
+
+/* TERMREAD_GOOD, or the code of the list's refusal. With -u the list is refused by the answer of an empty packet, whose own refusal
+   comes after the list's. */
+static uint64_t list_code(const uint8_t *list, size_t length, int unchecked) {
+    uint64_t code;
+    if (!unchecked) return termread_check_list(list, length);
+    code = termread_answer(list, 0, 0, list, length);
+    return termread_refusal(code) == TERMREAD_REFUSED_VERSION ? TERMREAD_GOOD : code;
+}
+
+static void print_bundle(const uint8_t *bundle, size_t length, struct options options) {
+    uint64_t code;
+    if (!bundle_fits(bundle, length)) {
+        printf("refused %d\n", TERMREAD_REFUSED_BUNDLE);
+        return;
+    }
+    code = list_code(bundle + be16(bundle + 6), be16(bundle + 4), options.unchecked);
+    if (code != TERMREAD_GOOD) {
+        print_answer(code, options.reasons);
+        return;
+    }
+    print_packets(bundle, length, options);
+}
+
+int main(int count, char **words) {
+    static uint8_t bundle[BUNDLE_MOST + 1];
+    struct options options = {0, 0};
+    size_t length;
+    int i;
+    for (i = 1; i < count; i++) {
+        if (strcmp(words[i], "-r") == 0) options.reasons = 1;
+        else if (strcmp(words[i], "-u") == 0) options.unchecked = 1;
+        else return fprintf(stderr, "usage: gateway [-r] [-u] <BUNDLE\n"), 2;
+    }
+    length = fread(bundle, 1, sizeof bundle, stdin);
+    if (ferror(stdin)) return fprintf(stderr, "gateway: standard input could not be read\n"), 1;
+    print_bundle(bundle, length, options);
+    return 0;
+}

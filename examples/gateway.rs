@@ -1,0 +1,153 @@
+//! The terminal reader called from Rust: reads a bundle (document 01) on standard input and prints what the program `termread` prints.
+//!
+//! usage: gateway [-r] [-u] <BUNDLE, as examples/gateway.c. Built and run by tools/link_examples:
+//!     rustc --edition 2021 -O -o gateway examples/gateway.rs -C link-arg=target/staticlib/libgateway.a
+
+mod termread;
+
+use std::io::{self, Read, Write};
+use std::process::ExitCode;
+use termread::{answer, Answer, Kind, List, ListRefusal, PacketRefusal, Quirk, Quirks, Reason};
+
+const BUNDLE_MOST: usize = 65535;
+
+#[derive(Clone, Copy, Default)]
+struct Options {
+    reasons: bool,
+    unchecked: bool,
+}
+
+/// What a bundle holds: its packets, each with the MSS of its peer, and its list.
+struct Bundle<'a> {
+    packets: Vec<(u16, &'a [u8])>,
+    list: &'a [u8],
+}
+
+fn be16(bytes: &[u8], at: usize) -> Option<usize> {
+    let pair = bytes.get(at..at.checked_add(2)?)?;
+    Some(usize::from(u16::from_be_bytes([pair[0], pair[1]])))
+}
+
+/// None is refusal 12.
+fn read_bundle(bytes: &[u8]) -> Option<Bundle<'_>> {
+    if bytes.len() > BUNDLE_MOST {
+        return None;
+    }
+    let (count, mut at) = (be16(bytes, 0)?, be16(bytes, 2)?);
+    let (list_length, list_at) = (be16(bytes, 4)?, be16(bytes, 6)?);
+    let list = bytes.get(list_at..list_at + list_length)?;
+    let mut packets = Vec::with_capacity(count);
+    for _ in 0..count {
+        let (peer, length) = (be16(bytes, at)?, be16(bytes, at + 2)?);
+        packets.push((peer as u16, bytes.get(at + 4..at + 4 + length)?));
+        at += 4 + length;
+    }
+    (at <= bytes.len()).then_some(Bundle { packets, list })
+}
+
+fn quirks_text(word: &str, quirks: Quirks) -> String {
+    let name = |quirk| match quirk {
+        Quirk::Ecn => "ecn",
+        Quirk::Df => "df",
+        Quirk::IdNonZero => "id+",
+        Quirk::IdZero => "id-",
+    };
+    quirks.iter().map(|quirk| format!(" {word} {}", name(quirk))).collect()
+}
+
+fn reason_text(reason: Reason) -> String {
+    let hops = reason.hops.map_or(String::new(), |hops| format!(" hops {hops}"));
+    hops + &quirks_text("added", reason.added) + &quirks_text("missing", reason.missing)
+}
+
+fn kind_text(kind: Kind) -> &'static str {
+    match kind {
+        Kind::Syn => "syn",
+        Kind::SynAck => "synack",
+    }
+}
+
+fn refusal_text(refusal: PacketRefusal, reasons: bool) -> String {
+    let number = match refusal {
+        PacketRefusal::Version => 1,
+        PacketRefusal::TooShort => 2,
+        PacketRefusal::HeaderLength => 3,
+        PacketRefusal::UnsupportedProtocol => 4,
+        PacketRefusal::Fragment => 5,
+        PacketRefusal::TcpTooShort => 6,
+        PacketRefusal::InvalidTcpFlags(_) => 7,
+    };
+    match refusal {
+        PacketRefusal::InvalidTcpFlags(flags) if reasons => format!("refused {number} flags {flags}"),
+        _ => format!("refused {number}"),
+    }
+}
+
+fn list_refusal_text(refusal: ListRefusal, reasons: bool) -> String {
+    match refusal {
+        ListRefusal::DoesNotFit => "refused 9".into(),
+        ListRefusal::BadRecord(index) if reasons => format!("refused 10 record {index}"),
+        ListRefusal::BadRecord(_) => "refused 10".into(),
+    }
+}
+
+fn answer_text(answer: Answer, reasons: bool) -> String {
+    match answer {
+        Answer::Exact { kind, label } => format!("{} exact {label}", kind_text(kind)),
+        Answer::Fuzzy { kind, label, reason } => {
+            let why = if reasons { reason_text(reason) } else { String::new() };
+            format!("{} fuzzy {label}{why}", kind_text(kind))
+        }
+        Answer::None { kind } => format!("{} none", kind_text(kind)),
+        Answer::Nothing => "nothing".into(),
+        Answer::Refused(refusal) => refusal_text(refusal, reasons),
+    }
+}
+
+/// The answers of a bundle's packets; with -u the list is checked with each, an empty one first.
+fn answers(bundle: &Bundle, unchecked: bool) -> Result<Vec<Answer>, ListRefusal> {
+    let peer = |mss| (mss != 0).then_some(mss);
+    if unchecked {
+        answer(&[], None, bundle.list)?;
+        return bundle.packets.iter().map(|&(mss, packet)| answer(packet, peer(mss), bundle.list)).collect();
+    }
+    let list = List::new(bundle.list)?;
+    Ok(bundle.packets.iter().map(|&(mss, packet)| list.answer(packet, peer(mss))).collect())
+}
+
+fn output(bytes: &[u8], options: Options) -> String {
+    let bundle = match read_bundle(bytes) {
+        Some(bundle) => bundle,
+        None => return "refused 12\n".into(),
+    };
+    match answers(&bundle, options.unchecked) {
+        Err(refusal) => list_refusal_text(refusal, options.reasons) + "\n",
+        Ok(answers) => {
+            let lines = answers.into_iter().map(|answer| answer_text(answer, options.reasons) + "\n");
+            format!("packets {}\n", bundle.packets.len()) + &lines.collect::<String>()
+        }
+    }
+}
+
+fn main() -> ExitCode {
+    let mut options = Options::default();
+    for word in std::env::args().skip(1) {
+        match word.as_str() {
+            "-r" => options.reasons = true,
+            "-u" => options.unchecked = true,
+            _ => {
+                eprintln!("usage: gateway [-r] [-u] <BUNDLE");
+                return ExitCode::from(2);
+            }
+        }
+    }
+    let mut bytes = Vec::new();
+    let read = io::stdin().lock().take(BUNDLE_MOST as u64 + 1).read_to_end(&mut bytes);
+    match read.and_then(|_| io::stdout().write_all(output(&bytes, options).as_bytes())) {
+        Ok(()) => ExitCode::SUCCESS,
+        Err(error) => {
+            eprintln!("gateway: {error}");
+            ExitCode::FAILURE
+        }
+    }
+}

@@ -1,0 +1,209 @@
+//! The terminal reader for Rust: a safe wrapper over libgateway.a, to be copied. include/termread.h has the same in C.
+//!
+//! Nothing checks the declarations below against the library's source: tools/link_examples compares the answers that come through
+//! them with what the program `termread` prints.
+
+/// Of which packet an answer is.
+#[derive(Clone, Copy, Debug, PartialEq, Eq)]
+pub enum Kind {
+    Syn,
+    SynAck,
+}
+
+/// A quirk that a fuzzy answer may tolerate.
+#[derive(Clone, Copy, Debug, PartialEq, Eq)]
+pub enum Quirk {
+    Ecn,
+    Df,
+    IdNonZero,
+    IdZero,
+}
+
+/// A set of such quirks, by their bits in a list's record.
+#[derive(Clone, Copy, Debug, PartialEq, Eq)]
+pub struct Quirks(u8);
+
+impl Quirks {
+    pub const ALL: [Quirk; 4] = [Quirk::Ecn, Quirk::Df, Quirk::IdNonZero, Quirk::IdZero];
+
+    pub fn contains(self, quirk: Quirk) -> bool {
+        let bit = match quirk {
+            Quirk::Ecn => 1,
+            Quirk::Df => 2,
+            Quirk::IdNonZero => 4,
+            Quirk::IdZero => 8,
+        };
+        self.0 & bit != 0
+    }
+
+    pub fn iter(self) -> impl Iterator<Item = Quirk> {
+        Self::ALL.into_iter().filter(move |quirk| self.contains(*quirk))
+    }
+}
+
+/// Why an answer is only fuzzy.
+#[derive(Clone, Copy, Debug, PartialEq, Eq)]
+pub struct Reason {
+    /// The hop distance, if the TTL is out of the record's range.
+    pub hops: Option<u8>,
+    /// Quirks that the packet shows and the record does not.
+    pub added: Quirks,
+    /// Quirks of the record that the packet does not show.
+    pub missing: Quirks,
+}
+
+/// Why a packet has no answer.
+#[derive(Clone, Copy, Debug, PartialEq, Eq)]
+pub enum PacketRefusal {
+    Version,
+    TooShort,
+    HeaderLength,
+    UnsupportedProtocol,
+    Fragment,
+    TcpTooShort,
+    InvalidTcpFlags(u8),
+}
+
+/// Why a list is of no use.
+#[derive(Clone, Copy, Debug, PartialEq, Eq)]
+pub enum ListRefusal {
+    DoesNotFit,
+    /// The index of the first bad record.
+    BadRecord(u16),
+}
+
+/// The answer of a packet. Exact, fuzzy and none are three cases, and a `match` has to name each.
+#[derive(Clone, Copy, Debug, PartialEq, Eq)]
+pub enum Answer {
+    /// A record fits, and nothing was tolerated.
+    Exact { kind: Kind, label: u16 },
+    /// A record fits, but for what the reason names.
+    Fuzzy { kind: Kind, label: u16, reason: Reason },
+    /// No record of the list fits.
+    None { kind: Kind },
+    /// A good packet that is neither SYN nor SYN+ACK.
+    Nothing,
+    Refused(PacketRefusal),
+}
+
+/// A signature list that was found well formed.
+#[derive(Clone, Copy, Debug)]
+pub struct List<'a>(&'a [u8]);
+
+impl<'a> List<'a> {
+    pub fn new(bytes: &'a [u8]) -> Result<List<'a>, ListRefusal> {
+        // SAFETY: pointer and length are those of one slice, which the callee only reads.
+        match unsafe { termread_check_list(bytes.as_ptr(), bytes.len()) } {
+            0 => Ok(List(bytes)),
+            code => Err(Code(code).list_refusal().unwrap_or_else(|| Code(code).unknown())),
+        }
+    }
+
+    /// The answer of a packet, from its IP header on. Only a SYN+ACK's depends on the MSS that its peer announced; 0 counts as none.
+    pub fn answer(self, packet: &[u8], peer_mss: Option<u16>) -> Answer {
+        let peer = peer_mss.unwrap_or(0);
+        // SAFETY: as above, for two slices.
+        let code = unsafe {
+            termread_answer_checked(packet.as_ptr(), packet.len(), peer, self.0.as_ptr(), self.0.len())
+        };
+        Code(code).answer().unwrap_or_else(|| Code(code).unknown())
+    }
+}
+
+/// The answer of a packet against a list that is checked anew.
+pub fn answer(packet: &[u8], peer_mss: Option<u16>, list: &[u8]) -> Result<Answer, ListRefusal> {
+    let peer = peer_mss.unwrap_or(0);
+    // SAFETY: as above.
+    let code = unsafe { termread_answer(packet.as_ptr(), packet.len(), peer, list.as_ptr(), list.len()) };
+    match Code(code).list_refusal() {
+        Some(refusal) => Err(refusal),
+        None => Ok(Code(code).answer().unwrap_or_else(|| Code(code).unknown())),
+    }
+}
+
+/// An answer as one number: crates/gateway/specs/Code.antt.
+#[derive(Clone, Copy)]
+struct Code(u64);
+
+impl Code {
+    fn byte(self, place: u32) -> u8 {
+        (self.0 >> (8 * place)) as u8
+    }
+
+    fn value(self) -> u16 {
+        (self.0 >> 16) as u16
+    }
+
+    fn kind(self) -> Option<Kind> {
+        match self.byte(1) {
+            1 => Some(Kind::Syn),
+            2 => Some(Kind::SynAck),
+            _ => None,
+        }
+    }
+
+    fn reason(self) -> Reason {
+        Reason {
+            hops: (self.byte(7) == 1).then(|| self.byte(6)),
+            added: Quirks(self.byte(4)),
+            missing: Quirks(self.byte(5)),
+        }
+    }
+
+    fn packet_refusal(self) -> Option<PacketRefusal> {
+        Some(match self.byte(1) {
+            1 => PacketRefusal::Version,
+            2 => PacketRefusal::TooShort,
+            3 => PacketRefusal::HeaderLength,
+            4 => PacketRefusal::UnsupportedProtocol,
+            5 => PacketRefusal::Fragment,
+            6 => PacketRefusal::TcpTooShort,
+            7 => PacketRefusal::InvalidTcpFlags(self.byte(2)),
+            _ => return None,
+        })
+    }
+
+    fn list_refusal(self) -> Option<ListRefusal> {
+        match (self.byte(0), self.byte(1)) {
+            (5, 9) => Some(ListRefusal::DoesNotFit),
+            (5, 10) => Some(ListRefusal::BadRecord(self.value())),
+            _ => None,
+        }
+    }
+
+    fn answer(self) -> Option<Answer> {
+        let label = self.value();
+        Some(match self.byte(0) {
+            1 => Answer::Exact { kind: self.kind()?, label },
+            2 => Answer::Fuzzy { kind: self.kind()?, label, reason: self.reason() },
+            3 => Answer::None { kind: self.kind()? },
+            4 => Answer::Nothing,
+            5 => Answer::Refused(self.packet_refusal()?),
+            _ => return None,
+        })
+    }
+
+    /// The library promises that this is not reached; it would mean that another library was linked.
+    fn unknown(self) -> ! {
+        panic!("the linked terminal reader gave the unknown code {:#x}", self.0)
+    }
+}
+
+// A slice goes as its pointer and its length.
+extern "C" {
+    fn termread_check_list(list: *const u8, list_length: usize) -> u64;
+    fn termread_answer_checked(
+        packet: *const u8,
+        packet_length: usize,
+        peer_mss: u16,
+        list: *const u8,
+        list_length: usize,
+    ) -> u64;
+    fn termread_answer(
+        packet: *const u8,
+        packet_length: usize,
+        peer_mss: u16,
+        list: *const u8,
+        list_length: usize,
+    ) -> u64;
+}
