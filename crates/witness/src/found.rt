@@ -2,9 +2,9 @@
 ghost use mathlib.Core.Path.{_≡_};
 ghost use Rattle.witness.specs.Searching.{firstOnly, hopsNumber, fuzzyNumber, foundNumber, badNumber, answerOfSearch};
 use crate::shown::wide32;
+use found::Found;
 use matching::FuzzyReason;
 use matching::Hops;
-use found::Found;
 use search::SearchAnswer;
 
 // A number that stands alone: all others are 0.
