@@ -3,7 +3,7 @@ ghost use mathlib.Core.Path.{_≡_};
 ghost use Rattle.counted.specs.Counted.{peerOf, observed, found};
 use tcp::Mss;
 use witness::Plain;
-use witness::found::found_number;
+use witness::searched::found_number;
 use witness::shown::plain_of;
 
 // A peer's MSS of 0 is an absent one.

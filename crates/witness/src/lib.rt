@@ -5,14 +5,14 @@ ghost use Rattle.witness.specs.Searching.{hopsOf, searchNumber};
 use decoded::mss_of;
 use decoded::observation_of;
 use decoded::ttl_from;
-use found::answer_of_search;
+use searched::answer_of_search;
 use shown::answer_number;
 use shown::observation_number;
 use shown::options_number;
 use shown::wide8;
 
 mod decoded;
-pub mod found;
+pub mod searched;
 pub mod shown;
 
 // A reading as a struct of numbers: those of witness_packet, but for the multiplier.

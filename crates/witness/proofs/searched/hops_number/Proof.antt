@@ -1,7 +1,7 @@
 -- `witness::hops_number` meets its contract.
 use borrow.Author.Needs.{needs}
-use Rattle.witness.proofs.found.hops_number.Statement.{statement}
-use Rattle.witness.proofs.found.hops_number.Tie as tie
+use Rattle.witness.proofs.searched.hops_number.Statement.{statement}
+use Rattle.witness.proofs.searched.hops_number.Tie as tie
 
 enum-told : tie.Need-enum-told
 enum-told c = search needs

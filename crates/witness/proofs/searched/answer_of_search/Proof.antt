@@ -1,7 +1,7 @@
 -- `witness::answer_of_search` meets its contract.
 use borrow.Author.Needs.{needs}
-use Rattle.witness.proofs.found.answer_of_search.Statement.{statement}
-use Rattle.witness.proofs.found.answer_of_search.Tie as tie
+use Rattle.witness.proofs.searched.answer_of_search.Statement.{statement}
+use Rattle.witness.proofs.searched.answer_of_search.Tie as tie
 
 enum-known-answer : tie.Need-enum-known-answer
 enum-known-answer c = search needs

@@ -1,7 +1,7 @@
 -- `witness::found_number` meets its contract.
 use borrow.Author.Needs.{needs}
-use Rattle.witness.proofs.found.found_number.Statement.{statement}
-use Rattle.witness.proofs.found.found_number.Tie as tie
+use Rattle.witness.proofs.searched.found_number.Statement.{statement}
+use Rattle.witness.proofs.searched.found_number.Tie as tie
 
 enum-told : tie.Need-enum-told
 enum-told c = search needs

@@ -2,8 +2,8 @@
 use Rattle.basis.proofs.Rules.{cases}
 use Rattle.witness.specs.Searching.{badNumber}
 use borrow.Author.Needs.{needs}
-use Rattle.witness.proofs.found.bad_number.Statement.{statement}
-use Rattle.witness.proofs.found.bad_number.Tie as tie
+use Rattle.witness.proofs.searched.bad_number.Statement.{statement}
+use Rattle.witness.proofs.searched.bad_number.Tie as tie
 
 returns : tie.Need-returns
 unfolding badNumber

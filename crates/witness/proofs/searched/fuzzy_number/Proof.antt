@@ -2,8 +2,8 @@
 use Rattle.basis.proofs.Rules.{cases}
 use Rattle.witness.specs.Searching.{fuzzyNumber}
 use borrow.Author.Needs.{needs}
-use Rattle.witness.proofs.found.fuzzy_number.Statement.{statement}
-use Rattle.witness.proofs.found.fuzzy_number.Tie as tie
+use Rattle.witness.proofs.searched.fuzzy_number.Statement.{statement}
+use Rattle.witness.proofs.searched.fuzzy_number.Tie as tie
 
 add-result : tie.Need-add-result
 add-result c = search needs

@@ -2,8 +2,8 @@
 use Rattle.basis.proofs.Rules.{cases}
 use Rattle.witness.specs.Searching.{firstOnly}
 use borrow.Author.Needs.{needs}
-use Rattle.witness.proofs.found.first_only.Statement.{statement}
-use Rattle.witness.proofs.found.first_only.Tie as tie
+use Rattle.witness.proofs.searched.first_only.Statement.{statement}
+use Rattle.witness.proofs.searched.first_only.Tie as tie
 
 returns : tie.Need-returns
 unfolding firstOnly
