@@ -33,7 +33,13 @@ use Rattle.gateway.proofs.Tolerated.{FitSmall, or-nothing, fit-small}
 
 -- ---- the search
 
-keep-fits : (held : Found) (label : ℕ) (x : SignatureFit) → label < 65536 → FoundFits held → FitSmall x → FoundFits (keep held label x)
+-- One record more: what is held is what was held before, or the record's label with its reason.
+keep-fits
+    : (held : Found) (label : ℕ) (x : SignatureFit)
+    → label < 65536
+    → FoundFits held
+    → FitSmall x
+    → FoundFits (keep held label x)
 unfolding keep
 keep-fits (found.Exact kept) label x hl hf hx = hf
 keep-fits found.Nothing label fit.Nothing hl hf hx = tt
@@ -44,6 +50,7 @@ keep-fits (found.Fuzzy kept why) label fit.Exact hl hf hx = hl
 keep-fits (found.Fuzzy kept why) label (fit.Fuzzy r) hl hf hx = hf
 
 module _ (l : List ℕ) (lent : AllBytes l) where
+  -- A record of a byte string is one.
   record-bytes : (i : ℕ) → AllBytes (recordAt l i)
   record-bytes i = part-bytes (recordStart l i) (recordStart l i + 24) l lent
 
@@ -67,6 +74,7 @@ module _ (l : List ℕ) (lent : AllBytes l) where
       h
       (record-small f kinds bytes i))
 
+  -- What the plain search finds fits.
   found-fits : (r : Reading) → FoundFits (searchAll (r .observation) l)
   unfolding searchAll searchOver
   found-fits r =
@@ -76,16 +84,19 @@ module _ (l : List ℕ) (lent : AllBytes l) where
 
 -- ---- the answer
 
+-- Each kind of answer, where its refusal fits.
 judged-fits : (a : Answer) (r : Reading) (l : List ℕ) → AllBytes l → RefusedFits a → PacketFits (judged a (r .observation) l)
 judged-fits reading.Syn r l h fits = found-fits l h r
 judged-fits reading.SynAck r l h fits = found-fits l h r
 judged-fits reading.Nothing r l h fits = tt
 judged-fits (reading.Refused x) r l h fits = fits
 
+-- The answer of a packet against a list.
 packet-fits : (p : List ℕ) (peer : Mss) (l : List ℕ) → AllBytes p → AllBytes l → PacketFits (answerOf p peer l)
 unfolding answerOf
 packet-fits p peer l hp hl = judged-fits (readPacket p peer .answer) (readPacket p peer) l hl (reading-fits p peer hp)
 
+-- The index of a bad record fits two bytes.
 abbrev ListFits : ListAnswer → Type 0
 ListFits list.Good = Unit {0}
 ListFits list.DoesNotFit = Unit {0}
@@ -96,6 +107,7 @@ checked-fits : {a : ListAnswer} (l : List ℕ) (n : ℕ) → n < 65536 → Check
 checked-fits l n h (Checked.all-good good) = tt
 checked-fits l n h (Checked.first-bad i from below bad before) = omega arith
 
+-- What a list is refused by fits.
 list-fits : (l : List ℕ) → AllBytes l → ListFits (checkList l)
 list-fits l h = by-test (listFits l) refl
   where
@@ -103,6 +115,7 @@ list-fits l h = by-test (listFits l) refl
     by-test true e = checked-fits l (recordCount l) (two-bytes l 0 h) (first-bad-named l e)
     by-test false e = rw (does-not-fit l e) tt
 
+-- The answer after the list is checked.
 after-list
     : (a : ListAnswer) (p : List ℕ) (peer : Mss) (l : List ℕ)
     → AllBytes p

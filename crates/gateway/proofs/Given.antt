@@ -27,6 +27,7 @@ use Rattle.gateway.specs.Decode.{AllBytes, RefusalFits}
 
 -- ---- byte strings
 
+-- The first so many bytes of a string, and what is left after them.
 take-bytes : (n : ℕ) (s : List ℕ) → AllBytes s → AllBytes (take n s)
 take-bytes zero s h i = omega arith
 take-bytes (suc n) [] h i = omega arith
@@ -55,6 +56,7 @@ data IpFits : IpRead → Type 0 where
   refused : (r : Refusal) → RefusalFits r → IpFits (ip.Refused r)
   facts : {f : IpFacts} → IpFits (ip.Facts f)
 
+-- Whichever way a test goes.
 over : (t : Bool) {x y : IpRead} → IpFits x → IpFits y → IpFits (cond t x y)
 over true hx hy = hx
 over false hx hy = hy
@@ -76,6 +78,7 @@ ipv6-fits p =
     (over (not (eqb (v6.nextHeader p) 6)) (refused refusal.UnsupportedProtocol tt)
     (over (ltb (length (v6.payload p)) 20) (refused refusal.TcpTooShort tt) facts))
 
+-- Nor has one of either version.
 ip-fits : (p : List ℕ) → IpFits (readIp p)
 unfolding readIp
 ip-fits p =
@@ -85,6 +88,7 @@ ip-fits p =
 
 -- ---- the TCP stage
 
+-- Of the answers to a packet, only a refusal gives a number.
 abbrev pub RefusedFits : Answer → Type 0
 RefusedFits reading.Syn = Unit {0}
 RefusedFits reading.SynAck = Unit {0}
@@ -95,6 +99,7 @@ RefusedFits (reading.Refused r) = RefusalFits r
 record ReadingFits (r : Reading) : Type 0 where
   reads : RefusedFits (r .answer)
 
+-- Whichever way a test goes.
 either : (t : Bool) {x y : Reading} → ReadingFits x → ReadingFits y → ReadingFits (cond t x y)
 either true hx hy = hx
 either false hx hy = hy
@@ -107,10 +112,12 @@ tcp-fits f t peer h =
     (either (isSynType (control t)) (record { reads = tt })
     (either (isSynAckType (control t)) (record { reads = tt }) (record { reads = tt })))
 
+-- The TCP part is a part of the packet.
 after-ip : {r : IpRead} (p : List ℕ) (peer : Mss) → AllBytes p → IpFits r → ReadingFits (afterIp r p peer)
 after-ip p peer h (refused r fits) = record { reads = fits }
 after-ip p peer h (facts {f = f}) = tcp-fits f (tcpPart f p) peer (part-bytes (f .start) (f .end) p h)
 
+-- The refusal of a packet fits.
 pub reading-fits : (p : List ℕ) (peer : Mss) → AllBytes p → RefusedFits (readPacket p peer .answer)
 unfolding readPacket
 reading-fits p peer h = after-ip p peer h (ip-fits p) .reads

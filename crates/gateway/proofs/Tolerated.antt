@@ -51,12 +51,14 @@ difference-small a b m hm e =
     hm
     (eqb-true _ 0 e)
 
+-- Both sets of tolerated quirks are small.
 deletable-small : bitsOf fuzzyDeletable < 256
 deletable-small = rw fuzzy-deletable-bits (omega arith)
 
 addable-small : bitsOf fuzzyAddable < 256
 addable-small = rw fuzzy-addable-bits (omega arith)
 
+-- The quirks added and missing, if tolerated, are small.
 abbrev QuirksSmall : QuirksFit → Type 0
 QuirksSmall quirksfit.Rejected = Unit {0}
 QuirksSmall (quirksfit.Tolerated q) = (bitsOf (q .added) < 256) × (bitsOf (q .missing) < 256)
@@ -71,6 +73,7 @@ tests-small true true q m a = (a refl, m refl)
 tests-small true false q m a = tt
 tests-small false u q m a = tt
 
+-- All that is added or missing lies in the sets of tolerated quirks, which are small.
 quirks-small : (observed signature : QuirkSet) → QuirksSmall (quirksFit observed signature)
 unfolding quirksFit
 quirks-small observed signature =
@@ -83,6 +86,7 @@ quirks-small observed signature =
 
 -- ---- the hops
 
+-- The hop distance, if out of range, is small.
 abbrev TtlSmall : TtlFit → Type 0
 TtlSmall ttlfit.Rejected = Unit {0}
 TtlSmall (ttlfit.InRange d) = Unit {0}
@@ -98,6 +102,7 @@ distance-small true false far d h = tt
 distance-small false above true d h = h
 distance-small false above false d h = tt
 
+-- The distance is at most the initial TTL.
 ttl-small : (observed : ℕ) (signature : Ttl) → initialTtl signature < 256 → TtlSmall (ttlFit observed signature)
 unfolding ttlFit
 ttl-small observed signature h =
@@ -115,6 +120,7 @@ form-small false true guess t d h = omega arith
 form-small false false true t d h = h
 form-small false false false t d h = h
 
+-- So it is for the codes of a record.
 initial-small : (form t d : ℕ) → t < 256 → initialTtl (ttlOf form t d) < 256
 unfolding ttlOf
 initial-small form t d h = form-small (eqb form 0) (eqb form 1) (eqb form 2) t d h
@@ -127,10 +133,15 @@ FitSmall fit.Nothing = Unit {0}
 FitSmall fit.Exact = Unit {0}
 FitSmall (fit.Fuzzy r) = (bitsOf (r .added) < 256) × (bitsOf (r .missing) < 256) × HopsFit (r .hops)
 
-in-range-small : (t : Bool) (q : Tolerated) → (bitsOf (q .added) < 256) × (bitsOf (q .missing) < 256) → FitSmall (cond t fit.Exact (fit.Fuzzy (record { hops = hops.InRange; added = q .added; missing = q .missing })))
+-- With the TTL in range, the reason is the quirks.
+in-range-small
+    : (t : Bool) (q : Tolerated)
+    → (bitsOf (q .added) < 256) × (bitsOf (q .missing) < 256)
+    → FitSmall (cond t fit.Exact (fit.Fuzzy (record { hops = hops.InRange; added = q .added; missing = q .missing })))
 in-range-small true q h = tt
 in-range-small false q h = (h .0, h .1, tt)
 
+-- The TTL and the quirks, judged together.
 judge-small : (t : TtlFit) (q : QuirksFit) → TtlSmall t → QuirksSmall q → FitSmall (judge t q)
 unfolding judge judgeInRange
 judge-small ttlfit.Rejected q ht hq = tt
@@ -144,6 +155,7 @@ pub or-nothing : (t : Bool) (x : SignatureFit) → FitSmall x → FitSmall (cond
 or-nothing true x h = h
 or-nothing false x h = tt
 
+-- The fit of a record whose bytes are bytes.
 pub fit-small
     : (f : Features) (kinds bytes r : List ℕ) (count : ℕ) (entries : List ℕ)
     → AllBytes r
