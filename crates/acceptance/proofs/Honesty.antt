@@ -20,11 +20,18 @@ use Rattle.siglist.specs.declared.ListAnswer.{ListAnswer}
 use Rattle.siglist.specs.declared.ListAnswer.the-variants as list
 use Rattle.siglist.specs.List.{recordCount, checkList}
 use Rattle.found.specs.declared.Found.{Found}
+use Rattle.found.specs.declared.Found.the-variants as found
 use Rattle.search.specs.declared.SearchAnswer.{SearchAnswer}
 use Rattle.search.specs.declared.SearchAnswer.the-variants as answer
 use Rattle.search.specs.Search.{fitAt, numbersFrom, searchOver, searchAll, afterCheck, searchList}
 use Rattle.search.proofs.Order as order
-use Rattle.acceptance.specs.Honesty.{NothingTolerated, FitsExactly, fitOfRecord, Outcome, Honesty}
+use Rattle.bundle.specs.declared.PacketAnswer.the-variants as packet
+use Rattle.gateway.specs.declared.GatewayAnswer.{GatewayAnswer}
+use Rattle.gateway.specs.declared.GatewayAnswer.the-variants as gateway
+use Rattle.gateway.specs.Code.{foundFields, packetFields, fieldsOf, gatewayAnswer}
+use Rattle.gateway.proofs.ReadBack as back
+use Rattle.gateway.proofs.Fits.{answers-fit, codes-differ}
+use Rattle.acceptance.specs.Honesty.{NothingTolerated, FitsExactly, fitOfRecord, Outcome, whichOf, outcomeOf, Honesty}
 
 -- ---- one record
 
@@ -121,6 +128,25 @@ module _ (o : TcpObservation) (l : List ℕ) where
       by-count true e = let z : _≡_ {A = ℕ} 0 1 = cc in absurd (omega arith)
       by-count false e = after-found (checkList l) x e
 
+-- ---- the number that a gateway gets
+
+-- The outcome among a search's fields is which of the three it is.
+found-outcome-of : (kind : ℕ) (f : Found) → foundFields kind f .outcome ≡ whichOf f
+unfolding foundFields
+found-outcome-of kind found.Nothing = refl
+found-outcome-of kind (found.Exact label) = refl
+found-outcome-of kind (found.Fuzzy label reason) = refl
+
+-- The outcome among an answer's fields is what the answer is.
+outcome-of : (a : GatewayAnswer) → fieldsOf a .outcome ≡ outcomeOf a
+unfolding fieldsOf packetFields
+outcome-of (gateway.Packet (packet.Syn f)) = found-outcome-of 1 f
+outcome-of (gateway.Packet (packet.SynAck f)) = found-outcome-of 2 f
+outcome-of (gateway.Packet packet.Nothing) = refl
+outcome-of (gateway.Packet (packet.Refused r)) = refl
+outcome-of gateway.ListDoesNotFit = refl
+outcome-of (gateway.BadRecord i) = refl
+
 pub honesty : Honesty
 honesty =
     record {
@@ -129,4 +155,9 @@ honesty =
       exact-not-fuzzy = λ a b r e. let z : _≡_ {A = ℕ} 0 1 = cc in omega arith;
       exact-not-none = λ a e. let z : _≡_ {A = ℕ} 0 1 = cc in omega arith;
       fuzzy-not-none = λ a r e. let z : _≡_ {A = ℕ} 0 1 = cc in omega arith;
+      read-back = λ p peer l hp hl. back.read-back (gatewayAnswer p peer l) (answers-fit p peer l hp hl);
+      codes-differ = codes-differ;
+      lowest-byte =
+          λ p peer l hp hl.
+          back.lowest-byte (gatewayAnswer p peer l) (answers-fit p peer l hp hl) ∙ outcome-of (gatewayAnswer p peer l);
     }

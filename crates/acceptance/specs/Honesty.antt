@@ -1,10 +1,10 @@
 -- "Exact, fuzzy and none stay three answers": what each of the three means, for a record and for a search (document 01, module 7
--- and "The signature list"). `Honesty` is the statement.
+-- and "The signature list"), and that they stay three as the numbers that a gateway gets. `Honesty` is the statement.
 use mathlib.Core.Path.{_≡_}
 use mathlib.Core.Bool.{true}
 use mathlib.Core.List.{List}
 use mathlib.Core.Logic.{_↔_}
-use Prim.Native.Nat.{ℕ, _<_}
+use Prim.Native.Nat.{ℕ, _%_, _<_}
 use Rattle.quirks.specs.Quirks.{isEmpty}
 use Rattle.observable.specs.declared.TcpObservation.{TcpObservation}
 use Rattle.distances.specs.declared.TtlFit.{TtlFit}
@@ -27,6 +27,11 @@ use Rattle.found.specs.declared.Found.{Found}
 use Rattle.found.specs.declared.Found.the-variants as found
 use Rattle.search.specs.declared.SearchAnswer.the-variants as answer
 use Rattle.search.specs.Search.{fitAt, searchList}
+use Rattle.bundle.specs.declared.PacketAnswer.the-variants as packet
+use Rattle.gateway.specs.declared.GatewayAnswer.{GatewayAnswer}
+use Rattle.gateway.specs.declared.GatewayAnswer.the-variants as gateway
+use Rattle.gateway.specs.Code.{fieldsOf, codeOf, gatewayAnswer}
+use Rattle.gateway.specs.Decode.{AllBytes, fieldsFrom, answerFrom}
 
 -- "Nothing tolerated": the TTL is in range, and no quirk is added or missing.
 pub data NothingTolerated : TtlFit → QuirksFit → Type 0 where
@@ -67,6 +72,25 @@ pub data Outcome (o : TcpObservation) (l : List ℕ) : Found → Type 0 where
       → Outcome o l (found.Fuzzy (labelAt l i) reason)
   none : ((i : ℕ) → i < recordCount l → fitOfRecord o l i ≡ fit.Nothing) → Outcome o l found.Nothing
 
+-- Which of the three a search's answer is: 1 exact, 2 fuzzy, 3 none.
+abbrev pub whichOf : Found → ℕ
+whichOf (found.Exact label) = 1
+whichOf (found.Fuzzy label reason) = 2
+whichOf found.Nothing = 3
+
+-- Of a gateway's answer: one of the three, or 4 (neither SYN nor SYN+ACK), or 5 (refused).
+abbrev pub outcomeOf : GatewayAnswer → ℕ
+outcomeOf (gateway.Packet (packet.Syn f)) = whichOf f
+outcomeOf (gateway.Packet (packet.SynAck f)) = whichOf f
+outcomeOf (gateway.Packet packet.Nothing) = 4
+outcomeOf (gateway.Packet (packet.Refused r)) = 5
+outcomeOf gateway.ListDoesNotFit = 5
+outcomeOf (gateway.BadRecord i) = 5
+
+-- The number that a gateway gets for a packet, the peer's MSS and a list.
+abbrev pub codeAt : List ℕ → ℕ → List ℕ → ℕ
+codeAt p peer l = codeOf (fieldsOf (gatewayAnswer p peer l))
+
 pub record Honesty : Type 0 where
   -- "Nothing tolerated is exact, else fuzzy": exact exactly when the gates hold and nothing is tolerated.
   pub exact
@@ -78,3 +102,24 @@ pub record Honesty : Type 0 where
   pub exact-not-fuzzy : (a b : ℕ) (r : FuzzyReason) → found.Exact a ≡ found.Fuzzy b r → ⊥
   pub exact-not-none : (a : ℕ) → found.Exact a ≡ found.Nothing → ⊥
   pub fuzzy-not-none : (a : ℕ) (r : FuzzyReason) → found.Fuzzy a r ≡ found.Nothing → ⊥
+  -- Nothing of an answer is lost in its number: the answer is read back from it.
+  pub read-back
+      : (p : List ℕ) (peer : ℕ) (l : List ℕ)
+      → AllBytes p
+      → AllBytes l
+      → answerFrom (fieldsFrom (codeAt p peer l)) ≡ gatewayAnswer p peer l
+  -- No two different answers of the gateway share a number.
+  pub codes-differ
+      : (p q : List ℕ) (m n : ℕ) (l k : List ℕ)
+      → AllBytes p
+      → AllBytes q
+      → AllBytes l
+      → AllBytes k
+      → codeAt p m l ≡ codeAt q n k
+      → gatewayAnswer p m l ≡ gatewayAnswer q n k
+  -- The lowest byte of the number is the outcome, so it alone tells the three apart.
+  pub lowest-byte
+      : (p : List ℕ) (peer : ℕ) (l : List ℕ)
+      → AllBytes p
+      → AllBytes l
+      → codeAt p peer l % 256 ≡ outcomeOf (gatewayAnswer p peer l)

@@ -1,2 +1,5 @@
+pub mod Fits
+pub mod Given
 pub mod ReadBack
+pub mod Tolerated
 pub mod Unique

@@ -1,7 +1,9 @@
 -- A code read back: which answer a number stands for.
 use Prim.Native.Nat.{ℕ, _/_, _%_, _<_}
 use mathlib.Core.Bool.{cond}
+use mathlib.Core.List.{List}
 use lib.Dec.{eqb}
+use Rattle.basis.specs.Bytes.{byteAt}
 use Rattle.quirks.specs.Quirks.{setOf, bitsOf}
 use Rattle.ip.specs.declared.Refusal.{Refusal}
 use Rattle.ip.specs.declared.Refusal.the-variants as refusal
@@ -65,6 +67,10 @@ answerFrom f =
     (gateway.Packet (cond (eqb (f .kind) 1) (packet.Syn (foundFrom f)) (packet.SynAck (foundFrom f)))))
 
 -- ---- the numbers of an answer fit their bytes
+
+-- What a lent byte string is: each of its numbers is a byte.
+abbrev pub AllBytes : List ℕ → Type 0
+AllBytes s = (i : ℕ) → byteAt s i < 256
 
 abbrev pub HopsFit : Hops → Type 0
 HopsFit hops.InRange = Unit {0}

@@ -1,0 +1,146 @@
+-- Every number of a gateway's answer fits its bytes, so no two different answers of a gateway share a code.
+use mathlib.Core.Path.{_≡_, refl}
+use mathlib.Core.Bool.{Bool, true, false, _&&_}
+use mathlib.Core.List.{List, [], _∷_}
+use Prim.Native.Nat.{ℕ, _+_, _<_}
+use native.Mathlib.Omega.{arith}
+use lib.Dec.{ltb}
+use Rattle.tcp.specs.declared.Mss.{Mss}
+use Rattle.flow.specs.declared.Answer.{Answer}
+use Rattle.flow.specs.declared.Answer.the-variants as reading
+use Rattle.flow.specs.declared.Reading.{Reading}
+use Rattle.flow.specs.Reading.{readPacket}
+use Rattle.matching.specs.declared.Features.{Features}
+use Rattle.matching.specs.declared.SignatureFit.{SignatureFit}
+use Rattle.matching.specs.declared.SignatureFit.the-variants as fit
+use Rattle.matching.specs.Fit.{featuresOf, fitOf}
+use Rattle.siglist.specs.declared.ListAnswer.{ListAnswer}
+use Rattle.siglist.specs.declared.ListAnswer.the-variants as list
+use Rattle.siglist.specs.Record.{signatureOf, entryCount, labelOf}
+use Rattle.siglist.specs.List.{recordCount, listFits, recordStart, recordAt, entriesOf, recordGood, checkList}
+use Rattle.siglist.proofs.Refusals.{Checked, does-not-fit, first-bad-named}
+use Rattle.found.specs.declared.Found.{Found}
+use Rattle.found.specs.declared.Found.the-variants as found
+use Rattle.found.specs.Keep.{keep}
+use Rattle.search.specs.Search.{fitAt, searchFrom, numbersFrom, searchOver, searchAll}
+use Rattle.bundle.specs.Bundle.{peerOf}
+use Rattle.bundle.specs.Answers.{judged, answerOf}
+use Rattle.gateway.specs.Code.{fieldsOf, codeOf, afterList, gatewayAnswer}
+use Rattle.gateway.specs.Decode.{AllBytes, FoundFits, PacketFits, AnswerFits}
+use Rattle.gateway.proofs.ReadBack.{injective}
+use Rattle.gateway.proofs.Given.{part-bytes, two-bytes, RefusedFits, reading-fits}
+use Rattle.gateway.proofs.Tolerated.{FitSmall, or-nothing, fit-small}
+
+-- ---- the search
+
+-- One record more: what is held is what was held before, or the record's label with its reason.
+keep-fits
+    : (held : Found) (label : ℕ) (x : SignatureFit)
+    → label < 65536
+    → FoundFits held
+    → FitSmall x
+    → FoundFits (keep held label x)
+unfolding keep
+keep-fits (found.Exact kept) label x hl hf hx = hf
+keep-fits found.Nothing label fit.Nothing hl hf hx = tt
+keep-fits found.Nothing label fit.Exact hl hf hx = hl
+keep-fits found.Nothing label (fit.Fuzzy r) hl hf hx = (hl, hx .0, hx .1, hx .2)
+keep-fits (found.Fuzzy kept why) label fit.Nothing hl hf hx = hf
+keep-fits (found.Fuzzy kept why) label fit.Exact hl hf hx = hl
+keep-fits (found.Fuzzy kept why) label (fit.Fuzzy r) hl hf hx = hf
+
+module _ (l : List ℕ) (lent : AllBytes l) where
+  -- A record of a byte string is one.
+  record-bytes : (i : ℕ) → AllBytes (recordAt l i)
+  record-bytes i = part-bytes (recordStart l i) (recordStart l i + 24) l lent
+
+  -- How a record fits, if it is one.
+  record-small : (f : Features) (kinds bytes : List ℕ) (i : ℕ) → FitSmall (fitAt f kinds bytes l i)
+  unfolding fitAt
+  record-small f kinds bytes i =
+      or-nothing (listFits l && ltb i (recordCount l) && recordGood l i)
+      (fitOf f kinds bytes (signatureOf (recordAt l i)) (entryCount (recordAt l i)) (entriesOf l (recordAt l i)))
+      (fit-small f kinds bytes (recordAt l i) (entryCount (recordAt l i)) (entriesOf l (recordAt l i)) (record-bytes i))
+
+  -- What a search holds fits, if it did before.
+  search-fits
+      : (held : Found) (f : Features) (kinds bytes is : List ℕ) → FoundFits held → FoundFits (searchFrom held f kinds bytes l is)
+  unfolding searchFrom
+  search-fits held f kinds bytes [] h = h
+  search-fits held f kinds bytes (i ∷ is) h =
+      search-fits (keep held (labelOf (recordAt l i)) (fitAt f kinds bytes l i)) f kinds bytes is
+      (keep-fits held (labelOf (recordAt l i)) (fitAt f kinds bytes l i)
+      (two-bytes (recordAt l i) 22 (record-bytes i))
+      h
+      (record-small f kinds bytes i))
+
+  -- What the plain search finds fits.
+  found-fits : (r : Reading) → FoundFits (searchAll (r .observation) l)
+  unfolding searchAll searchOver
+  found-fits r =
+      search-fits found.Nothing (featuresOf (r .observation)) (r .observation .olayout .kinds) (r .observation .olayout .bytes)
+      (numbersFrom 0 (recordCount l))
+      tt
+
+-- ---- the answer
+
+-- Each kind of answer, where its refusal fits.
+judged-fits : (a : Answer) (r : Reading) (l : List ℕ) → AllBytes l → RefusedFits a → PacketFits (judged a (r .observation) l)
+judged-fits reading.Syn r l h fits = found-fits l h r
+judged-fits reading.SynAck r l h fits = found-fits l h r
+judged-fits reading.Nothing r l h fits = tt
+judged-fits (reading.Refused x) r l h fits = fits
+
+-- The answer of a packet against a list.
+packet-fits : (p : List ℕ) (peer : Mss) (l : List ℕ) → AllBytes p → AllBytes l → PacketFits (answerOf p peer l)
+unfolding answerOf
+packet-fits p peer l hp hl = judged-fits (readPacket p peer .answer) (readPacket p peer) l hl (reading-fits p peer hp)
+
+-- The index of a bad record fits two bytes.
+abbrev ListFits : ListAnswer → Type 0
+ListFits list.Good = Unit {0}
+ListFits list.DoesNotFit = Unit {0}
+ListFits (list.BadRecord i) = i < 65536
+
+-- The first bad record is one of the list's, and these are counted by two bytes.
+checked-fits : {a : ListAnswer} (l : List ℕ) (n : ℕ) → n < 65536 → Checked l 0 n a → ListFits a
+checked-fits l n h (Checked.all-good good) = tt
+checked-fits l n h (Checked.first-bad i from below bad before) = omega arith
+
+-- What a list is refused by fits.
+list-fits : (l : List ℕ) → AllBytes l → ListFits (checkList l)
+list-fits l h = by-test (listFits l) refl
+  where
+    by-test : (t : Bool) → listFits l ≡ t → ListFits (checkList l)
+    by-test true e = checked-fits l (recordCount l) (two-bytes l 0 h) (first-bad-named l e)
+    by-test false e = rw (does-not-fit l e) tt
+
+-- The answer after the list is checked.
+after-list
+    : (a : ListAnswer) (p : List ℕ) (peer : Mss) (l : List ℕ)
+    → AllBytes p
+    → AllBytes l
+    → ListFits a
+    → AnswerFits (afterList a p peer l)
+after-list list.Good p peer l hp hl fits = packet-fits p peer l hp hl
+after-list list.DoesNotFit p peer l hp hl fits = tt
+after-list (list.BadRecord i) p peer l hp hl fits = fits
+
+-- ---- the laws
+
+-- Every answer of a gateway to byte strings fits.
+pub answers-fit : (p : List ℕ) (peer : ℕ) (l : List ℕ) → AllBytes p → AllBytes l → AnswerFits (gatewayAnswer p peer l)
+unfolding gatewayAnswer
+answers-fit p peer l hp hl = after-list (checkList l) p (peerOf peer) l hp hl (list-fits l hl)
+
+-- No two different answers of a gateway share a code.
+pub codes-differ
+    : (p q : List ℕ) (m n : ℕ) (l k : List ℕ)
+    → AllBytes p
+    → AllBytes q
+    → AllBytes l
+    → AllBytes k
+    → codeOf (fieldsOf (gatewayAnswer p m l)) ≡ codeOf (fieldsOf (gatewayAnswer q n k))
+    → gatewayAnswer p m l ≡ gatewayAnswer q n k
+codes-differ p q m n l k hp hq hl hk e =
+    injective (gatewayAnswer p m l) (gatewayAnswer q n k) (answers-fit p m l hp hl) (answers-fit q n k hq hk) e
