@@ -158,3 +158,12 @@ size_t damage_packet(Random *r, uint8_t *p, size_t size) {
         if (chance(r, 70)) p[below(r, chance(r, 60) && size > 40 ? 40 : (uint32_t)size)] = byte_of(r);
     return size;
 }
+
+void observe(Random *r, uint8_t *o) {
+    uint8_t p[PACKET_MOST];
+    Numbers n;
+    do {
+        size_t size = make_packet(r, p);
+        oracle_packet(p, size, make_peer(r), 0, &n, o);
+    } while (n.n[0] > 2);
+}

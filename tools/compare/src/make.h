@@ -23,6 +23,9 @@ size_t make_packet(Random *r, uint8_t *p);
 size_t damage_packet(Random *r, uint8_t *p, size_t size);
 uint16_t make_peer(Random *r);
 
+/* The original's observation of some random packet. */
+void observe(Random *r, uint8_t *o);
+
 /* An observation that no packet need give. */
 void make_observation(Random *r, uint8_t *o);
 

@@ -86,15 +86,6 @@ static void options(void) {
     }
 }
 
-static void observe(Random *r, uint8_t *o) {
-    uint8_t p[PACKET_MOST];
-    Numbers n;
-    do {
-        size_t size = make_packet(r, p);
-        oracle_packet(p, size, make_peer(r), 0, &n, o);
-    } while (n.n[0] > 2);
-}
-
 static void searches(void) {
     uint8_t o[OBSERVATION], list[LIST_MOST];
     Random r = {23};

@@ -6,16 +6,6 @@
 
 #include <string.h>
 
-/* The observation of some random packet. */
-static void observe(Random *r, uint8_t *o) {
-    uint8_t p[PACKET_MOST];
-    Numbers n;
-    do {
-        size_t size = make_packet(r, p);
-        oracle_packet(p, size, make_peer(r), 0, &n, o);
-    } while (n.n[0] > 2);
-}
-
 /* An observation that no packet need give, its multiplier filled in so that records can be derived from it. */
 static void invent(Random *r, uint8_t *o) {
     make_observation(r, o);
