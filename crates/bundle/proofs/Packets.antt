@@ -61,23 +61,31 @@ module _ (b : List ℕ) (at i n : ℕ) (inside : i < n) (fit : packetsFit b at (
 
 -- ---- a bundle that fits
 
+-- Its header and its list's area do.
+pub lies-within : (b : List ℕ) → listLies b ≡ true → (8 ≤ length b) × (listOffset b + listLength b ≤ length b)
+unfolding listLies
+lies-within b e = (
+  leb-true 8 (length b) (and-left (leb 8 (length b)) _ e),
+  leb-true (listOffset b + listLength b) (length b) (and-right (leb 8 (length b)) _ e),
+)
+
 module _ (b : List ℕ) (fits : bundleFits b ≡ true) where
-  areas : (leb (length b) 65535 && leb 8 (length b)) && leb (listOffset b + listLength b) (length b) ≡ true
+  small-and-lies : leb (length b) 65535 && listLies b ≡ true
   unfolding bundleFits
-  areas = and-left _ (packetsFit b (packetsOffset b) (packetCount b)) fits
+  small-and-lies = and-left _ (packetsFit b (packetsOffset b) (packetCount b)) fits
 
   pub packets-within : packetsFit b (packetsOffset b) (packetCount b) ≡ true
   unfolding bundleFits
-  packets-within = and-right ((leb (length b) 65535 && leb 8 (length b)) && leb (listOffset b + listLength b) (length b)) _ fits
+  packets-within = and-right (leb (length b) 65535 && listLies b) _ fits
 
   pub at-most : length b ≤ 65535
-  at-most = leb-true (length b) 65535 (and-left (leb (length b) 65535) (leb 8 (length b)) (and-left _ (leb (listOffset b + listLength b) (length b)) areas))
+  at-most = leb-true (length b) 65535 (and-left (leb (length b) 65535) (listLies b) small-and-lies)
+
+  pub fits-lies : listLies b ≡ true
+  fits-lies = and-right (leb (length b) 65535) (listLies b) small-and-lies
 
   pub list-within : (8 ≤ length b) × (listOffset b + listLength b ≤ length b)
-  list-within = (
-    leb-true 8 (length b) (and-right (leb (length b) 65535) (leb 8 (length b)) (and-left _ (leb (listOffset b + listLength b) (length b)) areas)),
-    leb-true (listOffset b + listLength b) (length b) (and-right (leb (length b) 65535 && leb 8 (length b)) _ areas),
-  )
+  list-within = lies-within b fits-lies
 
 refused-number : (b : List ℕ) → checkBundle b ≡ check.Good → bundleFits b ≡ false → _≡_ {A = ℕ} 12 0
 unfolding checkBundle bundleRefusal
@@ -91,14 +99,6 @@ good-fits b good = by-fit (bundleFits b) refl
     by-fit : (t : Bool) → bundleFits b ≡ t → t ≡ true
     by-fit true e = refl
     by-fit false e = absurd (let z : _≡_ {A = ℕ} 12 0 = refused-number b good e in omega arith)
-
--- The list lies within the bundle.
-pub lies-within : (b : List ℕ) → listLies b ≡ true → (8 ≤ length b) × (listOffset b + listLength b ≤ length b)
-unfolding listLies
-lies-within b e = (
-  leb-true 8 (length b) (and-left (leb 8 (length b)) _ e),
-  leb-true (listOffset b + listLength b) (length b) (and-right (leb 8 (length b)) _ e),
-)
 
 pub start-next : (b : List ℕ) (i : ℕ) → startOf b (i + 1) ≡ packetEnd b (startOf b i)
 unfolding startOf

@@ -16,7 +16,7 @@ use Rattle.siglist.specs.declared.ListAnswer.the-variants as list
 use Rattle.bundle.specs.declared.BundleCheck.the-variants as check
 use Rattle.bundle.specs.Bundle.{packetCount, packetsOffset, listLength, listOffset, listOf, listLies, packetEnd, packetFits, packetsFit, bundleFits, ofList, checkBundle, bundleRefusal}
 use Rattle.bundle.specs.Answers.{answerAt, packetLies, startOf, answersFrom}
-use Rattle.bundle.proofs.Packets.{head-within, end-within, head-before-end, packets-within, list-within, at-most, start-first}
+use Rattle.bundle.proofs.Packets.{head-within, end-within, head-before-end, packets-within, list-within, at-most, fits-lies, start-first}
 
 fits-by : (b : List ℕ) (at : ℕ) → packetEnd b at ≤ length b → packetFits b at ≡ true
 unfolding packetFits
@@ -85,9 +85,9 @@ pub data Unfit (b : List ℕ) : Type 0 where
   a-packet : Past b (packetCount b) → Unfit b
 
 packets-unfit : (b : List ℕ) → bundleFits b ≡ false → leb (length b) 65535 ≡ true → leb 8 (length b) ≡ true → leb (listOffset b + listLength b) (length b) ≡ true → packetsFit b (startOf b 0) (packetCount b) ≡ false
-unfolding bundleFits startOf
+unfolding bundleFits listLies startOf
 packets-unfit b fails p q r =
-    let areas : ((leb (length b) 65535 && leb 8 (length b)) && leb (listOffset b + listLength b) (length b)) ≡ true = rw (p, q, r) in
+    let areas : (leb (length b) 65535 && (leb 8 (length b) && leb (listOffset b + listLength b) (length b))) ≡ true = rw (p, q, r) in
     sym (ap (λ (t : Bool). t && packetsFit b (packetsOffset b) (packetCount b)) areas) ∙ fails
 
 pub unfit : (b : List ℕ) → bundleFits b ≡ false → Unfit b
@@ -137,22 +137,17 @@ bundle-order b = by-fit (bundleFits b)
 
 -- ---- all packets of a bundle that fits are answered
 
-lies : (b : List ℕ) → bundleFits b ≡ true → listLies b ≡ true
-unfolding listLies
-lies b fits =
-    rw (le-leb 8 (length b) (list-within b fits .0), le-leb (listOffset b + listLength b) (length b) (list-within b fits .1))
-
 -- The answers of the packets from the i-th on begin with the i-th's.
 pub answers-from : (b : List ℕ) → bundleFits b ≡ true → (n i : ℕ) → packetsFit b (startOf b i) (suc n) ≡ true → answersFrom b (startOf b i) (suc n) ≡ answerAt b (startOf b i) ∷ answersFrom b (startOf b (suc i)) n
 unfolding answersFrom packetsFit packetLies startOf
-answers-from b fits n i fit = rw (lies b fits, and-left (packetFits b (startOf b i)) _ fit)
+answers-from b fits n i fit = rw (fits-lies b fits, and-left (packetFits b (startOf b i)) _ fit)
 
 -- A bundle that fits has as many answers as packets.
 answers-length : (b : List ℕ) → bundleFits b ≡ true → (n i : ℕ) → packetsFit b (startOf b i) n ≡ true → length (answersFrom b (startOf b i) n) ≡ n
 unfolding answersFrom packetsFit packetLies startOf
 answers-length b fits zero i fit = refl
 answers-length b fits (suc n) i fit =
-    rw (lies b fits, and-left (packetFits b (startOf b i)) _ fit)
+    rw (fits-lies b fits, and-left (packetFits b (startOf b i)) _ fit)
     (ap suc (answers-length b fits n (suc i) (and-right (packetFits b (startOf b i)) _ fit)))
 
 pub all-answered : (b : List ℕ) → bundleFits b ≡ true → length (answersFrom b (packetsOffset b) (packetCount b)) ≡ packetCount b

@@ -56,7 +56,7 @@ unfoldable pub packetsFit : List ℕ → ℕ → ℕ → Bool
 packetsFit b at zero = leb at (length b)
 packetsFit b at (suc n) = packetFits b at && packetsFit b (packetEnd b at) n
 
--- The list lies within the bundle, behind a whole header or over it.
+-- The header and the list's area fit; the area may lie over the header.
 unfoldable pub listLies : List ℕ → Bool
 listLies b = leb 8 (length b) && areaFits (listOffset b) (listLength b) b
 
@@ -64,11 +64,7 @@ listLies b = leb 8 (length b) && areaFits (listOffset b) (listLength b) b
 
 -- Refusal 12: "bundle over 65,535 bytes, or its header, list area or a packet does not fit".
 unfoldable pub bundleFits : List ℕ → Bool
-bundleFits b =
-    leb (length b) 65535
-    && leb 8 (length b)
-    && areaFits (listOffset b) (listLength b) b
-    && packetsFit b (packetsOffset b) (packetCount b)
+bundleFits b = leb (length b) 65535 && listLies b && packetsFit b (packetsOffset b) (packetCount b)
 
 abbrev pub ofList : ListAnswer → BundleCheck
 ofList list.Good = check.Good

@@ -92,18 +92,25 @@ fn packets_fit(bundle: &[u8], offset: usize, count: usize) -> bool
     at <= bundle.len()
 }
 
+// Whether the header and the list's area fit.
+fn list_lies(bundle: &[u8]) -> bool
+    ensures { λ r. ⌜ r ≡ listLies (now (bundle .entry)) ⌝ }
+{
+    if bundle.len() < HEADER {
+        return false;
+    }
+    let length = be16(bundle[4], bundle[5]) as usize;
+    let offset = be16(bundle[6], bundle[7]) as usize;
+    offset + length <= bundle.len()
+}
+
 fn bundle_fits(bundle: &[u8]) -> bool
     ensures { λ r. ⌜ r ≡ bundleFits (now (bundle .entry)) ⌝ }
 {
     if MOST < bundle.len() {
         return false;
     }
-    if bundle.len() < HEADER {
-        return false;
-    }
-    let list_length = be16(bundle[4], bundle[5]) as usize;
-    let list_offset = be16(bundle[6], bundle[7]) as usize;
-    if bundle.len() < list_offset + list_length {
+    if !list_lies(bundle) {
         return false;
     }
     let count = be16(bundle[0], bundle[1]) as usize;
@@ -185,17 +192,6 @@ fn answer_at_place(bundle: &[u8], at: usize) -> PacketAnswer
     let list_start = be16(bundle[6], bundle[7]) as usize;
     let list_end = list_start + be16(bundle[4], bundle[5]) as usize;
     answer_packet(&bundle[start..end], peer, &bundle[list_start..list_end])
-}
-
-fn list_lies(bundle: &[u8]) -> bool
-    ensures { λ r. ⌜ r ≡ listLies (now (bundle .entry)) ⌝ }
-{
-    if bundle.len() < HEADER {
-        return false;
-    }
-    let length = be16(bundle[4], bundle[5]) as usize;
-    let offset = be16(bundle[6], bundle[7]) as usize;
-    offset + length <= bundle.len()
 }
 
 // What is at a place of a bundle, which need not have passed its check.
