@@ -131,8 +131,8 @@ of-matching =
       wscale-matches = λ o s. let u = matching.wscale-matches-one o s in record { one = u; is = u .meets };
       quirks-fit = λ o s. let u = matching.quirks-fit-one o s in record { one = u; is = u .meets };
       olayout-matches = λ κs ks bs n es m. let u = matching.olayout-matches-one κs ks bs n es m in record { one = u; is = u .meets };
+      entry-good = λ k b. let u = matching.entry-good-one k b in record { one = u; is = u .meets };
       features-of = λ o. let u = matching.features-of-one o in record { one = u; is = u .meets };
-      gates = λ f s. let u = matching.gates-one f s in record { one = u; is = u .meets };
       tolerance = λ f s. let u = matching.tolerance-one f s in record { one = u; is = u .meets };
     }
 
@@ -140,7 +140,7 @@ of-siglist : Siglist
 of-siglist =
     record {
       read-header = λ κs l. let u = siglist.read-header-one κs l in record { one = u; is = u .meets };
-      well-formed = λ κs r es. let u = siglist.well-formed-one κs r es in record { one = u; is = u .meets };
+      scalars-well-formed = λ κs r. let u = siglist.scalars-well-formed-one κs r in record { one = u; is = u .meets };
       check-list = λ κs l. let u = siglist.check-list-one κs l in record { one = u; is = u .meets };
     }
 

@@ -3,7 +3,7 @@
 -- function's own contract (`Post`, of the arguments at entry, the result, and the arguments at exit), with the definition that
 -- the one result is. The order is that of crates.txt; a function that is added gets a line in its crate's record.
 use mathlib.Core.Path.{_≡_}
-use mathlib.Core.Bool.{Bool}
+use mathlib.Core.Bool.{Bool, _&&_}
 use mathlib.Core.List.{List}
 use Prim.Native.Nat.{ℕ, _+_, _*_, _-_, _≤_, min}
 use lib.ListN.{length}
@@ -95,21 +95,21 @@ use Rattle.distances.proofs.payload_size_matches.Reads as payload-size-matches'
 -- matching
 use Rattle.matching.specs.declared.Features.{Features}
 use Rattle.matching.specs.declared.Signature.{Signature}
-use Rattle.matching.specs.Gates.{olenMatches, mssMatches, scaleMatches, layoutMatches}
+use Rattle.matching.specs.Gates.{olenMatches, mssMatches, scaleMatches, entryGood, entriesGood, layoutMatches}
 use Rattle.matching.specs.Tolerance.{quirksFit}
-use Rattle.matching.specs.Fit.{featuresOf, scalarGates, toleranceOf}
+use Rattle.matching.specs.Fit.{featuresOf, toleranceOf}
 use Rattle.matching.proofs.olen_matches.Reads as olen-matches'
 use Rattle.matching.proofs.mss_matches.Reads as mss-matches'
 use Rattle.matching.proofs.wscale_matches.Reads as wscale-matches'
 use Rattle.matching.proofs.quirks_fit.Reads as quirks-fit'
+use Rattle.matching.proofs.entry_good.Reads as entry-good'
 use Rattle.matching.proofs.olayout_matches.Reads as olayout-matches'
 use Rattle.matching.proofs.features_of.Reads as features-of'
-use Rattle.matching.proofs.gates.Reads as gates'
 use Rattle.matching.proofs.tolerance.Reads as tolerance'
 -- siglist
-use Rattle.siglist.specs.List.{headerOf, wellFormed, checkList}
+use Rattle.siglist.specs.List.{headerOf, scalarsWellFormed, checkList}
 use Rattle.siglist.proofs.read_header.Reads as read-header'
-use Rattle.siglist.proofs.well_formed.Reads as well-formed'
+use Rattle.siglist.proofs.scalars_well_formed.Reads as scalars-well-formed'
 use Rattle.siglist.proofs.check_list.Reads as check-list'
 -- found
 use Rattle.matching.specs.declared.SignatureFit.{SignatureFit}
@@ -254,16 +254,15 @@ pub record Matching : Type 0 where
       : (κs : Lfts 3) (kinds bytes : RefT (List ℕ)) (count : ℕ) (entries : RefT (List ℕ)) (declared : ℕ)
       → Answers (olayout-matches'.Post κs)
       (kinds, (bytes, (count, (entries, (declared, tt)))))
-      (layoutMatches count (now kinds) (now bytes) declared (now entries))
+      (layoutMatches count (now kinds) (now bytes) declared (now entries) && entriesGood (now entries) declared)
+  pub entry-good : (kind byte : ℕ) → Answers (entry-good'.Post tt) (kind, (byte, tt)) (entryGood kind byte)
   pub features-of : (o : TcpObservation) → Answers (features-of'.Post tt) (o, tt) (featuresOf o)
-  pub gates : (f : Features) (s : Signature) → Answers (gates'.Post tt) (f, (s, tt)) (scalarGates f s)
   pub tolerance : (f : Features) (s : Signature) → Answers (tolerance'.Post tt) (f, (s, tt)) (toleranceOf f s)
 
 pub record Siglist : Type 0 where
   pub read-header : (κs : Lfts 1) (list : RefT (List ℕ)) → Answers (read-header'.Post κs) (list, tt) (headerOf (now list))
-  pub well-formed
-      : (κs : Lfts 2) (raw entries : RefT (List ℕ))
-      → Answers (well-formed'.Post κs) (raw, (entries, tt)) (wellFormed (now raw) (now entries))
+  pub scalars-well-formed
+      : (κs : Lfts 1) (raw : RefT (List ℕ)) → Answers (scalars-well-formed'.Post κs) (raw, tt) (scalarsWellFormed (now raw))
   pub check-list : (κs : Lfts 1) (list : RefT (List ℕ)) → Answers (check-list'.Post κs) (list, tt) (checkList (now list))
 
 pub record Held : Type 0 where

@@ -19,7 +19,7 @@ use Rattle.matching.specs.declared.SignatureFit.the-variants as answer
 use Rattle.matching.specs.declared.Tolerated.{Tolerated}
 use Rattle.distances.specs.declared.TtlFit.{TtlFit}
 use Rattle.distances.specs.declared.TtlFit.the-variants as ttlfit
-use Rattle.matching.specs.Gates.{entriesMatch, layoutMatches}
+use Rattle.matching.specs.Gates.{entryGood, entriesGood, entriesMatch, layoutMatches}
 use Rattle.distances.specs.Distances.{ttlFit}
 use Rattle.matching.specs.Tolerance.{maskedQuirks, quirksFit, judgeInRange, judge}
 use Rattle.matching.specs.Fit.{scalarGates, toleranceOf, fitOf}
@@ -63,6 +63,23 @@ module _ (kinds bytes entries : List ℕ) where
         eq-eqb (byteAt kinds i) (byteAt entries (2 * i)) kind,
         ne-eqb (byteAt bytes i) (byteAt entries (2 * i + 1)) differs,
       ))
+
+-- The entries of a signature, good one by one.
+module _ (entries : List ℕ) where
+  good : ℕ → Bool
+  good i = entryGood (byteAt entries (2 * i)) (byteAt entries (2 * i + 1))
+
+  pub none-bad : entriesGood entries 0 ≡ true
+  unfolding entriesGood good
+  none-bad = none-below good
+
+  pub one-more-good : (i : ℕ) → entryGood (byteAt entries (2 * i)) (byteAt entries (2 * i + 1)) ≡ true → entriesGood entries i ≡ true → entriesGood entries (i + 1) ≡ true
+  unfolding entriesGood good
+  one-more-good i here-good before = one-more-below good i here-good before
+
+  pub one-bad : (count i : ℕ) → i < count → entryGood (byteAt entries (2 * i)) (byteAt entries (2 * i + 1)) ≡ false → entriesGood entries count ≡ false
+  unfolding entriesGood good
+  one-bad count i h bad = fails-below good count i h bad
 
 -- ---- three answers
 

@@ -1,6 +1,6 @@
 -- Exactly one result meets each function's own contract.
 use Prim.Native.Nat.{ℕ}
-use mathlib.Core.Bool.{Bool}
+use mathlib.Core.Bool.{Bool, _&&_}
 use mathlib.Core.List.{List}
 use contract.Lifetimes.{Lfts}
 use denote.Ref.{RefT, now}
@@ -14,16 +14,16 @@ use Rattle.matching.specs.declared.Features.{Features}
 use Rattle.matching.specs.declared.QuirksFit.{QuirksFit}
 use Rattle.matching.specs.declared.Signature.{Signature}
 use Rattle.matching.specs.declared.SignatureFit.{SignatureFit}
-use Rattle.matching.specs.Gates.{olenMatches, mssMatches, scaleMatches, layoutMatches}
+use Rattle.matching.specs.Gates.{olenMatches, mssMatches, scaleMatches, entryGood, entriesGood, layoutMatches}
 use Rattle.matching.specs.Tolerance.{quirksFit}
-use Rattle.matching.specs.Fit.{featuresOf, scalarGates, toleranceOf}
+use Rattle.matching.specs.Fit.{featuresOf, toleranceOf}
 use Rattle.matching.proofs.olen_matches.Reads as olen-matches'
 use Rattle.matching.proofs.mss_matches.Reads as mss-matches'
 use Rattle.matching.proofs.wscale_matches.Reads as wscale-matches'
 use Rattle.matching.proofs.quirks_fit.Reads as quirks-fit'
 use Rattle.matching.proofs.olayout_matches.Reads as olayout-matches'
 use Rattle.matching.proofs.features_of.Reads as features-of'
-use Rattle.matching.proofs.gates.Reads as gates'
+use Rattle.matching.proofs.entry_good.Reads as entry-good'
 use Rattle.matching.proofs.tolerance.Reads as tolerance'
 
 pub olen-matches-one : (o s : ℕ) → ExactlyOne Bool (λ (r : Bool). olen-matches'.Post tt (o, (s, tt)) r (o, (s, tt)))
@@ -43,13 +43,13 @@ pub olayout-matches-one
     → ExactlyOne Bool
     (λ (r : Bool).
     olayout-matches'.Post κs (kinds, (bytes, (count, (entries, (declared, tt))))) r (kinds, (bytes, (count, (entries, (declared, tt))))))
-olayout-matches-one κs kinds bytes count entries declared = equation (layoutMatches count (now kinds) (now bytes) declared (now entries))
+olayout-matches-one κs kinds bytes count entries declared = equation (layoutMatches count (now kinds) (now bytes) declared (now entries) && entriesGood (now entries) declared)
+
+pub entry-good-one : (kind byte : ℕ) → ExactlyOne Bool (λ (r : Bool). entry-good'.Post tt (kind, (byte, tt)) r (kind, (byte, tt)))
+entry-good-one kind byte = equation (entryGood kind byte)
 
 pub features-of-one : (o : TcpObservation) → ExactlyOne Features (λ (r : Features). features-of'.Post tt (o, tt) r (o, tt))
 features-of-one o = equation (featuresOf o)
-
-pub gates-one : (f : Features) (s : Signature) → ExactlyOne Bool (λ (r : Bool). gates'.Post tt (f, (s, tt)) r (f, (s, tt)))
-gates-one f s = equation (scalarGates f s)
 
 pub tolerance-one : (f : Features) (s : Signature) → ExactlyOne SignatureFit (λ (r : SignatureFit). tolerance'.Post tt (f, (s, tt)) r (f, (s, tt)))
 tolerance-one f s = equation (toleranceOf f s)

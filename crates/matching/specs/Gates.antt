@@ -1,6 +1,6 @@
 -- Gates of a fit (document 01, module 7): option length, MSS, scale, layout. The others, version, window and payload, are those of distances.
 use Prim.Native.Nat.{ℕ, _+_, _*_}
-use mathlib.Core.Bool.{Bool, true, false, _&&_}
+use mathlib.Core.Bool.{Bool, true, false, _&&_, _||_}
 use mathlib.Core.List.{List}
 use lib.Dec.{eqb, leb}
 use lib.ListN.{length}
@@ -25,6 +25,14 @@ unfoldable pub scaleMatches : Wscale → Wscale → Bool
 scaleMatches observed wscale.Absent = true
 scaleMatches wscale.Absent (wscale.Present declared) = false
 scaleMatches (wscale.Present seen) (wscale.Present declared) = eqb seen declared
+
+-- "A layout entry is an option kind and a byte: bytes left after kind 0, else 0."
+unfoldable pub entryGood : ℕ → ℕ → Bool
+entryGood kind byte = eqb byte 0 || eqb kind 0
+
+-- Every entry of a row of entries, kind before byte, up to a count.
+unfoldable pub entriesGood : List ℕ → ℕ → Bool
+entriesGood entries = allBelow (λ (i : ℕ). entryGood (byteAt entries (2 * i)) (byteAt entries (2 * i + 1)))
 
 -- Each kind and byte of an observation's layout is that of a signature's entry, up to a count. The entries lie one after the
 -- other, kind before byte.

@@ -2,17 +2,15 @@
 ghost use mathlib.Core.Path.{_≡_};
 ghost use Prim.Native.Nat.{_*_, _≤_};
 ghost use lib.ListN.{length};
-ghost use Rattle.matching.specs.Gates.{olenMatches, mssMatches, scaleMatches, entriesMatch, layoutMatches};
+ghost use mathlib.Core.Bool.{_&&_};
+ghost use Rattle.matching.specs.Gates.{olenMatches, mssMatches, scaleMatches, entryGood, entriesGood, entriesMatch, layoutMatches};
 ghost use Rattle.matching.specs.Tolerance.{maskedQuirks, quirksFit, judgeInRange, judge};
-ghost use Rattle.matching.specs.Fit.{featuresOf, scalarGates, toleranceOf};
+ghost use Rattle.matching.specs.Fit.{featuresOf, toleranceOf};
 use distances::SigPayload;
 use distances::SigVersion;
 use distances::TtlFit;
 use distances::WindowSize;
-use distances::ip_version_matches;
-use distances::payload_size_matches;
 use distances::ttl_fit;
-use distances::window_size_matches;
 use observable::TcpObservation;
 use quirks::QuirkSet;
 use tcp::IpVersion;
@@ -148,18 +146,34 @@ pub fn quirks_fit(observed: QuirkSet, signature: QuirkSet) -> QuirksFit
 
 // ---- the layout, compared where it lies
 
-// Each kind and byte of an observation's layout against the entries of a signature, kind before byte.
+// A layout entry is an option kind and a byte: bytes left after kind 0, else 0. Most bytes are 0, so the byte is tested first.
+pub fn entry_good(kind: u8, byte: u8) -> bool
+    ensures { λ r. ⌜ r ≡ entryGood kind byte ⌝ }
+{
+    if byte == 0 {
+        return true;
+    }
+    kind == 0
+}
+
+// Each kind and byte of an observation's layout against the entries of a signature, kind before byte, in one walk with whether
+// the entries are good.
 fn entries_match(kinds: &[u8], bytes: &[u8], entries: &[u8], count: usize) -> bool
     requires { ⌜ (count ≤ length (now kinds)) × (count ≤ length (now bytes)) × (2 * count ≤ length (now entries)) ⌝ }
-    ensures { λ r. ⌜ r ≡ entriesMatch (now (kinds .entry)) (now (bytes .entry)) (now (entries .entry)) count ⌝ }
+    ensures { λ r. ⌜ r ≡ entriesMatch (now (kinds .entry)) (now (bytes .entry)) (now (entries .entry)) count && entriesGood (now (entries .entry)) count ⌝ }
 {
     let mut i = 0;
     while i < count {
         let at = 2 * i;
-        if kinds[i] != entries[at] {
+        let kind = entries[at];
+        let byte = entries[at + 1];
+        if kinds[i] != kind {
             return false;
         }
-        if bytes[i] != entries[at + 1] {
+        if bytes[i] != byte {
+            return false;
+        }
+        if !entry_good(kind, byte) {
             return false;
         }
         i += 1;
@@ -167,7 +181,8 @@ fn entries_match(kinds: &[u8], bytes: &[u8], entries: &[u8], count: usize) -> bo
     true
 }
 
-// The layout gate: the count, then each kind and byte up to it.
+// The layout gate: the count, then each kind and byte up to it. Entries that no well-formed record has match nothing, so that a
+// search need not walk over them again.
 pub fn olayout_matches(
     kinds: &[u8],
     bytes: &[u8],
@@ -175,7 +190,7 @@ pub fn olayout_matches(
     entries: &[u8],
     declared: usize,
 ) -> bool
-    ensures { λ r. ⌜ r ≡ layoutMatches count (now (kinds .entry)) (now (bytes .entry)) declared (now (entries .entry)) ⌝ }
+    ensures { λ r. ⌜ r ≡ layoutMatches count (now (kinds .entry)) (now (bytes .entry)) declared (now (entries .entry)) && entriesGood (now (entries .entry)) declared ⌝ }
 {
     if count != declared {
         return false;
@@ -217,38 +232,6 @@ pub fn features_of(observed: TcpObservation) -> Features
         quirks,
         count: layout.count,
     }
-}
-
-// Six of the gates: all but the layout.
-pub fn gates(observed: Features, signature: Signature) -> bool
-    ensures { λ r. ⌜ r ≡ scalarGates observed signature ⌝ }
-{
-    let version = observed.version;
-    let declared_version = signature.version;
-    if !ip_version_matches(version, declared_version) {
-        return false;
-    }
-    if !olen_matches(observed.olen, signature.olen) {
-        return false;
-    }
-    let mss = observed.mss;
-    let declared_mss = signature.mss;
-    if !mss_matches(mss, declared_mss) {
-        return false;
-    }
-    let multiplier = observed.multiplier;
-    let declared_window = signature.wsize;
-    if !window_size_matches(observed.wsize, declared_window, multiplier) {
-        return false;
-    }
-    let wscale = observed.wscale;
-    let declared_scale = signature.wscale;
-    if !wscale_matches(wscale, declared_scale) {
-        return false;
-    }
-    let pclass = observed.pclass;
-    let declared_payload = signature.pclass;
-    payload_size_matches(pclass, declared_payload)
 }
 
 // The TTL and the quirks together: nothing tolerated is exact.

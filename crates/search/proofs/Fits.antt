@@ -10,14 +10,13 @@ use borrow.Author.Tests.{lt-ltb, eq-eqb}
 use Rattle.matching.specs.declared.Features.{Features}
 use Rattle.matching.specs.declared.SignatureFit.{SignatureFit}
 use Rattle.matching.specs.declared.SignatureFit.the-variants as fit
-use Rattle.matching.specs.Gates.{layoutMatches}
+use Rattle.matching.specs.Gates.{entriesGood, layoutMatches}
 use Rattle.matching.specs.Fit.{scalarGates, toleranceOf, fitOf}
 use Rattle.basis.proofs.Bytes.{part-length}
-use Rattle.basis.proofs.Tests.{and-left, and-right}
-use Rattle.matching.proofs.Scalars.{and-false}
+use Rattle.basis.proofs.Tests.{and-left, and-right, and-false, and-true}
 use Rattle.siglist.specs.declared.Areas.{Areas}
 use Rattle.siglist.specs.Record.{signatureOf, firstEntry, entryCount, scalarsGood}
-use Rattle.siglist.specs.List.{recordCount, layoutCount, AreasFit, recordStart, recordAt, entriesOf, layoutLies, recordGood, wellFormed}
+use Rattle.siglist.specs.List.{recordCount, layoutCount, AreasFit, recordStart, recordAt, entriesOf, layoutLies, recordGood, scalarsWellFormed}
 use Rattle.found.specs.Keep.{fitsNothing}
 use Rattle.search.specs.Search.{fitAt}
 use Rattle.siglist.proofs.List.{list-fits}
@@ -28,6 +27,11 @@ not-both true true x y e = absurd (true≢false e)
 not-both true false x y e = refl
 not-both false true x y e = refl
 not-both false false x y e = refl
+
+no-match : (m g s p : Bool) → m && g ≡ false → m && (s && (p && g)) ≡ false
+no-match false g s p e = refl
+no-match true false s p e = rw (and-false p) (and-false s)
+no-match true true s p e = absurd (true≢false e)
 
 second-holds : (c g : Bool) → c && g ≡ true → g ≡ true
 second-holds true g e = e
@@ -115,8 +119,15 @@ module _ (n : ℕ) (kinds bytes l : List ℕ) (a : Areas) (i : ℕ) (fits : Area
   is-bad : recordGood l i ≡ false → Holds ≡ false
   is-bad e = rw e (and-false (layoutMatches n kinds bytes (entryCount (recordAt l i)) (entriesOf l (recordAt l i))))
 
-  pub layout-fails : layoutMatches n kinds bytes (entryCount (recordAt l i)) (entriesOf l (recordAt l i)) ≡ false → Holds ≡ false
-  layout-fails e = rw e
+  abbrev Matched : Bool
+  Matched =
+      layoutMatches n kinds bytes (entryCount (recordAt l i)) (entriesOf l (recordAt l i))
+      && entriesGood (entriesOf l (recordAt l i)) (entryCount (recordAt l i))
+
+  pub layout-fails : Matched ≡ false → Holds ≡ false
+  unfolding recordGood layoutLies
+  layout-fails e =
+      no-match (layoutMatches n kinds bytes (entryCount (recordAt l i)) (entriesOf l (recordAt l i))) (entriesGood (entriesOf l (recordAt l i)) (entryCount (recordAt l i))) (scalarsGood (recordAt l i)) (leb (entryCount (recordAt l i)) 40 && leb (firstEntry (recordAt l i) + entryCount (recordAt l i)) (layoutCount l)) e
 
   pub bad-place
       : leb (entryCount (recordAt l i)) 40 && leb (firstEntry (recordAt l i) + entryCount (recordAt l i)) (a .entries) ≡ false
@@ -124,18 +135,18 @@ module _ (n : ℕ) (kinds bytes l : List ℕ) (a : Areas) (i : ℕ) (fits : Area
   unfolding recordGood layoutLies
   bad-place e = is-bad (rw (← fits .entries, e) (and-false (scalarsGood (recordAt l i))))
 
-  pub well-formed-decides
+  pub scalars-decide
       : leb (entryCount (recordAt l i)) 40 && leb (firstEntry (recordAt l i) + entryCount (recordAt l i)) (a .entries) ≡ true
-      → layoutMatches n kinds bytes (entryCount (recordAt l i)) (entriesOf l (recordAt l i)) ≡ true
+      → Matched ≡ true
       → length (recordAt l i) ≡ 24
-      → length (entriesOf l (recordAt l i)) ≡ 2 * entryCount (recordAt l i)
-      → Holds ≡ wellFormed (recordAt l i) (entriesOf l (recordAt l i))
-  unfolding recordGood layoutLies wellFormed
-  well-formed-decides lie layout whole entries =
+      → Holds ≡ scalarsWellFormed (recordAt l i)
+  unfolding recordGood layoutLies scalarsWellFormed
+  scalars-decide lie matched whole =
       rw (
         ← fits .entries,
         lie,
-        layout,
+        and-left (layoutMatches n kinds bytes (entryCount (recordAt l i)) (entriesOf l (recordAt l i))) _ matched,
+        and-right (layoutMatches n kinds bytes (entryCount (recordAt l i)) (entriesOf l (recordAt l i))) (entriesGood (entriesOf l (recordAt l i)) (entryCount (recordAt l i))) matched,
         eq-eqb (length (recordAt l i)) 24 whole,
-        eq-eqb (length (entriesOf l (recordAt l i))) (2 * entryCount (recordAt l i)) entries,
       )
+      (and-true (scalarsGood (recordAt l i)))

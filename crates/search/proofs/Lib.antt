@@ -3,4 +3,5 @@ pub mod Fits
 pub mod Order
 pub mod Refusals
 pub mod Rows
+pub mod Scalars
 pub mod Unique

@@ -32,7 +32,7 @@ use numbers::be16;
 use numbers::wide;
 use siglist::Areas;
 use siglist::RECORD;
-use siglist::well_formed;
+use siglist::scalars_well_formed;
 use tcp::IpVersion;
 use tcp::Mss;
 use tcp::PayloadSize;
@@ -150,7 +150,7 @@ pub(crate) fn holds_at(
     if !olayout_matches(kinds, bytes, count, entries, declared) {
         return false;
     }
-    well_formed(raw, entries)
+    scalars_well_formed(raw)
 }
 
 // How a record that passes the gates fits. TTL and quirks come first: only of a record that passes them too is it asked whether it

@@ -8,9 +8,9 @@ use Rattle.basis.specs.Unique.{ExactlyOne}
 use Rattle.basis.proofs.Unique.{equation}
 use Rattle.siglist.specs.declared.Header.{Header}
 use Rattle.siglist.specs.declared.ListAnswer.{ListAnswer}
-use Rattle.siglist.specs.List.{headerOf, wellFormed, checkList}
+use Rattle.siglist.specs.List.{headerOf, scalarsWellFormed, checkList}
 use Rattle.siglist.proofs.read_header.Reads as read-header'
-use Rattle.siglist.proofs.well_formed.Reads as well-formed'
+use Rattle.siglist.proofs.scalars_well_formed.Reads as scalars-well-formed'
 use Rattle.siglist.proofs.check_list.Reads as check-list'
 
 module _ (κs : Lfts 1) (list : RefT (List ℕ)) where
@@ -20,7 +20,5 @@ module _ (κs : Lfts 1) (list : RefT (List ℕ)) where
   pub check-list-one : ExactlyOne ListAnswer (λ (r : ListAnswer). check-list'.Post κs (list, tt) r (list, tt))
   check-list-one = equation (checkList (now list))
 
-pub well-formed-one
-    : (κs : Lfts 2) (raw entries : RefT (List ℕ))
-    → ExactlyOne Bool (λ (r : Bool). well-formed'.Post κs (raw, (entries, tt)) r (raw, (entries, tt)))
-well-formed-one κs raw entries = equation (wellFormed (now raw) (now entries))
+pub scalars-well-formed-one : (κs : Lfts 1) (raw : RefT (List ℕ)) → ExactlyOne Bool (λ (r : Bool). scalars-well-formed'.Post κs (raw, tt) r (raw, tt))
+scalars-well-formed-one κs raw = equation (scalarsWellFormed (now raw))

@@ -11,7 +11,8 @@ use Rattle.siglist.specs.declared.Header.{Header}
 use Rattle.siglist.specs.declared.Header.the-variants as header
 use Rattle.siglist.specs.declared.ListAnswer.{ListAnswer}
 use Rattle.siglist.specs.declared.ListAnswer.the-variants as answer
-use Rattle.siglist.specs.Record.{firstEntry, entryCount, scalarsGood, entriesGood}
+use Rattle.matching.specs.Gates.{entriesGood}
+use Rattle.siglist.specs.Record.{firstEntry, entryCount, scalarsGood}
 
 -- "Header of 8 bytes, four two-byte numbers: signature count, offset of records, layout entry count, offset of layout entries."
 abbrev pub recordCount : List ℕ → ℕ
@@ -77,10 +78,9 @@ layoutLies l first count =
 unfoldable pub recordGood : List ℕ → ℕ → Bool
 recordGood l i = scalarsGood (recordAt l i) && layoutLies l (firstEntry (recordAt l i)) (entryCount (recordAt l i))
 
--- A record given as its 24 bytes and the entries of its layout, two bytes each: both are whole, and no condition makes it bad.
-unfoldable pub wellFormed : List ℕ → List ℕ → Bool
-wellFormed r entries =
-    eqb (length r) 24 && eqb (length entries) (2 * entryCount r) && scalarsGood r && entriesGood entries (entryCount r)
+-- A record given as its 24 bytes: it is whole, and no condition but those of its layout makes it bad.
+unfoldable pub scalarsWellFormed : List ℕ → Bool
+scalarsWellFormed r = eqb (length r) 24 && scalarsGood r
 
 -- Of so many records from this one on: all well formed, or the index of the first that is bad.
 unfoldable pub recordsFrom : List ℕ → ℕ → ℕ → ListAnswer

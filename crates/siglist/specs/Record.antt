@@ -4,7 +4,6 @@ use mathlib.Core.Bool.{Bool, true, false, cond, not, _&&_, _||_}
 use mathlib.Core.List.{List}
 use lib.Dec.{eqb, leb, ltb}
 use Rattle.basis.specs.Bytes.{byteAt, be16, be32}
-use Rattle.basis.specs.Tests.{allBelow}
 use Rattle.quirks.specs.Quirks.{setOf, isEmpty, difference}
 use Rattle.quirks.specs.Named.{seventeen}
 use Rattle.tcp.specs.declared.Mss.{Mss}
@@ -112,11 +111,3 @@ scalarsGood r =
     && payloadGood (byteAt r 13)
     && quirksGood (be32 r 14)
     && eqb (byteAt r 21) 0
-
--- "A layout entry is an option kind and a byte: bytes left after kind 0, else 0."
-unfoldable pub entryGood : ℕ → ℕ → Bool
-entryGood kind byte = eqb kind 0 || eqb byte 0
-
--- Every entry of a row of entries, kind before byte, up to a count.
-unfoldable pub entriesGood : List ℕ → ℕ → Bool
-entriesGood entries = allBelow (λ (i : ℕ). entryGood (byteAt entries (2 * i)) (byteAt entries (2 * i + 1)))

@@ -2,7 +2,7 @@
 ghost use mathlib.Core.Path.{_≡_};
 ghost use Prim.Native.Nat.{_+_, _*_, _≤_, _<_};
 ghost use lib.ListN.{length};
-ghost use Rattle.siglist.specs.List.{listFits, areasOf, headerOf, AreasFit, layoutLies, recordGood, wellFormed, checkList};
+ghost use Rattle.siglist.specs.List.{listFits, areasOf, headerOf, AreasFit, layoutLies, recordGood, scalarsWellFormed, checkList};
 use numbers::be16;
 use numbers::wide;
 use raw::entries_good;
@@ -109,21 +109,14 @@ fn record_good(list: &[u8], areas: Areas, i: usize) -> bool
     )
 }
 
-// A record, given as its bytes and the entries of its layout, is well formed.
-pub fn well_formed(raw: &[u8], entries: &[u8]) -> bool
-    ensures { λ r. ⌜ r ≡ wellFormed (now (raw .entry)) (now (entries .entry)) ⌝ }
+// A record, given as its bytes, is well formed but for its layout.
+pub fn scalars_well_formed(raw: &[u8]) -> bool
+    ensures { λ r. ⌜ r ≡ scalarsWellFormed (now (raw .entry)) ⌝ }
 {
     if raw.len() != RECORD {
         return false;
     }
-    let count = wide(raw[20]) as usize;
-    if entries.len() != 2 * count {
-        return false;
-    }
-    if !scalars_good(raw) {
-        return false;
-    }
-    entries_good(entries, count)
+    scalars_good(raw)
 }
 
 // A list is well formed, or refused by 9, or by 10 with the index of its first bad record.

@@ -2,7 +2,9 @@
 ghost use mathlib.Core.Path.{_≡_};
 ghost use Prim.Native.Nat.{_+_, _*_, _≤_};
 ghost use lib.ListN.{length};
-ghost use Rattle.siglist.specs.Record.{versionGood, ttlGood, presenceGood, windowGood, quirksGood, scalarsGood, entryGood, entriesGood};
+ghost use Rattle.siglist.specs.Record.{versionGood, ttlGood, presenceGood, windowGood, quirksGood, scalarsGood};
+ghost use Rattle.matching.specs.Gates.{entriesGood};
+use matching::entry_good;
 use numbers::be16;
 use numbers::be32;
 use numbers::wide;
@@ -81,15 +83,6 @@ pub(crate) fn scalars_good(raw: &[u8]) -> bool
         & (raw[13] <= 2)
         & quirks_good(quirks)
         & (raw[21] == 0)
-}
-
-pub(crate) fn entry_good(kind: u8, byte: u8) -> bool
-    ensures { λ r. ⌜ r ≡ entryGood kind byte ⌝ }
-{
-    if kind == 0 {
-        return true;
-    }
-    byte == 0
 }
 
 pub(crate) fn entries_good(entries: &[u8], count: usize) -> bool

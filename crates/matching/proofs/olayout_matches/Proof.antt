@@ -30,7 +30,7 @@ entries-match-requires c κs = search needs
 
 returns-5 : tie.Need-returns-5
 unfolding layoutMatches
-returns-5 c = rw (le-leb (2 * c .before .before .before .before .before .before .before .before .args .declared) (length (c .before .before .before .before .before .before .before .before .args .entries .now)) (omega arith), ← c .entries-match .ensures) (search cases)
+returns-5 c = rw (le-leb (2 * c .before .before .before .before .before .before .before .before .args .declared) (length (c .before .before .before .before .before .before .before .before .args .entries .now)) (omega arith), c .entries-match .ensures) (search cases)
 
 pub olayout-matches-spec : {M : Type 1} → statement M
 olayout-matches-spec =

@@ -1,7 +1,8 @@
 -- `search::gates_at` meets its contract.
 use lib.Dec.{eqb}
 use Rattle.siglist.specs.Record.{entryCount, signatureOf}
-use Rattle.matching.proofs.Scalars.{and-false, fails-version, fails-olen, fails-mss, fails-scale, fails-payload, window-decides}
+use Rattle.basis.proofs.Tests.{and-false}
+use Rattle.search.proofs.Scalars.{fails-version, fails-olen, fails-mss, fails-scale, fails-payload, window-decides}
 use Rattle.basis.specs.Bytes.{be16}
 use borrow.Author.Tests.{eq-eqb, ne-eqb, not-true, not-false}
 use mathlib.Core.Path.{sym, _∙_}

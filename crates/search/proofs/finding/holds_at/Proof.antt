@@ -1,5 +1,5 @@
 -- `search::holds_at` meets its contract.
-use Rattle.search.proofs.Fits.{layout-fails, bad-place, record-whole, well-formed-decides}
+use Rattle.search.proofs.Fits.{layout-fails, bad-place, record-whole, scalars-decide}
 use Rattle.basis.specs.Bytes.{be16}
 use lib.Dec.{leb}
 use Prim.Native.Nat.{_+_, _≤_}
@@ -99,8 +99,8 @@ returns-2 c =
     let fits = c .before .before .before .before .before .before .before .before .before .before .before .before .before .before .before .before .pre .0 in
     sym (layout-fails (a .count) (a .kinds .now) (a .bytes .now) (a .list .now) (a .areas) (a .i) fits (rw (← fits .recordsAt, ← fits .entriesAt, ← c .before .before .before .before .before .before .wide .ensures, ← c .before .before .before .before .before .before .before .before .be16 .ensures) (sym (c .before .olayout-matches .ensures) ∙ not-true (c .before .olayout-matches .result) (c .if2 .taken))))
 
-well-formed-requires : tie.Need-well-formed-requires
-well-formed-requires c κs = search needs
+scalars-well-formed-requires : tie.Need-scalars-well-formed-requires
+scalars-well-formed-requires c κs = search needs
 
 returns-3 : tie.Need-returns-3
 unfolding be16
@@ -114,14 +114,13 @@ returns-3 c =
     let start = first .before .before .before .before .before .before .before .before in
     let a = start .args in
     let fits = start .pre .0 in
-    c .well-formed .ensures
+    c .scalars-well-formed .ensures
     ∙ sym
-    (well-formed-decides (a .count) (a .kinds .now) (a .bytes .now) (a .list .now) (a .areas) (a .i) fits
+    (scalars-decide (a .count) (a .kinds .now) (a .bytes .now) (a .list .now) (a .areas) (a .i) fits
     (rw (← fits .recordsAt, ← declared .wide .ensures, ← first .be16 .ensures) (sym (lies .entries-lie .ensures) ∙ not-false (lies .entries-lie .result) (lying .if1 .left)))
     (rw (← fits .recordsAt, ← fits .entriesAt, ← declared .wide .ensures, ← first .be16 .ensures) (sym (matched .olayout-matches .ensures) ∙ not-false (matched .olayout-matches .result) (left .if2 .left)))
     (record-whole (a .list .now) (a .areas) (a .i) fits (start .pre .1))
-    (rw (← fits .recordsAt, ← fits .entriesAt, ← declared .wide .ensures, ← first .be16 .ensures) (search needs))
-    ∙ rw (← fits .recordsAt, ← fits .entriesAt, ← declared .wide .ensures, ← first .be16 .ensures))
+    ∙ rw (← fits .recordsAt))
 
 pub holds-at-spec : {M : Type 1} → statement M
 holds-at-spec =
@@ -151,5 +150,5 @@ holds-at-spec =
     part-entries-end
     olayout-matches-requires
     returns-2
-    well-formed-requires
+    scalars-well-formed-requires
     returns-3)

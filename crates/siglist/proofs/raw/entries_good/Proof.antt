@@ -1,5 +1,5 @@
 -- `siglist::entries_good` meets its contract.
-use Rattle.siglist.specs.Record.{entryGood, entriesGood}
+use Rattle.matching.specs.Gates.{entryGood, entriesGood}
 use Rattle.basis.proofs.Tests.{none-below, one-more-below, fails-below}
 use Rattle.basis.specs.Bytes.{byteAt}
 use borrow.Author.Tests.{not-true, not-false}

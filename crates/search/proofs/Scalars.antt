@@ -1,19 +1,12 @@
 -- Laws of the six scalar gates: one that fails closes them all; where five hold, the window decides.
-use mathlib.Core.Path.{_≡_, refl}
-use mathlib.Core.Bool.{Bool, true, false, _&&_}
+use mathlib.Core.Path.{_≡_}
+use mathlib.Core.Bool.{true, false}
+use Rattle.basis.proofs.Tests.{and-false, and-true}
 use Rattle.matching.specs.declared.Features.{Features}
 use Rattle.matching.specs.declared.Signature.{Signature}
 use Rattle.distances.specs.Gates.{versionMatches, windowMatches, payloadMatches}
 use Rattle.matching.specs.Gates.{olenMatches, mssMatches, scaleMatches}
 use Rattle.matching.specs.Fit.{scalarGates}
-
-pub and-false : (a : Bool) → a && false ≡ false
-and-false true = refl
-and-false false = refl
-
-and-true : (a : Bool) → a && true ≡ a
-and-true true = refl
-and-true false = refl
 
 module _ (f : Features) (s : Signature) where
   pub fails-version : versionMatches (f .version) (s .version) ≡ false → scalarGates f s ≡ false

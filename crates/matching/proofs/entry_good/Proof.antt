@@ -1,8 +1,8 @@
--- `siglist::entry_good` meets its contract.
+-- `matching::entry_good` meets its contract.
 use Rattle.basis.proofs.Rules.{cases}
-use Rattle.siglist.specs.Record.{entryGood}
-use Rattle.siglist.proofs.raw.entry_good.Statement.{statement}
-use Rattle.siglist.proofs.raw.entry_good.Tie as tie
+use Rattle.matching.specs.Gates.{entryGood}
+use Rattle.matching.proofs.entry_good.Statement.{statement}
+use Rattle.matching.proofs.entry_good.Tie as tie
 
 returns : tie.Need-returns
 unfolding entryGood
