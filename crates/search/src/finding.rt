@@ -16,6 +16,7 @@ use crate::raw::mss_of;
 use crate::raw::scale_of;
 use crate::raw::signature_of;
 use crate::raw::window_of;
+use distances::WindowSize;
 use distances::window_size_matches;
 use found::Found;
 use found::is_exact;
@@ -70,6 +71,7 @@ pub(crate) fn scale_gate(observed: Wscale, present: u8, number: u8) -> bool
     wscale_matches(observed, scale_of(present, number))
 }
 
+// Most windows are declared as multiples of the MSS, so that form is tested first.
 pub(crate) fn window_gate(
     observed: u16,
     multiplier: Multiplier,
@@ -79,6 +81,9 @@ pub(crate) fn window_gate(
 ) -> bool
     ensures { λ r. ⌜ r ≡ windowMatches observed (windowOf form (high * 256 + low)) multiplier ⌝ }
 {
+    if form == 3 {
+        return window_size_matches(observed, WindowSize::Mss(low), multiplier);
+    }
     window_size_matches(observed, window_of(form, be16(high, low)), multiplier)
 }
 

@@ -8,7 +8,7 @@ use Rattle.siglist.specs.declared.ListAnswer.{ListAnswer}
 use Rattle.siglist.specs.declared.ListAnswer.the-variants as list
 use Rattle.siglist.specs.List.{recordCount, listFits, recordGood, recordsFrom, checkList}
 
--- A list is refused by 9 exactly when its header or areas do not fit.
+-- A list whose header or areas do not fit is refused by 9.
 pub does-not-fit : (l : List ℕ) → listFits l ≡ false → checkList l ≡ list.DoesNotFit
 unfolding checkList
 does-not-fit l e = rw e

@@ -1,5 +1,5 @@
 // The data types of tcp/mod.rs that more than one module shares. An observation's IP version is 4 or 6 and its payload is
-// empty or not; the wildcards of a signature are types of their own (the crate `matching`).
+// empty or not; the wildcards of a signature are types of their own (the crate `distances`).
 
 // The IP version of an observed packet.
 pub enum IpVersion {

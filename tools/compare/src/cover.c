@@ -23,16 +23,16 @@ static unsigned kind_class(uint8_t kind) {
 }
 
 /* Each option: its kind, how its length byte stands, whether it is clipped, how much of its data is there. */
-static void option_keys(int group, const uint8_t *s, size_t size) {
+static void option_keys(int group, const char *name, const uint8_t *s, size_t size) {
     size_t at = 0, own, left;
     while (at < size) {
         left = size - at;
         if (s[at] == 0) {
-            key(group, "option kind, length byte, clipped, data", 4000 + (unsigned)(left > 3 ? 3 : left), 2);
+            key(group, name, 4000 + (unsigned)(left > 3 ? 3 : left), 2);
             return;
         }
         own = s[at] == 1 ? 1 : left > 1 && s[at + 1] > 2 ? s[at + 1] : 2;
-        key(group, "option kind, length byte, clipped, data",
+        key(group, name,
             kind_class(s[at]) * 128 + (left < 2 ? 3 : s[at + 1] > 2 ? 2 : s[at + 1] == 2) * 32 + (own > left) * 16 +
                 (unsigned)((own > left ? left : own) > 11 ? 11 : own > left ? left : own), 1);
         at += own;
@@ -76,7 +76,7 @@ int new_packet(const uint8_t *p, size_t size, const Numbers *answer, const uint8
     options = 4u * (p[start + 12] >> 4);
     key(19, "data offset against the part", (unsigned)(options / 4) * 2 + (options > end - start), 1);
     if (options > end - start) options = end - start;
-    if (options > 20) option_keys(20, p + start + 20, options - 20);
+    if (options > 20) option_keys(20, "packets: option kind, length byte, clipped, data", p + start + 20, options - 20);
     observation_keys(o, first);
     return news > 0;
 }
@@ -85,7 +85,7 @@ int new_options(const uint8_t *s, size_t size, const Numbers *answer) {
     news = 0;
     key(21, "options: answer, malformed, MSS, scale",
         (unsigned)(answer->n[0] * 8 + answer->n[1] * 4 + (answer->n[2] != 0) * 2 + (answer->n[3] != 0)), 3);
-    if (size <= 40) option_keys(22, s, size);
+    if (size <= 40) option_keys(22, "options: option kind, length byte, clipped, data", s, size);
     key(23, "options: layout count", (unsigned)answer->n[20], 1);
     return news > 0;
 }
