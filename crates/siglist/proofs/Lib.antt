@@ -1,3 +1,4 @@
 pub mod List
 pub mod Refusals
+mod Scalars
 pub mod Unique

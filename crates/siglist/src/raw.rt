@@ -74,15 +74,28 @@ pub(crate) fn scalars_good(raw: &[u8]) -> bool
     requires { ⌜ length (now raw) ≡ 24 ⌝ }
     ensures { λ r. ⌜ r ≡ scalarsGood (now (raw .entry)) ⌝ }
 {
-    let quirks = be32(be16(raw[14], raw[15]), be16(raw[16], raw[17]));
-    version_good(raw[0])
-        & ttl_good(raw[1], raw[3])
-        & presence_good(raw[5], be16(raw[6], raw[7]))
-        & window_good(raw[8], be16(raw[9], raw[10]))
-        & presence_good(raw[11], wide(raw[12]))
-        & (raw[13] <= 2)
-        & quirks_good(quirks)
-        & (raw[21] == 0)
+    if !version_good(raw[0]) {
+        return false;
+    }
+    if !ttl_good(raw[1], raw[3]) {
+        return false;
+    }
+    if !presence_good(raw[5], be16(raw[6], raw[7])) {
+        return false;
+    }
+    if !window_good(raw[8], be16(raw[9], raw[10])) {
+        return false;
+    }
+    if !presence_good(raw[11], wide(raw[12])) {
+        return false;
+    }
+    if 2 < raw[13] {
+        return false;
+    }
+    if !quirks_good(be32(be16(raw[14], raw[15]), be16(raw[16], raw[17]))) {
+        return false;
+    }
+    raw[21] == 0
 }
 
 pub(crate) fn entries_good(entries: &[u8], count: usize) -> bool
