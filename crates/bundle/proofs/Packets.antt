@@ -12,7 +12,7 @@ use Rattle.basis.proofs.Tests.{and-left, and-right}
 use Rattle.siglist.specs.List.{checkList}
 use Rattle.bundle.specs.declared.BundleCheck.{BundleCheck}
 use Rattle.bundle.specs.declared.BundleCheck.the-variants as check
-use Rattle.bundle.specs.declared.PacketAnswer.{PacketAnswer}
+use Rattle.packet_answer.specs.declared.PacketAnswer.{PacketAnswer}
 use Rattle.bundle.specs.declared.PacketAt.{PacketAt}
 use Rattle.bundle.specs.declared.PacketAt.the-variants as there
 use Rattle.bundle.specs.Answers.{answerAt, packetLies, packetAt, startOf}

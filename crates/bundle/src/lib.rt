@@ -5,17 +5,14 @@ ghost use Prim.Native.Nat.{_+_, _≤_, _<_};
 ghost use lib.ListN.{length};
 ghost use Rattle.basis.specs.Bytes.{be16};
 ghost use Rattle.siglist.specs.List.{areaFits, checkList};
-ghost use Rattle.bundle.specs.Bundle.{packetCount, listLength, listOffset, listOf, peerOf, packetEnd, packetFits, packetsFit, listLies, bundleFits, checkBundle, bundleRefusal};
-ghost use Rattle.bundle.specs.Answers.{answerOf, answerAt, packetAt, startOf, packetAfter, packetAnswer};
-use flow::Answer;
-use flow::read_packet;
-use found::Found;
-use ip::Refusal;
+ghost use Rattle.bundle.specs.Bundle.{packetCount, listLength, listOffset, listOf, packetEnd, packetFits, packetsFit, listLies, bundleFits, checkBundle, bundleRefusal};
+ghost use Rattle.bundle.specs.Answers.{answerAt, packetAt, startOf, packetAfter, packetAnswer};
 use numbers::be16;
-use search::search_checked;
+use packet_answer::PacketAnswer;
+use packet_answer::answer_packet;
+use packet_answer::peer_of;
 use siglist::ListAnswer;
 use siglist::check_list;
-use tcp::Mss;
 
 // A bundle is well formed, or refused: 12, 9, or 10 with the index of its list's first bad record.
 pub enum BundleCheck {
@@ -23,14 +20,6 @@ pub enum BundleCheck {
     DoesNotFit,
     ListDoesNotFit,
     BadRecord(usize),
-}
-
-// The answer of a packet: what its search finds, nothing, or a refusal 1 to 7.
-pub enum PacketAnswer {
-    Syn(Found),
-    SynAck(Found),
-    Nothing,
-    Refused(Refusal),
 }
 
 // The answer of a bundle's packet, or why there is none: the bundle is refused, or has no such packet.
@@ -155,31 +144,6 @@ pub fn bundle_refusal(check: BundleCheck) -> u16
 }
 
 // ---- the answers
-
-// A peer's MSS of 0 is absent.
-pub fn peer_of(number: u16) -> Mss
-    ensures { λ r. ⌜ r ≡ peerOf number ⌝ }
-{
-    if number == 0 {
-        return Mss::Absent;
-    }
-    Mss::Present(number)
-}
-
-// The answer of a packet against a list that was checked: what is not a well-formed record of the list fits nothing.
-pub fn answer_packet(packet: &[u8], peer: Mss, list: &[u8]) -> PacketAnswer
-    ensures { λ r. ⌜ r ≡ answerOf (now (packet .entry)) peer (now (list .entry)) ⌝ }
-{
-    let reading = read_packet(packet, peer);
-    let observation = reading.observation;
-    let answer = reading.answer;
-    match answer {
-        Answer::Syn => PacketAnswer::Syn(search_checked(observation, list)),
-        Answer::SynAck => PacketAnswer::SynAck(search_checked(observation, list)),
-        Answer::Nothing => PacketAnswer::Nothing,
-        Answer::Refused(refusal) => PacketAnswer::Refused(refusal),
-    }
-}
 
 // The answer of the packet that starts at a place.
 fn answer_at_place(bundle: &[u8], at: usize) -> PacketAnswer

@@ -11,8 +11,8 @@ use Rattle.report.specs.Pages.{written, Put}
 use Rattle.ip.specs.Numbers.{number}
 use Rattle.found.specs.declared.Found.{Found}
 use Rattle.found.specs.declared.Found.the-variants as found
-use Rattle.bundle.specs.declared.PacketAnswer.{PacketAnswer}
-use Rattle.bundle.specs.declared.PacketAnswer.the-variants as packet
+use Rattle.packet_answer.specs.declared.PacketAnswer.{PacketAnswer}
+use Rattle.packet_answer.specs.declared.PacketAnswer.the-variants as packet
 use Rattle.report.specs.Text.{width, fiveDigits, decimal, newline, exactWord, fuzzyWord, synWord, synackWord, refusedWord, foundText, answerText, lineOf}
 
 pub copied : (page word : List ℕ) (at i : ℕ) → length word ≤ i → i ≤ length word → paste page at word i ≡ written page at word

@@ -5,9 +5,9 @@ ghost use Prim.Native.Nat.{_+_, _%_, _≤_};
 ghost use lib.ListN.{length};
 ghost use Rattle.report.specs.Pages.{written};
 ghost use Rattle.report.specs.Text.{width, decimal, foundText, answerText, lineOf, newline};
-use bundle::PacketAnswer;
 use found::Found;
 use ip::refusal_number;
+use packet_answer::PacketAnswer;
 
 pub(crate) fn put(page: &mut [u8], at: usize, word: &[u8]) -> usize
     requires { ⌜ at + length (now word) ≤ length (now page) ⌝ }

@@ -1,8 +1,8 @@
 use mathlib.Core.Path.{sym}
-use Rattle.bundle.specs.Answers.{answerOf}
+use Rattle.packet_answer.specs.Packet.{answerOf}
 use borrow.Author.Needs.{needs}
-use Rattle.bundle.proofs.answer_packet.Statement.{statement}
-use Rattle.bundle.proofs.answer_packet.Tie as tie
+use Rattle.packet_answer.proofs.answer_packet.Statement.{statement}
+use Rattle.packet_answer.proofs.answer_packet.Tie as tie
 
 read-packet-requires : tie.Need-read-packet-requires
 read-packet-requires c κs = search needs

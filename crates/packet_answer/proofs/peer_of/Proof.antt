@@ -1,8 +1,7 @@
--- `counted::peer_of` meets its contract.
 use Rattle.basis.proofs.Rules.{cases}
-use Rattle.counted.specs.Counted.{peerOf}
-use Rattle.counted.proofs.peer_of.Statement.{statement}
-use Rattle.counted.proofs.peer_of.Tie as tie
+use Rattle.packet_answer.specs.Packet.{peerOf}
+use Rattle.packet_answer.proofs.peer_of.Statement.{statement}
+use Rattle.packet_answer.proofs.peer_of.Tie as tie
 
 returns : tie.Need-returns
 unfolding peerOf
