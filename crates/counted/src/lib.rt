@@ -4,7 +4,7 @@ ghost use Rattle.counted.specs.Counted.{observed, found};
 use packet_answer::peer_of;
 use witness::Plain;
 use witness::searched::found_number;
-use witness::shown::plain_of;
+use witness::whole::plain_of;
 
 // The reading of a packet, whole.
 #[no_mangle]

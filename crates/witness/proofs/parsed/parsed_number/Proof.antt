@@ -2,8 +2,8 @@
 use Rattle.basis.proofs.Rules.{cases}
 use Rattle.witness.specs.Reading.{parsedNumber}
 use borrow.Author.Needs.{needs}
-use Rattle.witness.proofs.shown.parsed_number.Statement.{statement}
-use Rattle.witness.proofs.shown.parsed_number.Tie as tie
+use Rattle.witness.proofs.parsed.parsed_number.Statement.{statement}
+use Rattle.witness.proofs.parsed.parsed_number.Tie as tie
 
 bool-number-requires : tie.Need-bool-number-requires
 bool-number-requires c κs = search needs

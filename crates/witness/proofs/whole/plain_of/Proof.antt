@@ -1,8 +1,8 @@
 -- `witness::plain_of` meets its contract.
 use Rattle.witness.specs.Reading.{plainOf}
 use borrow.Author.Needs.{needs}
-use Rattle.witness.proofs.shown.plain_of.Statement.{statement}
-use Rattle.witness.proofs.shown.plain_of.Tie as tie
+use Rattle.witness.proofs.whole.plain_of.Statement.{statement}
+use Rattle.witness.proofs.whole.plain_of.Tie as tie
 
 answer-number-requires : tie.Need-answer-number-requires
 answer-number-requires c κs = search needs

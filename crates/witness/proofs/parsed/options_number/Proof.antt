@@ -2,8 +2,8 @@
 use Rattle.basis.proofs.Rules.{cases}
 use Rattle.witness.specs.Reading.{readNumber}
 use borrow.Author.Needs.{needs}
-use Rattle.witness.proofs.shown.options_number.Statement.{statement}
-use Rattle.witness.proofs.shown.options_number.Tie as tie
+use Rattle.witness.proofs.parsed.options_number.Statement.{statement}
+use Rattle.witness.proofs.parsed.options_number.Tie as tie
 
 options-answer-requires : tie.Need-options-answer-requires
 options-answer-requires c κs = search needs
