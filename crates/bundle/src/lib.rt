@@ -44,13 +44,20 @@ const BEFORE: usize = 4;
 
 // ---- the check
 
+// A number of two bytes.
+fn number_at(bundle: &[u8], at: usize) -> usize
+    requires { ⌜ at + 2 ≤ length (now bundle) ⌝ }
+    ensures { λ r. ⌜ (r ≡ be16 (now (bundle .entry)) at) × (r ≤ 65535) ⌝ }
+{
+    be16(bundle[at], bundle[at + 1]) as usize
+}
+
 // The end of the packet that starts at a place.
 fn packet_end(bundle: &[u8], at: usize) -> usize
     requires { ⌜ at + 4 ≤ length (now bundle) ⌝ }
     ensures { λ r. ⌜ r ≡ packetEnd (now (bundle .entry)) at ⌝ }
 {
-    let length_at = at + 2;
-    at + BEFORE + be16(bundle[length_at], bundle[length_at + 1]) as usize
+    at + BEFORE + number_at(bundle, at + 2)
 }
 
 fn packet_fits(bundle: &[u8], at: usize) -> bool
@@ -88,9 +95,7 @@ fn list_lies(bundle: &[u8]) -> bool
     if bundle.len() < HEADER {
         return false;
     }
-    let length = be16(bundle[4], bundle[5]) as usize;
-    let offset = be16(bundle[6], bundle[7]) as usize;
-    offset + length <= bundle.len()
+    number_at(bundle, 6) + number_at(bundle, 4) <= bundle.len()
 }
 
 fn bundle_fits(bundle: &[u8]) -> bool
@@ -102,9 +107,7 @@ fn bundle_fits(bundle: &[u8]) -> bool
     if !list_lies(bundle) {
         return false;
     }
-    let count = be16(bundle[0], bundle[1]) as usize;
-    let offset = be16(bundle[2], bundle[3]) as usize;
-    packets_fit(bundle, offset, count)
+    packets_fit(bundle, number_at(bundle, 2), number_at(bundle, 0))
 }
 
 // The list's bytes lie where the header says.
@@ -112,8 +115,8 @@ fn check_list_of(bundle: &[u8]) -> ListAnswer
     requires { ⌜ (8 ≤ length (now bundle)) × (listOffset (now bundle) + listLength (now bundle) ≤ length (now bundle)) ⌝ }
     ensures { λ r. ⌜ r ≡ checkList (listOf (now (bundle .entry))) ⌝ }
 {
-    let start = be16(bundle[6], bundle[7]) as usize;
-    let end = start + be16(bundle[4], bundle[5]) as usize;
+    let start = number_at(bundle, 6);
+    let end = start + number_at(bundle, 4);
     check_list(&bundle[start..end])
 }
 
@@ -150,11 +153,11 @@ fn answer_at_place(bundle: &[u8], at: usize) -> PacketAnswer
     requires { ⌜ (8 ≤ length (now bundle)) × (listOffset (now bundle) + listLength (now bundle) ≤ length (now bundle)) × (at + 4 ≤ length (now bundle)) × (packetEnd (now bundle) at ≤ length (now bundle)) ⌝ }
     ensures { λ r. ⌜ r ≡ answerAt (now (bundle .entry)) at ⌝ }
 {
-    let peer = peer_of(be16(bundle[at], bundle[at + 1]));
+    let peer = peer_of(number_at(bundle, at) as u16);
     let start = at + BEFORE;
     let end = packet_end(bundle, at);
-    let list_start = be16(bundle[6], bundle[7]) as usize;
-    let list_end = list_start + be16(bundle[4], bundle[5]) as usize;
+    let list_start = number_at(bundle, 6);
+    let list_end = list_start + number_at(bundle, 4);
     answer_packet(&bundle[start..end], peer, &bundle[list_start..list_end])
 }
 
@@ -176,7 +179,7 @@ fn place_of(bundle: &[u8], i: usize) -> usize
     requires { ⌜ (bundleFits (now bundle) ≡ true) × (i < packetCount (now bundle)) ⌝ }
     ensures { λ r. ⌜ (r ≡ startOf (now (bundle .entry)) i) × (packetFits (now (bundle .entry)) r ≡ true) ⌝ }
 {
-    let mut at = be16(bundle[2], bundle[3]) as usize;
+    let mut at = number_at(bundle, 2);
     let mut k = 0;
     while k < i {
         at = packet_end(bundle, at);
@@ -189,8 +192,7 @@ fn answer_of(bundle: &[u8], i: usize) -> AnswerAt
     requires { ⌜ bundleFits (now bundle) ≡ true ⌝ }
     ensures { λ r. ⌜ r ≡ packetAfter BundleCheck.Good (now (bundle .entry)) i ⌝ }
 {
-    let count = be16(bundle[0], bundle[1]) as usize;
-    if count <= i {
+    if number_at(bundle, 0) <= i {
         return AnswerAt::NoPacket;
     }
     AnswerAt::Answer(answer_at_place(bundle, place_of(bundle, i)))
