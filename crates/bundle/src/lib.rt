@@ -202,10 +202,9 @@ fn answer_of(bundle: &[u8], i: usize) -> AnswerAt
 pub fn answer_at(bundle: &[u8], i: usize) -> AnswerAt
     ensures { λ r. ⌜ r ≡ packetAnswer (now (bundle .entry)) i ⌝ }
 {
-    match check_bundle(bundle) {
-        BundleCheck::Good => answer_of(bundle, i),
-        BundleCheck::DoesNotFit => AnswerAt::Refused(BundleCheck::DoesNotFit),
-        BundleCheck::ListDoesNotFit => AnswerAt::Refused(BundleCheck::ListDoesNotFit),
-        BundleCheck::BadRecord(j) => AnswerAt::Refused(BundleCheck::BadRecord(j)),
+    let check = check_bundle(bundle);
+    if bundle_refusal(check) == 0 {
+        return answer_of(bundle, i);
     }
+    AnswerAt::Refused(check)
 }

@@ -2,8 +2,8 @@
 ghost use Prim.Native.Nat.{_≤_};
 ghost use lib.ListN.{length};
 ghost use Rattle.report.specs.Pages.{Filled, Paged, pageFrom, refusedPage, headPage, firstPage, nextPage};
-use bundle::BundleCheck;
 use bundle::PacketAt;
+use bundle::bundle_refusal;
 use bundle::check_bundle;
 use bundle::packet_at;
 use numbers::be16;
@@ -95,12 +95,11 @@ pub fn first_page(bundle: &[u8], longer: bool, page: &mut [u8]) -> Progress
     if longer {
         return refused_page(page, 12);
     }
-    match check_bundle(bundle) {
-        BundleCheck::Good => head_page(bundle, page),
-        BundleCheck::DoesNotFit => refused_page(page, 12),
-        BundleCheck::ListDoesNotFit => refused_page(page, 9),
-        BundleCheck::BadRecord(_) => refused_page(page, 10),
+    let refusal = bundle_refusal(check_bundle(bundle));
+    if refusal == 0 {
+        return head_page(bundle, page);
     }
+    refused_page(page, refusal)
 }
 
 // The next page of a bundle's output, after the progress that the page before it left.
