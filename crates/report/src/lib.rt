@@ -8,7 +8,7 @@ use bundle::check_bundle;
 use bundle::packet_at;
 use numbers::be16;
 use text::put_line;
-use text::put_numbered_line;
+use text::put_numbered;
 
 mod text;
 
@@ -58,7 +58,7 @@ fn refused_page(page: &mut [u8], number: u16) -> Progress
     requires { ⌜ 19 ≤ length (now page) ⌝ }
     ensures { λ r. ⌜ Paged (now (page .entry)) (refusedPage number) r (now (page .exit)) ⌝ }
 {
-    let filled = put_numbered_line(page, b"refused ", number);
+    let filled = put_numbered(page, 0, b"refused ", number);
     Progress {
         filled,
         left: 0,
@@ -72,7 +72,7 @@ fn head_page(bundle: &[u8], page: &mut [u8]) -> Progress
     ensures { λ r. ⌜ Paged (now (page .entry)) (headPage (now (bundle .entry)) (length (now (page .entry)))) r (now (page .exit)) ⌝ }
 {
     let count = be16(bundle[0], bundle[1]);
-    let filled = put_numbered_line(page, b"packets ", count);
+    let filled = put_numbered(page, 0, b"packets ", count);
     let progress = Progress {
         filled,
         left: count as usize,
