@@ -14,6 +14,7 @@ use Rattle.matching.proofs.Unique as matching
 use Rattle.siglist.proofs.Unique as siglist
 use Rattle.found.proofs.Unique as found
 use Rattle.search.proofs.Unique as search
+use Rattle.packet_answer.proofs.Unique as packet-answer
 use Rattle.bundle.proofs.Unique as bundle
 use Rattle.report.specs.declared.Progress.{Progress}
 use Rattle.report.proofs.Unique as report
@@ -22,7 +23,7 @@ use Rattle.gateway.proofs.Unique as gateway
 use mathlib.Core.Path.{ap₂}
 use mathlib.Core.List.{List}
 use Prim.Native.Nat.{ℕ}
-use Rattle.acceptance.specs.Demand1.{Numbers, Quirks, TtlReading, Window, IpOptions, Observable, OneOption, Options, Ip, Flow, Distances, Matching, Siglist, Held, Search, Bundle, Report, Gateway, Demand1}
+use Rattle.acceptance.specs.Demand1.{Numbers, Quirks, TtlReading, Window, IpOptions, Observable, OneOption, Options, Ip, Flow, Distances, Matching, Siglist, Held, Search, PacketAnswered, Bundle, Report, Gateway, Demand1}
 
 of-numbers : Numbers
 of-numbers =
@@ -159,13 +160,18 @@ of-search =
       search = λ κs l o. let u = search.search-one κs l o in record { one = u; is = u .meets };
     }
 
+of-packet-answer : PacketAnswered
+of-packet-answer =
+    record {
+      peer-of = λ n. let u = packet-answer.peer-of-one n in record { one = u; is = u .meets };
+      answer-packet = λ κs p peer l. let u = packet-answer.answer-packet-one κs p peer l in record { one = u; is = u .meets };
+    }
+
 of-bundle : Bundle
 of-bundle =
     record {
       check-bundle = λ κs b. let u = bundle.check-bundle-one κs b in record { one = u; is = u .meets };
       bundle-refusal = λ c. let u = bundle.bundle-refusal-one c in record { one = u; is = u .meets };
-      peer-of = λ n. let u = bundle.peer-of-one n in record { one = u; is = u .meets };
-      answer-packet = λ κs p peer l. let u = bundle.answer-packet-one κs p peer l in record { one = u; is = u .meets };
       packet-at = λ κs b at. let u = bundle.packet-at-one κs b at in record { one = u; is = u .meets };
       answer-at = λ κs b i. let u = bundle.answer-at-one κs b i in record { one = u; is = u .meets };
     }
@@ -206,6 +212,7 @@ demand1 =
       siglist = of-siglist;
       held = of-held;
       search = of-search;
+      packetAnswered = of-packet-answer;
       bundle = of-bundle;
       report = of-report;
       gateway = of-gateway;

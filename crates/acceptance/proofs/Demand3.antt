@@ -12,9 +12,10 @@ use Rattle.search.specs.Search.{searchList}
 use Rattle.siglist.specs.declared.ListAnswer.{ListAnswer}
 use Rattle.siglist.specs.declared.ListAnswer.the-variants as list
 use Rattle.siglist.specs.List.{checkList}
-use Rattle.bundle.specs.declared.PacketAnswer.{PacketAnswer}
-use Rattle.bundle.specs.Bundle.{listOf, packetBytes, packetPeer, peerOf}
-use Rattle.bundle.specs.Answers.{answerOf, answerAt, afterReading}
+use Rattle.packet_answer.specs.declared.PacketAnswer.{PacketAnswer}
+use Rattle.packet_answer.specs.Packet.{peerOf, answerOf, afterReading}
+use Rattle.bundle.specs.Bundle.{listOf, packetBytes, packetPeer}
+use Rattle.bundle.specs.Answers.{answerAt}
 use Rattle.report.specs.Text.{lineOf}
 use Rattle.gateway.specs.declared.GatewayAnswer.{GatewayAnswer}
 use Rattle.gateway.specs.declared.GatewayAnswer.the-variants as gateway

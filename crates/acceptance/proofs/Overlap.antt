@@ -29,8 +29,9 @@ use Rattle.siglist.specs.Record.{versionOf, ttlOf, mssOf, scaleOf, windowOf, pa
 use Rattle.siglist.specs.List.{listFits, layoutLies, recordGood, recordsFrom, checkList}
 use Rattle.found.specs.Keep.{keep}
 use Rattle.search.specs.Search.{fitAt, searchFrom, numbersFrom, searchOver, searchAll, searchList}
-use Rattle.bundle.specs.Bundle.{peerOf, packetEnd, packetFits, packetsFit, listLies, bundleFits, checkBundle}
-use Rattle.bundle.specs.Answers.{answerOf, answerAt, packetLies, answersFrom, bundleAnswer}
+use Rattle.packet_answer.specs.Packet.{peerOf, answerOf}
+use Rattle.bundle.specs.Bundle.{packetEnd, packetFits, packetsFit, listLies, bundleFits, checkBundle}
+use Rattle.bundle.specs.Answers.{answerAt, packetLies, answersFrom, bundleAnswer}
 use Rattle.report.specs.Text.{width, decimal, foundText, answerText, lineOf, headLine, refusedLine}
 use Rattle.report.specs.Pages.{linesOf, outputOf}
 use Rattle.alike.specs.Free.{Free}

@@ -122,14 +122,16 @@ use Rattle.found.proofs.keep_fit.Reads as keep-fit'
 use Rattle.search.specs.Search.{searchAll, searchList}
 use Rattle.search.proofs.search_checked.Reads as search-checked'
 use Rattle.search.proofs.search.Reads as search'
+-- packet_answer
+use Rattle.packet_answer.specs.Packet.{peerOf, answerOf}
+use Rattle.packet_answer.proofs.peer_of.Reads as peer-of'
+use Rattle.packet_answer.proofs.answer_packet.Reads as answer-packet'
 -- bundle
 use Rattle.bundle.specs.declared.BundleCheck.{BundleCheck}
-use Rattle.bundle.specs.Bundle.{checkBundle, bundleRefusal, peerOf}
-use Rattle.bundle.specs.Answers.{answerOf, packetAt, packetAnswer}
+use Rattle.bundle.specs.Bundle.{checkBundle, bundleRefusal}
+use Rattle.bundle.specs.Answers.{packetAt, packetAnswer}
 use Rattle.bundle.proofs.check_bundle.Reads as check-bundle'
 use Rattle.bundle.proofs.bundle_refusal.Reads as bundle-refusal'
-use Rattle.bundle.proofs.peer_of.Reads as peer-of'
-use Rattle.bundle.proofs.answer_packet.Reads as answer-packet'
 use Rattle.bundle.proofs.packet_at.Reads as packet-at'
 use Rattle.bundle.proofs.answer_at.Reads as answer-at'
 -- report
@@ -280,13 +282,15 @@ pub record Search : Type 0 where
       : (κs : Lfts 1) (list : RefT (List ℕ)) (o : TcpObservation)
       → Answers (search'.Post κs) (o, (list, tt)) (searchList o (now list))
 
-pub record Bundle : Type 0 where
-  pub check-bundle : (κs : Lfts 1) (bundle : RefT (List ℕ)) → Answers (check-bundle'.Post κs) (bundle, tt) (checkBundle (now bundle))
-  pub bundle-refusal : (c : BundleCheck) → Answers (bundle-refusal'.Post tt) (c, tt) (bundleRefusal c)
+pub record PacketAnswered : Type 0 where
   pub peer-of : (n : ℕ) → Answers (peer-of'.Post tt) (n, tt) (peerOf n)
   pub answer-packet
       : (κs : Lfts 2) (packet : RefT (List ℕ)) (peer : Mss) (list : RefT (List ℕ))
       → Answers (answer-packet'.Post κs) (packet, (peer, (list, tt))) (answerOf (now packet) peer (now list))
+
+pub record Bundle : Type 0 where
+  pub check-bundle : (κs : Lfts 1) (bundle : RefT (List ℕ)) → Answers (check-bundle'.Post κs) (bundle, tt) (checkBundle (now bundle))
+  pub bundle-refusal : (c : BundleCheck) → Answers (bundle-refusal'.Post tt) (c, tt) (bundleRefusal c)
   pub packet-at
       : (κs : Lfts 1) (bundle : RefT (List ℕ)) (at : ℕ)
       → Answers (packet-at'.Post κs) (bundle, (at, tt)) (packetAt (now bundle) at)
@@ -338,6 +342,7 @@ pub record Demand1 : Type 0 where
   pub siglist : Siglist
   pub held : Held
   pub search : Search
+  pub packetAnswered : PacketAnswered
   pub bundle : Bundle
   pub report : Report
   pub gateway : Gateway

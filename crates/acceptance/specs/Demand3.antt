@@ -21,7 +21,8 @@ use Rattle.search.specs.declared.SearchAnswer.{SearchAnswer}
 use Rattle.search.specs.Search.{searchList}
 use Rattle.search.proofs.search.Reads as search'
 use Rattle.bundle.specs.Bundle.{listOf, packetBytes, packetPeer}
-use Rattle.bundle.specs.Answers.{answerOf, answerAt}
+use Rattle.packet_answer.specs.Packet.{answerOf}
+use Rattle.bundle.specs.Answers.{answerAt}
 use Rattle.report.specs.Text.{lineOf}
 use Rattle.gateway.proofs.termread_answer_checked.Reads as answer-checked'
 use Rattle.gateway.proofs.termread_answer.Reads as answer'

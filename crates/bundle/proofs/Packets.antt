@@ -12,10 +12,11 @@ use Rattle.basis.proofs.Tests.{and-left, and-right}
 use Rattle.siglist.specs.List.{checkList}
 use Rattle.bundle.specs.declared.BundleCheck.{BundleCheck}
 use Rattle.bundle.specs.declared.BundleCheck.the-variants as check
-use Rattle.bundle.specs.declared.PacketAnswer.{PacketAnswer}
+use Rattle.packet_answer.specs.declared.PacketAnswer.{PacketAnswer}
+use Rattle.bundle.specs.declared.AnswerAt.the-variants as at
 use Rattle.bundle.specs.declared.PacketAt.{PacketAt}
 use Rattle.bundle.specs.declared.PacketAt.the-variants as there
-use Rattle.bundle.specs.Answers.{answerAt, packetLies, packetAt, startOf}
+use Rattle.bundle.specs.Answers.{answerAt, packetLies, packetAt, startOf, packetAfter}
 use Rattle.bundle.specs.Bundle.{listLength, listOffset, packetEnd, packetFits, packetsFit, packetsOffset, packetCount, listLies, bundleFits, checkBundle, bundleRefusal, ofList, listOf}
 
 module _ (b : List ℕ) (at : ℕ) (fits : packetFits b at ≡ true) where
@@ -86,6 +87,22 @@ module _ (b : List ℕ) (fits : bundleFits b ≡ true) where
 
   pub list-within : (8 ≤ length b) × (listOffset b + listLength b ≤ length b)
   list-within = lies-within b fits-lies
+
+-- ---- a check by its number
+
+pub passed : (c : BundleCheck) → bundleRefusal c ≡ 0 → c ≡ check.Good
+unfolding bundleRefusal
+passed check.Good e = refl
+passed check.DoesNotFit e = absurd (omega arith)
+passed check.ListDoesNotFit e = absurd (omega arith)
+passed (check.BadRecord i) e = absurd (omega arith)
+
+pub after-refusal : (c : BundleCheck) (b : List ℕ) (i : ℕ) → (bundleRefusal c ≡ 0 → ⊥) → packetAfter c b i ≡ at.Refused c
+unfolding bundleRefusal
+after-refusal check.Good b i some = absurd (some refl)
+after-refusal check.DoesNotFit b i some = refl
+after-refusal check.ListDoesNotFit b i some = refl
+after-refusal (check.BadRecord j) b i some = refl
 
 refused-number : (b : List ℕ) → checkBundle b ≡ check.Good → bundleFits b ≡ false → _≡_ {A = ℕ} 12 0
 unfolding checkBundle bundleRefusal

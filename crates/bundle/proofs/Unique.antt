@@ -5,19 +5,15 @@ use contract.Lifetimes.{Lfts}
 use denote.Ref.{RefT, now}
 use Rattle.basis.specs.Unique.{ExactlyOne}
 use Rattle.basis.proofs.Unique.{equation}
-use Rattle.tcp.specs.declared.Mss.{Mss}
 use Rattle.bundle.specs.declared.AnswerAt.{AnswerAt}
 use Rattle.bundle.specs.declared.BundleCheck.{BundleCheck}
-use Rattle.bundle.specs.declared.PacketAnswer.{PacketAnswer}
 use Rattle.bundle.specs.declared.PacketAt.{PacketAt}
-use Rattle.bundle.specs.Bundle.{checkBundle, bundleRefusal, peerOf}
-use Rattle.bundle.specs.Answers.{answerOf, packetAt, packetAnswer}
+use Rattle.bundle.specs.Bundle.{checkBundle, bundleRefusal}
+use Rattle.bundle.specs.Answers.{packetAt, packetAnswer}
 use Rattle.bundle.proofs.answer_at.Reads as answer-at'
-use Rattle.bundle.proofs.answer_packet.Reads as answer-packet'
 use Rattle.bundle.proofs.bundle_refusal.Reads as bundle-refusal'
 use Rattle.bundle.proofs.check_bundle.Reads as check-bundle'
 use Rattle.bundle.proofs.packet_at.Reads as packet-at'
-use Rattle.bundle.proofs.peer_of.Reads as peer-of'
 
 module _ (κs : Lfts 1) (bundle : RefT (List ℕ)) where
   pub check-bundle-one : ExactlyOne BundleCheck (λ (r : BundleCheck). check-bundle'.Post κs (bundle, tt) r (bundle, tt))
@@ -31,9 +27,3 @@ module _ (κs : Lfts 1) (bundle : RefT (List ℕ)) where
 
 pub bundle-refusal-one : (c : BundleCheck) → ExactlyOne ℕ (λ (r : ℕ). bundle-refusal'.Post tt (c, tt) r (c, tt))
 bundle-refusal-one c = equation (bundleRefusal c)
-
-pub peer-of-one : (n : ℕ) → ExactlyOne Mss (λ (r : Mss). peer-of'.Post tt (n, tt) r (n, tt))
-peer-of-one n = equation (peerOf n)
-
-pub answer-packet-one : (κs : Lfts 2) (packet : RefT (List ℕ)) (peer : Mss) (list : RefT (List ℕ)) → ExactlyOne PacketAnswer (λ (r : PacketAnswer). answer-packet'.Post κs (packet, (peer, (list, tt))) r (packet, (peer, (list, tt))))
-answer-packet-one κs packet peer list = equation (answerOf (now packet) peer (now list))

@@ -1,38 +1,17 @@
--- The answer of a packet against a list, of a bundle's packet, and of the whole bundle as the list of its answers.
+-- The answer of a bundle's packet, and of the whole bundle as the list of its answers.
 use Prim.Native.Nat.{ℕ, zero, suc}
 use lib.Dec.{ltb}
 use mathlib.Core.Bool.{Bool, cond, _&&_}
 use mathlib.Core.List.{List, [], _∷_}
-use Rattle.tcp.specs.declared.Mss.{Mss}
-use Rattle.observable.specs.declared.TcpObservation.{TcpObservation}
-use Rattle.flow.specs.declared.Answer.{Answer}
-use Rattle.flow.specs.declared.Answer.the-variants as reading
-use Rattle.flow.specs.declared.Reading.{Reading}
-use Rattle.flow.specs.Reading.{readPacket}
-use Rattle.search.specs.Search.{searchAll}
+use Rattle.packet_answer.specs.declared.PacketAnswer.{PacketAnswer}
+use Rattle.packet_answer.specs.Packet.{answerOf}
 use Rattle.bundle.specs.declared.BundleCheck.{BundleCheck}
 use Rattle.bundle.specs.declared.BundleCheck.the-variants as check
 use Rattle.bundle.specs.declared.PacketAt.{PacketAt}
 use Rattle.bundle.specs.declared.PacketAt.the-variants as there
-use Rattle.bundle.specs.declared.PacketAnswer.{PacketAnswer}
-use Rattle.bundle.specs.declared.PacketAnswer.the-variants as packet
 use Rattle.bundle.specs.declared.AnswerAt.{AnswerAt}
 use Rattle.bundle.specs.declared.AnswerAt.the-variants as at
 use Rattle.bundle.specs.Bundle.{packetCount, packetsOffset, listOf, packetBytes, packetPeer, packetEnd, listLies, packetFits, checkBundle}
-
--- A SYN or SYN+ACK is searched for in the list; nothing and a refusal stay what they are.
-abbrev pub judged : Answer → TcpObservation → List ℕ → PacketAnswer
-judged reading.Syn o l = packet.Syn (searchAll o l)
-judged reading.SynAck o l = packet.SynAck (searchAll o l)
-judged reading.Nothing o l = packet.Nothing
-judged (reading.Refused r) o l = packet.Refused r
-
-abbrev pub afterReading : Reading → List ℕ → PacketAnswer
-afterReading r l = judged (r .answer) (r .observation) l
-
--- The answer of a packet, with the peer's MSS, against a well-formed list.
-unfoldable pub answerOf : List ℕ → Mss → List ℕ → PacketAnswer
-answerOf p peer l = afterReading (readPacket p peer) l
 
 -- The answer of the packet that starts at a place.
 unfoldable pub answerAt : List ℕ → ℕ → PacketAnswer

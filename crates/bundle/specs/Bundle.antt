@@ -2,11 +2,11 @@
 use Prim.Native.Nat.{ℕ, zero, suc, _+_}
 use mathlib.Core.Bool.{Bool, cond, _&&_}
 use mathlib.Core.List.{List}
-use lib.Dec.{eqb, leb}
+use lib.Dec.{leb}
 use lib.ListN.{length}
 use Rattle.basis.specs.Bytes.{be16, part}
 use Rattle.tcp.specs.declared.Mss.{Mss}
-use Rattle.tcp.specs.declared.Mss.the-variants as mss
+use Rattle.packet_answer.specs.Packet.{peerOf}
 use Rattle.siglist.specs.declared.ListAnswer.{ListAnswer}
 use Rattle.siglist.specs.declared.ListAnswer.the-variants as list
 use Rattle.siglist.specs.List.{areaFits, checkList}
@@ -35,9 +35,6 @@ listOf b = part (listOffset b) (listOffset b + listLength b) b
 -- ---- a packet, by the place where it starts
 
 -- "A packet is peer MSS (two bytes, 0 absent), length (two), bytes."
-unfoldable pub peerOf : ℕ → Mss
-peerOf n = cond (eqb n 0) mss.Absent (mss.Present n)
-
 unfoldable pub packetEnd : List ℕ → ℕ → ℕ
 packetEnd b at = at + 4 + be16 b (at + 2)
 

@@ -5,17 +5,14 @@ ghost use Prim.Native.Nat.{_+_, _≤_, _<_};
 ghost use lib.ListN.{length};
 ghost use Rattle.basis.specs.Bytes.{be16};
 ghost use Rattle.siglist.specs.List.{areaFits, checkList};
-ghost use Rattle.bundle.specs.Bundle.{packetCount, listLength, listOffset, listOf, peerOf, packetEnd, packetFits, packetsFit, listLies, bundleFits, checkBundle, bundleRefusal};
-ghost use Rattle.bundle.specs.Answers.{answerOf, answerAt, packetAt, startOf, packetAfter, packetAnswer};
-use flow::Answer;
-use flow::read_packet;
-use found::Found;
-use ip::Refusal;
+ghost use Rattle.bundle.specs.Bundle.{packetCount, listLength, listOffset, listOf, packetEnd, packetFits, packetsFit, listLies, bundleFits, checkBundle, bundleRefusal};
+ghost use Rattle.bundle.specs.Answers.{answerAt, packetAt, startOf, packetAfter, packetAnswer};
 use numbers::be16;
-use search::search_checked;
+use packet_answer::PacketAnswer;
+use packet_answer::answer_packet;
+use packet_answer::peer_of;
 use siglist::ListAnswer;
 use siglist::check_list;
-use tcp::Mss;
 
 // A bundle is well formed, or refused: 12, 9, or 10 with the index of its list's first bad record.
 pub enum BundleCheck {
@@ -23,14 +20,6 @@ pub enum BundleCheck {
     DoesNotFit,
     ListDoesNotFit,
     BadRecord(usize),
-}
-
-// The answer of a packet: what its search finds, nothing, or a refusal 1 to 7.
-pub enum PacketAnswer {
-    Syn(Found),
-    SynAck(Found),
-    Nothing,
-    Refused(Refusal),
 }
 
 // The answer of a bundle's packet, or why there is none: the bundle is refused, or has no such packet.
@@ -55,13 +44,20 @@ const BEFORE: usize = 4;
 
 // ---- the check
 
+// A number of two bytes.
+fn number_at(bundle: &[u8], at: usize) -> usize
+    requires { ⌜ at + 2 ≤ length (now bundle) ⌝ }
+    ensures { λ r. ⌜ (r ≡ be16 (now (bundle .entry)) at) × (r ≤ 65535) ⌝ }
+{
+    be16(bundle[at], bundle[at + 1]) as usize
+}
+
 // The end of the packet that starts at a place.
 fn packet_end(bundle: &[u8], at: usize) -> usize
     requires { ⌜ at + 4 ≤ length (now bundle) ⌝ }
     ensures { λ r. ⌜ r ≡ packetEnd (now (bundle .entry)) at ⌝ }
 {
-    let length_at = at + 2;
-    at + BEFORE + be16(bundle[length_at], bundle[length_at + 1]) as usize
+    at + BEFORE + number_at(bundle, at + 2)
 }
 
 fn packet_fits(bundle: &[u8], at: usize) -> bool
@@ -99,9 +95,7 @@ fn list_lies(bundle: &[u8]) -> bool
     if bundle.len() < HEADER {
         return false;
     }
-    let length = be16(bundle[4], bundle[5]) as usize;
-    let offset = be16(bundle[6], bundle[7]) as usize;
-    offset + length <= bundle.len()
+    number_at(bundle, 6) + number_at(bundle, 4) <= bundle.len()
 }
 
 fn bundle_fits(bundle: &[u8]) -> bool
@@ -113,9 +107,7 @@ fn bundle_fits(bundle: &[u8]) -> bool
     if !list_lies(bundle) {
         return false;
     }
-    let count = be16(bundle[0], bundle[1]) as usize;
-    let offset = be16(bundle[2], bundle[3]) as usize;
-    packets_fit(bundle, offset, count)
+    packets_fit(bundle, number_at(bundle, 2), number_at(bundle, 0))
 }
 
 // The list's bytes lie where the header says.
@@ -123,8 +115,8 @@ fn check_list_of(bundle: &[u8]) -> ListAnswer
     requires { ⌜ (8 ≤ length (now bundle)) × (listOffset (now bundle) + listLength (now bundle) ≤ length (now bundle)) ⌝ }
     ensures { λ r. ⌜ r ≡ checkList (listOf (now (bundle .entry))) ⌝ }
 {
-    let start = be16(bundle[6], bundle[7]) as usize;
-    let end = start + be16(bundle[4], bundle[5]) as usize;
+    let start = number_at(bundle, 6);
+    let end = start + number_at(bundle, 4);
     check_list(&bundle[start..end])
 }
 
@@ -156,41 +148,16 @@ pub fn bundle_refusal(check: BundleCheck) -> u16
 
 // ---- the answers
 
-// A peer's MSS of 0 is absent.
-pub fn peer_of(number: u16) -> Mss
-    ensures { λ r. ⌜ r ≡ peerOf number ⌝ }
-{
-    if number == 0 {
-        return Mss::Absent;
-    }
-    Mss::Present(number)
-}
-
-// The answer of a packet against a list that was checked: what is not a well-formed record of the list fits nothing.
-pub fn answer_packet(packet: &[u8], peer: Mss, list: &[u8]) -> PacketAnswer
-    ensures { λ r. ⌜ r ≡ answerOf (now (packet .entry)) peer (now (list .entry)) ⌝ }
-{
-    let reading = read_packet(packet, peer);
-    let observation = reading.observation;
-    let answer = reading.answer;
-    match answer {
-        Answer::Syn => PacketAnswer::Syn(search_checked(observation, list)),
-        Answer::SynAck => PacketAnswer::SynAck(search_checked(observation, list)),
-        Answer::Nothing => PacketAnswer::Nothing,
-        Answer::Refused(refusal) => PacketAnswer::Refused(refusal),
-    }
-}
-
 // The answer of the packet that starts at a place.
 fn answer_at_place(bundle: &[u8], at: usize) -> PacketAnswer
     requires { ⌜ (8 ≤ length (now bundle)) × (listOffset (now bundle) + listLength (now bundle) ≤ length (now bundle)) × (at + 4 ≤ length (now bundle)) × (packetEnd (now bundle) at ≤ length (now bundle)) ⌝ }
     ensures { λ r. ⌜ r ≡ answerAt (now (bundle .entry)) at ⌝ }
 {
-    let peer = peer_of(be16(bundle[at], bundle[at + 1]));
+    let peer = peer_of(number_at(bundle, at) as u16);
     let start = at + BEFORE;
     let end = packet_end(bundle, at);
-    let list_start = be16(bundle[6], bundle[7]) as usize;
-    let list_end = list_start + be16(bundle[4], bundle[5]) as usize;
+    let list_start = number_at(bundle, 6);
+    let list_end = list_start + number_at(bundle, 4);
     answer_packet(&bundle[start..end], peer, &bundle[list_start..list_end])
 }
 
@@ -212,7 +179,7 @@ fn place_of(bundle: &[u8], i: usize) -> usize
     requires { ⌜ (bundleFits (now bundle) ≡ true) × (i < packetCount (now bundle)) ⌝ }
     ensures { λ r. ⌜ (r ≡ startOf (now (bundle .entry)) i) × (packetFits (now (bundle .entry)) r ≡ true) ⌝ }
 {
-    let mut at = be16(bundle[2], bundle[3]) as usize;
+    let mut at = number_at(bundle, 2);
     let mut k = 0;
     while k < i {
         at = packet_end(bundle, at);
@@ -225,8 +192,7 @@ fn answer_of(bundle: &[u8], i: usize) -> AnswerAt
     requires { ⌜ bundleFits (now bundle) ≡ true ⌝ }
     ensures { λ r. ⌜ r ≡ packetAfter BundleCheck.Good (now (bundle .entry)) i ⌝ }
 {
-    let count = be16(bundle[0], bundle[1]) as usize;
-    if count <= i {
+    if number_at(bundle, 0) <= i {
         return AnswerAt::NoPacket;
     }
     AnswerAt::Answer(answer_at_place(bundle, place_of(bundle, i)))
@@ -236,10 +202,9 @@ fn answer_of(bundle: &[u8], i: usize) -> AnswerAt
 pub fn answer_at(bundle: &[u8], i: usize) -> AnswerAt
     ensures { λ r. ⌜ r ≡ packetAnswer (now (bundle .entry)) i ⌝ }
 {
-    match check_bundle(bundle) {
-        BundleCheck::Good => answer_of(bundle, i),
-        BundleCheck::DoesNotFit => AnswerAt::Refused(BundleCheck::DoesNotFit),
-        BundleCheck::ListDoesNotFit => AnswerAt::Refused(BundleCheck::ListDoesNotFit),
-        BundleCheck::BadRecord(j) => AnswerAt::Refused(BundleCheck::BadRecord(j)),
+    let check = check_bundle(bundle);
+    if bundle_refusal(check) == 0 {
+        return answer_of(bundle, i);
     }
+    AnswerAt::Refused(check)
 }

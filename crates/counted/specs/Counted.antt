@@ -1,19 +1,12 @@
 -- What is counted: the reading of a packet, and what the search of a checked list finds for it (number 0 of the crate witness).
 use Prim.Native.Nat.{ℕ}
-use mathlib.Core.Bool.{cond}
 use mathlib.Core.List.{List}
-use lib.Dec.{eqb}
-use Rattle.tcp.specs.declared.Mss.{Mss}
-use Rattle.tcp.specs.declared.Mss.the-variants as mss
 use Rattle.flow.specs.Reading.{readPacket}
 use Rattle.search.specs.Search.{searchAll}
+use Rattle.packet_answer.specs.Packet.{peerOf}
 use Rattle.witness.specs.declared.Plain.{Plain}
 use Rattle.witness.specs.Reading.{plainOf}
 use Rattle.witness.specs.Searching.{foundNumber}
-
--- A peer's MSS of 0 is an absent one.
-unfoldable pub peerOf : ℕ → Mss
-peerOf size = cond (eqb size 0) mss.Absent (mss.Present size)
 
 unfoldable pub observed : List ℕ → ℕ → Plain
 observed p peer = plainOf (readPacket p (peerOf peer))

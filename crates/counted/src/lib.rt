@@ -1,20 +1,10 @@
 // What tools/benchmark counts, in an archive of its own; not part of the product.
 ghost use mathlib.Core.Path.{_≡_};
-ghost use Rattle.counted.specs.Counted.{peerOf, observed, found};
-use tcp::Mss;
+ghost use Rattle.counted.specs.Counted.{observed, found};
+use packet_answer::peer_of;
 use witness::Plain;
 use witness::searched::found_number;
-use witness::shown::plain_of;
-
-// A peer's MSS of 0 is an absent one.
-fn peer_of(size: u16) -> Mss
-    ensures { λ r. ⌜ r ≡ peerOf size ⌝ }
-{
-    if size == 0 {
-        return Mss::Absent;
-    }
-    Mss::Present(size)
-}
+use witness::whole::plain_of;
 
 // The reading of a packet, whole.
 #[no_mangle]

@@ -23,8 +23,7 @@ use Rattle.found.specs.declared.Found.{Found}
 use Rattle.found.specs.declared.Found.the-variants as found
 use Rattle.found.specs.Keep.{keep}
 use Rattle.search.specs.Search.{fitAt, searchFrom, numbersFrom, searchOver, searchAll}
-use Rattle.bundle.specs.Bundle.{peerOf}
-use Rattle.bundle.specs.Answers.{judged, answerOf}
+use Rattle.packet_answer.specs.Packet.{peerOf, judged, answerOf}
 use Rattle.gateway.specs.Code.{fieldsOf, codeOf, afterList, gatewayAnswer}
 use Rattle.gateway.specs.Decode.{AllBytes, FoundFits, PacketFits, AnswerFits}
 use Rattle.gateway.proofs.ReadBack.{injective}

@@ -6,8 +6,7 @@ use denote.Ref.{RefT, now}
 use Rattle.basis.specs.Unique.{ExactlyOne}
 use Rattle.basis.proofs.Unique.{equation}
 use Rattle.siglist.specs.List.{checkList}
-use Rattle.bundle.specs.Bundle.{peerOf}
-use Rattle.bundle.specs.Answers.{answerOf}
+use Rattle.packet_answer.specs.Packet.{peerOf, answerOf}
 use Rattle.gateway.specs.Code.{packetFields, fieldsOf, codeOf, gatewayAnswer, listCode}
 use Rattle.gateway.proofs.termread_check_list.Reads as check-list'
 use Rattle.gateway.proofs.termread_answer_checked.Reads as answer-checked'

@@ -14,10 +14,9 @@ use Rattle.siglist.specs.declared.ListAnswer.the-variants as list
 use Rattle.siglist.specs.List.{checkList}
 use Rattle.found.specs.declared.Found.{Found}
 use Rattle.found.specs.declared.Found.the-variants as found
-use Rattle.bundle.specs.declared.PacketAnswer.{PacketAnswer}
-use Rattle.bundle.specs.declared.PacketAnswer.the-variants as packet
-use Rattle.bundle.specs.Bundle.{peerOf}
-use Rattle.bundle.specs.Answers.{answerOf}
+use Rattle.packet_answer.specs.declared.PacketAnswer.{PacketAnswer}
+use Rattle.packet_answer.specs.declared.PacketAnswer.the-variants as packet
+use Rattle.packet_answer.specs.Packet.{peerOf, answerOf}
 use Rattle.gateway.specs.declared.GatewayAnswer.{GatewayAnswer}
 use Rattle.gateway.specs.declared.GatewayAnswer.the-variants as gateway
 use Rattle.gateway.specs.declared.Fields.{Fields}

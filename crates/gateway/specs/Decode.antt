@@ -12,8 +12,8 @@ use Rattle.matching.specs.declared.Hops.{Hops}
 use Rattle.matching.specs.declared.Hops.the-variants as hops
 use Rattle.found.specs.declared.Found.{Found}
 use Rattle.found.specs.declared.Found.the-variants as found
-use Rattle.bundle.specs.declared.PacketAnswer.{PacketAnswer}
-use Rattle.bundle.specs.declared.PacketAnswer.the-variants as packet
+use Rattle.packet_answer.specs.declared.PacketAnswer.{PacketAnswer}
+use Rattle.packet_answer.specs.declared.PacketAnswer.the-variants as packet
 use Rattle.gateway.specs.declared.GatewayAnswer.{GatewayAnswer}
 use Rattle.gateway.specs.declared.GatewayAnswer.the-variants as gateway
 use Rattle.gateway.specs.declared.Fields.{Fields}

@@ -2,16 +2,15 @@
 ghost use mathlib.Core.Path.{_≡_};
 ghost use Prim.Native.Nat.{_%_};
 ghost use Rattle.siglist.specs.List.{checkList};
-ghost use Rattle.bundle.specs.Bundle.{peerOf};
-ghost use Rattle.bundle.specs.Answers.{answerOf};
+ghost use Rattle.packet_answer.specs.Packet.{peerOf, answerOf};
 ghost use Rattle.gateway.specs.Code.{plain, hopsOf, farOf, foundFields, givenBy, packetFields, fieldsOf, codeOf, gatewayAnswer, listCode};
-use bundle::PacketAnswer;
-use bundle::answer_packet;
-use bundle::peer_of;
 use found::Found;
 use ip::Refusal;
 use ip::refusal_number;
 use matching::Hops;
+use packet_answer::PacketAnswer;
+use packet_answer::answer_packet;
+use packet_answer::peer_of;
 use siglist::ListAnswer;
 use siglist::check_list;
 

@@ -9,10 +9,12 @@ use lib.Dec.{leb}
 use lib.ListN.{length, take, drop, take-append-drop}
 use borrow.Author.Tests.{le-leb, lt-leb}
 use Rattle.report.specs.declared.Progress.{Progress}
-use Rattle.bundle.specs.Bundle.{packetCount, packetsOffset, packetEnd}
+use Rattle.bundle.specs.declared.BundleCheck.{BundleCheck}
+use Rattle.bundle.specs.declared.BundleCheck.the-variants as check
+use Rattle.bundle.specs.Bundle.{packetCount, packetsOffset, packetEnd, bundleRefusal}
 use Rattle.bundle.specs.Answers.{answerAt, packetLies}
 use Rattle.report.specs.Text.{packetsWord, decimal, newline, lineOf, headLine}
-use Rattle.report.specs.Pages.{written, Put, Filled, Paged, progressOf, Page, pageFrom, fullPage, behind, headPage}
+use Rattle.report.specs.Pages.{written, Put, Filled, Paged, progressOf, Page, pageFrom, fullPage, behind, refusedPage, headPage, firstOf}
 use Rattle.report.proofs.Writing.{both, written-length, numbered-length}
 
 -- Nothing more is put.
@@ -86,3 +88,12 @@ module _ (b page page' page'' : List ℕ) (n offset filled : ℕ) (r : Progress)
         whole .1,
         whole .2,
       ))
+
+-- ---- a check by its number
+
+pub refused : (c : BundleCheck) (b : List ℕ) (size : ℕ) → (bundleRefusal c ≡ 0 → ⊥) → firstOf c b size ≡ refusedPage (bundleRefusal c)
+unfolding bundleRefusal
+refused check.Good b size some = absurd (some refl)
+refused check.DoesNotFit b size some = refl
+refused check.ListDoesNotFit b size some = refl
+refused (check.BadRecord i) b size some = refl

@@ -1,7 +1,7 @@
 -- Laws of writing into a page: a copy in a loop, and one text behind another.
 use mathlib.Core.Path.{_≡_, refl, sym, _∙_, ap, ap₂, subst}
 use mathlib.Core.List.{List, [], _∷_, _++_, append-assoc}
-use Prim.Native.Nat.{ℕ, suc, _+_, _-_, _/_, _%_, _<_, _≤_}
+use Prim.Native.Nat.{ℕ, zero, suc, _+_, _-_, _/_, _%_, _<_, _≤_}
 use native.Mathlib.Omega.{arith}
 use native.Mathlib.Numerals.{add-one}
 use native.Mathlib.Nat.{add-assoc}
@@ -11,8 +11,8 @@ use Rattle.report.specs.Pages.{written, Put}
 use Rattle.ip.specs.Numbers.{number}
 use Rattle.found.specs.declared.Found.{Found}
 use Rattle.found.specs.declared.Found.the-variants as found
-use Rattle.bundle.specs.declared.PacketAnswer.{PacketAnswer}
-use Rattle.bundle.specs.declared.PacketAnswer.the-variants as packet
+use Rattle.packet_answer.specs.declared.PacketAnswer.{PacketAnswer}
+use Rattle.packet_answer.specs.declared.PacketAnswer.the-variants as packet
 use Rattle.report.specs.Text.{width, fiveDigits, decimal, newline, exactWord, fuzzyWord, synWord, synackWord, refusedWord, foundText, answerText, lineOf}
 
 pub copied : (page word : List ℕ) (at i : ℕ) → length word ≤ i → i ≤ length word → paste page at word i ≡ written page at word
@@ -83,14 +83,28 @@ pub both : (page page' page'' t u : List ℕ) (at next last : ℕ) → at ≤ le
 both page page' page'' t u at next last inside first second =
     (omega (arith, first .0, second .0, length-append t u), second .1 ∙ ap₂ (λ (p : List ℕ) (k : ℕ). written p k u) (first .1) (first .0) ∙ written-after page t u at inside)
 
-five-cut : (n : ℕ) → take (5 - (5 - width n)) (drop (5 - width n) (fiveDigits n)) ≡ decimal n
-unfolding decimal
-five-cut n = take-all (5 - (5 - width n)) (drop (5 - width n) (fiveDigits n)) (simp length-drop (omega arith))
+-- One text, and a line behind it.
+pub lined : (page page' page'' t u : List ℕ) (at next last : ℕ) → at ≤ length page → Put page at t next page' → Put page' next (u ++ newline) last page'' → Put page at (t ++ u ++ newline) last page''
+lined page page' page'' t u at next last inside first second =
+    rw (append-assoc t u newline) (both page page' page'' t (u ++ newline) at next last inside first second)
 
--- Five digits, without those before the first that counts.
-pub digits-put : (page page' : List ℕ) (at next n w a b c d e : ℕ) → w ≡ width n → a ≡ 48 + n / 10000 % 10 → b ≡ 48 + n / 1000 % 10 → c ≡ 48 + n / 100 % 10 → d ≡ 48 + n / 10 % 10 → e ≡ 48 + n % 10 → Put page at (take (5 - (5 - w)) (drop (5 - w) (a ∷ b ∷ c ∷ d ∷ e ∷ []))) next page' → Put page at (decimal n) next page'
+pub found-lined : (page page' page'' t : List ℕ) (f : Found) (at next last : ℕ) → at ≤ length page → Put page at t next page' → Put page' next (foundText f ++ newline) last page'' → Put page at (t ++ foundText f ++ newline) last page''
+found-lined page page' page'' t f = lined page page' page'' t (foundText f)
+
+cut-line : (k a b c d e : ℕ) → k ≤ 5 → take (6 - k) (drop k (a ∷ b ∷ c ∷ d ∷ e ∷ newline)) ≡ drop k (a ∷ b ∷ c ∷ d ∷ e ∷ []) ++ newline
+cut-line zero a b c d e h = refl
+cut-line (suc zero) a b c d e h = refl
+cut-line (suc (suc zero)) a b c d e h = refl
+cut-line (suc (suc (suc zero))) a b c d e h = refl
+cut-line (suc (suc (suc (suc zero)))) a b c d e h = refl
+cut-line (suc (suc (suc (suc (suc zero))))) a b c d e h = refl
+cut-line (suc (suc (suc (suc (suc (suc k)))))) a b c d e h = absurd (omega arith)
+
+-- Five digits, without those before the first that counts, and the end of the line.
+pub digits-put : (page page' : List ℕ) (at next n w a b c d e : ℕ) → w ≡ width n → a ≡ 48 + n / 10000 % 10 → b ≡ 48 + n / 1000 % 10 → c ≡ 48 + n / 100 % 10 → d ≡ 48 + n / 10 % 10 → e ≡ 48 + n % 10 → Put page at (take (6 - (5 - w)) (drop (5 - w) (a ∷ b ∷ c ∷ d ∷ e ∷ newline))) next page' → Put page at (decimal n ++ newline) next page'
+unfolding decimal
 digits-put page page' at next n w a b c d e width-is a-is b-is c-is d-is e-is put =
     subst (λ (t : List ℕ). Put page at t next page') cut put
   where
-    cut : take (5 - (5 - w)) (drop (5 - w) (a ∷ b ∷ c ∷ d ∷ e ∷ [])) ≡ decimal n
-    cut = rw (width-is, a-is, b-is, c-is, d-is, e-is) (five-cut n)
+    cut : take (6 - (5 - w)) (drop (5 - w) (a ∷ b ∷ c ∷ d ∷ e ∷ newline)) ≡ decimal n ++ newline
+    cut = rw (width-is, a-is, b-is, c-is, d-is, e-is) (cut-line (5 - width n) _ _ _ _ _ (omega arith))

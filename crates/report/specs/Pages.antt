@@ -7,7 +7,7 @@ use lib.Dec.{leb}
 use lib.ListN.{length, take, drop}
 use Rattle.bundle.specs.declared.BundleCheck.{BundleCheck}
 use Rattle.bundle.specs.declared.BundleCheck.the-variants as check
-use Rattle.bundle.specs.declared.PacketAnswer.{PacketAnswer}
+use Rattle.packet_answer.specs.declared.PacketAnswer.{PacketAnswer}
 use Rattle.report.specs.declared.Progress.{Progress}
 use Rattle.bundle.specs.Bundle.{packetCount, packetsOffset, packetEnd, checkBundle}
 use Rattle.bundle.specs.Answers.{BundleAnswer, answerAt, packetLies, bundleAnswer}

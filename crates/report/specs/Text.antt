@@ -7,8 +7,8 @@ use lib.ListN.{drop}
 use Rattle.ip.specs.Numbers.{number}
 use Rattle.found.specs.declared.Found.{Found}
 use Rattle.found.specs.declared.Found.the-variants as found
-use Rattle.bundle.specs.declared.PacketAnswer.{PacketAnswer}
-use Rattle.bundle.specs.declared.PacketAnswer.the-variants as packet
+use Rattle.packet_answer.specs.declared.PacketAnswer.{PacketAnswer}
+use Rattle.packet_answer.specs.declared.PacketAnswer.the-variants as packet
 
 -- ---- words, in ASCII
 

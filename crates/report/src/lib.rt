@@ -2,13 +2,13 @@
 ghost use Prim.Native.Nat.{_≤_};
 ghost use lib.ListN.{length};
 ghost use Rattle.report.specs.Pages.{Filled, Paged, pageFrom, refusedPage, headPage, firstPage, nextPage};
-use bundle::BundleCheck;
 use bundle::PacketAt;
+use bundle::bundle_refusal;
 use bundle::check_bundle;
 use bundle::packet_at;
 use numbers::be16;
 use text::put_line;
-use text::put_numbered_line;
+use text::put_numbered;
 
 mod text;
 
@@ -58,7 +58,7 @@ fn refused_page(page: &mut [u8], number: u16) -> Progress
     requires { ⌜ 19 ≤ length (now page) ⌝ }
     ensures { λ r. ⌜ Paged (now (page .entry)) (refusedPage number) r (now (page .exit)) ⌝ }
 {
-    let filled = put_numbered_line(page, b"refused ", number);
+    let filled = put_numbered(page, 0, b"refused ", number);
     Progress {
         filled,
         left: 0,
@@ -72,7 +72,7 @@ fn head_page(bundle: &[u8], page: &mut [u8]) -> Progress
     ensures { λ r. ⌜ Paged (now (page .entry)) (headPage (now (bundle .entry)) (length (now (page .entry)))) r (now (page .exit)) ⌝ }
 {
     let count = be16(bundle[0], bundle[1]);
-    let filled = put_numbered_line(page, b"packets ", count);
+    let filled = put_numbered(page, 0, b"packets ", count);
     let progress = Progress {
         filled,
         left: count as usize,
@@ -95,12 +95,11 @@ pub fn first_page(bundle: &[u8], longer: bool, page: &mut [u8]) -> Progress
     if longer {
         return refused_page(page, 12);
     }
-    match check_bundle(bundle) {
-        BundleCheck::Good => head_page(bundle, page),
-        BundleCheck::DoesNotFit => refused_page(page, 12),
-        BundleCheck::ListDoesNotFit => refused_page(page, 9),
-        BundleCheck::BadRecord(_) => refused_page(page, 10),
+    let refusal = bundle_refusal(check_bundle(bundle));
+    if refusal == 0 {
+        return head_page(bundle, page);
     }
+    refused_page(page, refusal)
 }
 
 // The next page of a bundle's output, after the progress that the page before it left.

@@ -4,12 +4,12 @@ ghost use mathlib.Core.List.{_++_};
 ghost use Prim.Native.Nat.{_+_, _%_, _≤_};
 ghost use lib.ListN.{length};
 ghost use Rattle.report.specs.Pages.{written};
-ghost use Rattle.report.specs.Text.{width, decimal, foundText, answerText, lineOf, newline};
-use bundle::PacketAnswer;
+ghost use Rattle.report.specs.Text.{width, decimal, foundText, lineOf, newline};
 use found::Found;
 use ip::refusal_number;
+use packet_answer::PacketAnswer;
 
-pub(crate) fn put(page: &mut [u8], at: usize, word: &[u8]) -> usize
+fn put(page: &mut [u8], at: usize, word: &[u8]) -> usize
     requires { ⌜ at + length (now word) ≤ length (now page) ⌝ }
     ensures { λ r. ⌜ (r ≡ at + length (now (word .entry))) × (now (page .exit) ≡ written (now (page .entry)) at (now (word .entry))) ⌝ }
 {
@@ -45,10 +45,10 @@ fn width(n: u16) -> usize
     5
 }
 
-// A number in decimal, without leading zeros.
-pub(crate) fn put_decimal(page: &mut [u8], at: usize, n: u16) -> usize
-    requires { ⌜ at + 5 ≤ length (now page) ⌝ }
-    ensures { λ r. ⌜ (r ≡ at + length (decimal n)) × (now (page .exit) ≡ written (now (page .entry)) at (decimal n)) ⌝ }
+// A number in decimal, without leading zeros, and the end of its line.
+fn put_decimal(page: &mut [u8], at: usize, n: u16) -> usize
+    requires { ⌜ at + 6 ≤ length (now page) ⌝ }
+    ensures { λ r. ⌜ (r ≡ at + length (decimal n ++ newline)) × (now (page .exit) ≡ written (now (page .entry)) at (decimal n ++ newline)) ⌝ }
 {
     let digits = [
         digit(n / 10000),
@@ -56,34 +56,36 @@ pub(crate) fn put_decimal(page: &mut [u8], at: usize, n: u16) -> usize
         digit(n / 100),
         digit(n / 10),
         digit(n),
+        b'\n',
     ];
     let from = 5 - width(n);
-    put(page, at, &digits[from..5])
+    put(page, at, &digits[from..6])
 }
 
-pub(crate) fn put_found(page: &mut [u8], at: usize, found: Found) -> usize
-    requires { ⌜ at + 11 ≤ length (now page) ⌝ }
-    ensures { λ r. ⌜ (r ≡ at + length (foundText found)) × (now (page .exit) ≡ written (now (page .entry)) at (foundText found)) ⌝ }
-{
-    match found {
-        Found::Nothing => put(page, at, b"none"),
-        Found::Exact(label) => put_numbered(page, at, b"exact ", label),
-        Found::Fuzzy(label, _) => put_numbered(page, at, b"fuzzy ", label),
-    }
-}
-
-// A word and a number behind it.
+// A word, a number behind it, and the end of the line.
 pub(crate) fn put_numbered(page: &mut [u8], at: usize, word: &[u8], n: u16) -> usize
-    requires { ⌜ at + length (now word) + 5 ≤ length (now page) ⌝ }
-    ensures { λ r. ⌜ (r ≡ at + length (now (word .entry) ++ decimal n)) × (now (page .exit) ≡ written (now (page .entry)) at (now (word .entry) ++ decimal n)) ⌝ }
+    requires { ⌜ at + length (now word) + 6 ≤ length (now page) ⌝ }
+    ensures { λ r. ⌜ (r ≡ at + length (now (word .entry) ++ decimal n ++ newline)) × (now (page .exit) ≡ written (now (page .entry)) at (now (word .entry) ++ decimal n ++ newline)) ⌝ }
 {
     let next = put(page, at, word);
     put_decimal(page, next, n)
 }
 
-pub(crate) fn put_answer(page: &mut [u8], at: usize, answer: PacketAnswer) -> usize
-    requires { ⌜ at + 18 ≤ length (now page) ⌝ }
-    ensures { λ r. ⌜ (r ≡ at + length (answerText answer)) × (now (page .exit) ≡ written (now (page .entry)) at (answerText answer)) ⌝ }
+// What was found, and the end of the line.
+fn put_found(page: &mut [u8], at: usize, found: Found) -> usize
+    requires { ⌜ at + 12 ≤ length (now page) ⌝ }
+    ensures { λ r. ⌜ (r ≡ at + length (foundText found ++ newline)) × (now (page .exit) ≡ written (now (page .entry)) at (foundText found ++ newline)) ⌝ }
+{
+    match found {
+        Found::Nothing => put(page, at, b"none\n"),
+        Found::Exact(label) => put_numbered(page, at, b"exact ", label),
+        Found::Fuzzy(label, _) => put_numbered(page, at, b"fuzzy ", label),
+    }
+}
+
+pub(crate) fn put_line(page: &mut [u8], at: usize, answer: PacketAnswer) -> usize
+    requires { ⌜ at + 19 ≤ length (now page) ⌝ }
+    ensures { λ r. ⌜ (r ≡ at + length (lineOf answer)) × (now (page .exit) ≡ written (now (page .entry)) at (lineOf answer)) ⌝ }
 {
     match answer {
         PacketAnswer::Syn(found) => {
@@ -94,26 +96,9 @@ pub(crate) fn put_answer(page: &mut [u8], at: usize, answer: PacketAnswer) -> us
             let next = put(page, at, b"synack ");
             put_found(page, next, found)
         }
-        PacketAnswer::Nothing => put(page, at, b"nothing"),
+        PacketAnswer::Nothing => put(page, at, b"nothing\n"),
         PacketAnswer::Refused(refusal) => {
             put_numbered(page, at, b"refused ", refusal_number(refusal) as u16)
         }
     }
-}
-
-pub(crate) fn put_line(page: &mut [u8], at: usize, answer: PacketAnswer) -> usize
-    requires { ⌜ at + 19 ≤ length (now page) ⌝ }
-    ensures { λ r. ⌜ (r ≡ at + length (lineOf answer)) × (now (page .exit) ≡ written (now (page .entry)) at (lineOf answer)) ⌝ }
-{
-    let next = put_answer(page, at, answer);
-    put(page, next, b"\n")
-}
-
-// A line of a word and a number, at the start of a page.
-pub(crate) fn put_numbered_line(page: &mut [u8], word: &[u8], n: u16) -> usize
-    requires { ⌜ length (now word) + 6 ≤ length (now page) ⌝ }
-    ensures { λ r. ⌜ (r ≡ length (now (word .entry) ++ decimal n ++ newline)) × (now (page .exit) ≡ written (now (page .entry)) 0 (now (word .entry) ++ decimal n ++ newline)) ⌝ }
-{
-    let next = put_numbered(page, 0, word, n);
-    put(page, next, b"\n")
 }

@@ -14,7 +14,7 @@ use Rattle.witness.proofs.witness_packet.Reads as witness-packet'
 use Rattle.witness.proofs.witness_options.Reads as witness-options'
 use Rattle.witness.proofs.witness_search.Reads as witness-search'
 use Rattle.witness.proofs.witness_hops.Reads as witness-hops'
-use Rattle.witness.proofs.shown.plain_of.Reads as plain-of'
+use Rattle.witness.proofs.whole.plain_of.Reads as plain-of'
 use Rattle.witness.proofs.searched.found_number.Reads as found-number'
 
 pub witness-packet-one

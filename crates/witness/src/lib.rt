@@ -5,15 +5,17 @@ ghost use Rattle.witness.specs.Searching.{hopsOf, searchNumber};
 use decoded::mss_of;
 use decoded::observation_of;
 use decoded::ttl_from;
+use parsed::options_number;
 use searched::answer_of_search;
 use shown::answer_number;
 use shown::observation_number;
-use shown::options_number;
 use shown::wide8;
 
 mod decoded;
+mod parsed;
 pub mod searched;
-pub mod shown;
+mod shown;
+pub mod whole;
 
 // A reading as a struct of numbers: those of witness_packet, but for the multiplier.
 #[repr(C)]

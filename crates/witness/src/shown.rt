@@ -1,19 +1,14 @@
-// A reading, an observation and parsed options as numbers.
+// An observation and an answer as numbers.
 ghost use mathlib.Core.Path.{_≡_};
 ghost use mathlib.Core.Bool.{cond};
 ghost use Prim.Native.Nat.{_+_, _*_, _≤_};
 ghost use Rattle.basis.specs.Bytes.{be16, be32};
-ghost use Rattle.witness.specs.Reading.{versionNumber, ttlNumber, mssNumber, scaleNumber, payloadNumber, multiplierNumber, wordOf, layoutNumber, ipNumber, tcpNumber, observationNumber, refusalNumber, answerNumber, plainOf, optionsAnswer, parsedNumber, readNumber};
-use crate::Plain;
+ghost use Rattle.witness.specs.Reading.{versionNumber, ttlNumber, mssNumber, scaleNumber, payloadNumber, multiplierNumber, wordOf, layoutNumber, ipNumber, tcpNumber, observationNumber, refusalNumber, answerNumber};
 use flow::Answer;
-use flow::Reading;
 use ip::Refusal;
 use numbers::be16;
 use numbers::be32;
 use observable::TcpObservation;
-use syn_options::OptionsAnswer;
-use syn_options::OptionsRead;
-use syn_options::ParsedTcpOptions;
 use tcp::IpVersion;
 use tcp::Layout;
 use tcp::Mss;
@@ -42,13 +37,13 @@ pub(crate) fn wide32(x: u32) -> u64
     x as u64
 }
 
-fn bool_number(x: bool) -> u64
+pub(crate) fn bool_number(x: bool) -> u64
     ensures { λ r. ⌜ r ≡ cond x 1 0 ⌝ }
 {
     if x { 1 } else { 0 }
 }
 
-fn version_number(version: IpVersion) -> u64
+pub(crate) fn version_number(version: IpVersion) -> u64
     ensures { λ r. ⌜ r ≡ versionNumber version ⌝ }
 {
     match version {
@@ -57,7 +52,7 @@ fn version_number(version: IpVersion) -> u64
     }
 }
 
-fn ttl_number(ttl: Ttl) -> u64
+pub(crate) fn ttl_number(ttl: Ttl) -> u64
     ensures { λ r. ⌜ r ≡ ttlNumber ttl ⌝ }
 {
     match ttl {
@@ -68,7 +63,7 @@ fn ttl_number(ttl: Ttl) -> u64
     }
 }
 
-fn mss_number(mss: Mss) -> u64
+pub(crate) fn mss_number(mss: Mss) -> u64
     ensures { λ r. ⌜ r ≡ mssNumber mss ⌝ }
 {
     match mss {
@@ -77,7 +72,7 @@ fn mss_number(mss: Mss) -> u64
     }
 }
 
-fn scale_number(wscale: Wscale) -> u64
+pub(crate) fn scale_number(wscale: Wscale) -> u64
     ensures { λ r. ⌜ r ≡ scaleNumber wscale ⌝ }
 {
     match wscale {
@@ -86,7 +81,7 @@ fn scale_number(wscale: Wscale) -> u64
     }
 }
 
-fn payload_number(pclass: PayloadSize) -> u64
+pub(crate) fn payload_number(pclass: PayloadSize) -> u64
     ensures { λ r. ⌜ r ≡ payloadNumber pclass ⌝ }
 {
     match pclass {
@@ -137,7 +132,7 @@ fn word(row: [u8; 40], at: usize) -> u64
     (high as u64) * 4294967296 + (low as u64)
 }
 
-fn layout_number(layout: Layout, which: u32) -> u64
+pub(crate) fn layout_number(layout: Layout, which: u32) -> u64
     ensures { λ r. ⌜ r ≡ layoutNumber layout which ⌝ }
 {
     let kinds = layout.kinds;
@@ -250,84 +245,4 @@ pub(crate) fn answer_number(answer: Answer) -> u64
         Answer::Nothing => 3,
         Answer::Refused(refusal) => refusal_number(refusal),
     }
-}
-
-// ---- a reading, whole
-
-// A reading as a struct of numbers.
-pub fn plain_of(reading: Reading) -> Plain
-    ensures { λ r. ⌜ r ≡ plainOf reading ⌝ }
-{
-    let answer = reading.answer;
-    let o = reading.observation;
-    let version = o.version;
-    let ittl = o.ittl;
-    let quirks = o.quirks;
-    let mss = o.mss;
-    let wscale = o.wscale;
-    let pclass = o.pclass;
-    let peer_mss = o.peer_mss;
-    let layout = o.olayout;
-    let kinds = layout.kinds;
-    let bytes = layout.bytes;
-    Plain {
-        answer: answer_number(answer),
-        version: version_number(version),
-        ttl: ttl_number(ittl),
-        olen: o.olen,
-        tos: o.tos,
-        tot_hdr: o.tot_hdr,
-        quirks: quirks.bits(),
-        mss: mss_number(mss),
-        wsize: o.wsize,
-        wscale: scale_number(wscale),
-        pclass: payload_number(pclass),
-        peer_mss: mss_number(peer_mss),
-        count: layout.count,
-        kinds,
-        bytes,
-    }
-}
-
-// ---- option strings
-
-fn options_answer(answer: OptionsAnswer) -> u64
-    ensures { λ r. ⌜ r ≡ optionsAnswer answer ⌝ }
-{
-    match answer {
-        OptionsAnswer::Parsed => 1,
-        OptionsAnswer::Refused => 8,
-    }
-}
-
-fn parsed_number(options: ParsedTcpOptions, which: u32) -> u64
-    ensures { λ r. ⌜ r ≡ parsedNumber options which ⌝ }
-{
-    let mss = options.mss;
-    let wscale = options.wscale;
-    let layout = options.olayout;
-    if which == 1 {
-        return bool_number(options.malformed);
-    }
-    if which == 2 {
-        return mss_number(mss);
-    }
-    if which == 3 {
-        return scale_number(wscale);
-    }
-    if which < 20 {
-        return 0;
-    }
-    layout_number(layout, which - 20)
-}
-
-pub(crate) fn options_number(read: OptionsRead, which: u32) -> u64
-    ensures { λ r. ⌜ r ≡ readNumber read which ⌝ }
-{
-    let answer = read.answer;
-    let options = read.options;
-    if which == 0 {
-        return options_answer(answer);
-    }
-    parsed_number(options, which)
 }

@@ -1,6 +1,8 @@
-use Rattle.bundle.proofs.Packets.{good-fits}
+use Rattle.bundle.proofs.Packets.{good-fits, passed, after-refusal}
+use Rattle.bundle.specs.declared.AnswerAt.the-variants as at
+use Rattle.bundle.specs.Bundle.{checkBundle, bundleRefusal}
 use Rattle.bundle.specs.Answers.{packetAnswer}
-use mathlib.Core.Path.{sym, _∙_}
+use mathlib.Core.Path.{sym, _∙_, ap}
 use borrow.Author.Needs.{needs}
 use Rattle.bundle.proofs.answer_at.Statement.{statement}
 use Rattle.bundle.proofs.answer_at.Tie as tie
@@ -8,48 +10,30 @@ use Rattle.bundle.proofs.answer_at.Tie as tie
 check-bundle-requires : tie.Need-check-bundle-requires
 check-bundle-requires c κs = search needs
 
-enum-told : tie.Need-enum-told
-enum-told c = search needs
+bundle-refusal-requires : tie.Need-bundle-refusal-requires
+bundle-refusal-requires c κs = search needs
 
 answer-of-requires : tie.Need-answer-of-requires
-answer-of-requires c κs = good-fits (c .before .before .before .before .args .bundle .now) (sym (c .before .before .check-bundle .ensures) ∙ c .enum-told .given .1)
-
-enum-told-2 : tie.Need-enum-told-2
-enum-told-2 c = search needs
-
-enum-told-3 : tie.Need-enum-told-3
-enum-told-3 c = search needs
-
-enum-known-j : tie.Need-enum-known-j
-enum-known-j c = search needs
+answer-of-requires c κs =
+    let b = c .before .before .before .before .args .bundle .now in
+    let number = c .before .bundle-refusal .ensures ∙ ap bundleRefusal (c .before .before .check-bundle .ensures) in
+    good-fits b (passed (checkBundle b) (sym number ∙ c .if1 .taken))
 
 returns : tie.Need-returns
 unfolding packetAnswer
-returns c = rw (sym (c .before .before .before .check-bundle .ensures) ∙ c .before .enum-told .given .1) (c .answer-of .ensures)
+returns c =
+    let b = c .before .before .before .before .before .args .bundle .now in
+    let number = c .before .before .bundle-refusal .ensures ∙ ap bundleRefusal (c .before .before .before .check-bundle .ensures) in
+    rw (passed (checkBundle b) (sym number ∙ c .before .if1 .taken)) (c .answer-of .ensures)
 
 returns-2 : tie.Need-returns-2
 unfolding packetAnswer
-returns-2 c = rw (sym (c .before .before .check-bundle .ensures) ∙ c .enum-told2 .given .1)
-
-returns-3 : tie.Need-returns-3
-unfolding packetAnswer
-returns-3 c = rw (sym (c .before .before .check-bundle .ensures) ∙ c .enum-told3 .given .1)
-
-returns-4 : tie.Need-returns-4
-unfolding packetAnswer
-returns-4 c = rw (sym (c .before .before .before .check-bundle .ensures) ∙ c .before .j .given .1)
+returns-2 c =
+    let a = c .before .before .before .before .args in
+    let number = c .before .bundle-refusal .ensures ∙ ap bundleRefusal (c .before .before .check-bundle .ensures) in
+    ap at.Refused (c .before .before .check-bundle .ensures) ∙ sym (after-refusal (checkBundle (a .bundle .now)) (a .bundle .now) (a .i) (λ e. c .if1 .left (number ∙ e)))
 
 pub answer-at-spec : {M : Type 1} → statement M
 answer-at-spec =
     tie.close
-    (tie.spec
-    check-bundle-requires
-    enum-told
-    answer-of-requires
-    enum-told-2
-    enum-told-3
-    enum-known-j
-    returns
-    returns-2
-    returns-3
-    returns-4)
+    (tie.spec check-bundle-requires bundle-refusal-requires answer-of-requires returns returns-2)

@@ -1,21 +1,14 @@
 use Rattle.bundle.specs.Bundle.{packetEnd}
-use Rattle.basis.specs.Bytes.{be16}
 use Rattle.bundle.specs.Answers.{answerAt}
 use borrow.Author.Needs.{needs}
 use Rattle.bundle.proofs.answer_at_place.Statement.{statement}
 use Rattle.bundle.proofs.answer_at_place.Tie as tie
 
-shared-slice-read-be16 : tie.Need-shared-slice-read-be16
-shared-slice-read-be16 c = search needs
+number-at-requires : tie.Need-number-at-requires
+number-at-requires c κs = search needs
 
-add-be16 : tie.Need-add-be16
-add-be16 c = search needs
-
-shared-slice-read-be16-2 : tie.Need-shared-slice-read-be16-2
-shared-slice-read-be16-2 c = search needs
-
-be16-requires : tie.Need-be16-requires
-be16-requires c κs = search needs
+cast-peer-of : tie.Need-cast-peer-of
+cast-peer-of c = search needs
 
 peer-of-requires : tie.Need-peer-of-requires
 peer-of-requires c κs = search needs
@@ -26,29 +19,11 @@ add-start c = search needs
 packet-end-requires : tie.Need-packet-end-requires
 packet-end-requires c κs = search needs
 
-shared-slice-read-be16-3 : tie.Need-shared-slice-read-be16-3
-shared-slice-read-be16-3 c = search needs
+number-at-requires-2 : tie.Need-number-at-requires-2
+number-at-requires-2 c κs = search needs
 
-shared-slice-read-be16-4 : tie.Need-shared-slice-read-be16-4
-shared-slice-read-be16-4 c = search needs
-
-be16-requires-2 : tie.Need-be16-requires-2
-be16-requires-2 c κs = search needs
-
-cast-list-start : tie.Need-cast-list-start
-cast-list-start c = search needs
-
-shared-slice-read-be16-5 : tie.Need-shared-slice-read-be16-5
-shared-slice-read-be16-5 c = search needs
-
-shared-slice-read-be16-6 : tie.Need-shared-slice-read-be16-6
-shared-slice-read-be16-6 c = search needs
-
-be16-requires-3 : tie.Need-be16-requires-3
-be16-requires-3 c κs = search needs
-
-cast-list-end : tie.Need-cast-list-end
-cast-list-end c = search needs
+number-at-requires-3 : tie.Need-number-at-requires-3
+number-at-requires-3 c κs = search needs
 
 add-list-end : tie.Need-add-list-end
 add-list-end c = search needs
@@ -71,35 +46,26 @@ part-answer-packet-start-2 : tie.Need-part-answer-packet-start-2
 part-answer-packet-start-2 c = search needs
 
 part-answer-packet-end-2 : tie.Need-part-answer-packet-end-2
-unfolding be16
 part-answer-packet-end-2 c = search needs
 
 answer-packet-requires : tie.Need-answer-packet-requires
 answer-packet-requires c κs = search needs
 
 returns : tie.Need-returns
-unfolding answerAt be16
-returns c = rw (c .answer-packet .ensures, c .before .before .before .be163 .ensures, c .before .before .before .before .before .before .be162 .ensures, c .before .before .before .before .before .before .before .before .before .packet-end .ensures, c .before .before .before .before .before .before .before .before .before .before .peer-of .ensures, c .before .before .before .before .before .before .before .before .before .before .before .be16 .ensures)
+unfolding answerAt
+returns c = rw (c .answer-packet .ensures, c .before .before .before .number-at3 .ensures .0, c .before .before .before .before .number-at2 .ensures .0, c .before .before .before .before .before .packet-end .ensures, c .before .before .before .before .before .before .peer-of .ensures, c .before .before .before .before .before .before .before .number-at .ensures .0)
 
 pub answer-at-place-spec : {M : Type 1} → statement M
 answer-at-place-spec =
     tie.close
     (tie.spec
-    shared-slice-read-be16
-    add-be16
-    shared-slice-read-be16-2
-    be16-requires
+    number-at-requires
+    cast-peer-of
     peer-of-requires
     add-start
     packet-end-requires
-    shared-slice-read-be16-3
-    shared-slice-read-be16-4
-    be16-requires-2
-    cast-list-start
-    shared-slice-read-be16-5
-    shared-slice-read-be16-6
-    be16-requires-3
-    cast-list-end
+    number-at-requires-2
+    number-at-requires-3
     add-list-end
     sub-answer-packet
     part-answer-packet-start

@@ -1,6 +1,8 @@
 use Rattle.report.proofs.Writing.{numbered-length}
 use Rattle.report.specs.Text.{packetsWord}
 use Rattle.basis.specs.Bytes.{be16}
+use mathlib.Core.Path.{_∙_}
+use native.Mathlib.Nat.{zero-add}
 use native.Mathlib.Omega.{arith}
 use Rattle.report.proofs.Turns.{head-room, head-paged}
 use borrow.Author.Needs.{needs}
@@ -16,11 +18,11 @@ shared-slice-read-be16-2 c = search needs
 be16-requires : tie.Need-be16-requires
 be16-requires c κs = search needs
 
-slice-aggregate-put-numbered-line : tie.Need-slice-aggregate-put-numbered-line
-slice-aggregate-put-numbered-line c = search needs
+slice-aggregate-put-numbered : tie.Need-slice-aggregate-put-numbered
+slice-aggregate-put-numbered c = search needs
 
-put-numbered-line-requires : tie.Need-put-numbered-line-requires
-put-numbered-line-requires c κs = search needs
+put-numbered-requires : tie.Need-put-numbered-requires
+put-numbered-requires c κs = search needs
 
 cast-t15 : tie.Need-cast-t15
 cast-t15 c = search needs
@@ -38,14 +40,14 @@ cast-t19 : tie.Need-cast-t19
 cast-t19 c = search needs
 
 put-lines-requires : tie.Need-put-lines-requires
-put-lines-requires c κs = let p = c .before .before .before .before .before .before .put-numbered-line in omega (arith, p .ensures .0, numbered-length packetsWord (c .before .before .before .before .before .before .before .before .before .be16 .result), head-room (c .before .before .before .before .before .before .before .before .before .before .before .before .before .before .args .bundle .now) (c .before .before .before .before .before .before .before .before .before .before .before .before .before .before .args .page .now) (p .last .0) (p .last .0) (c .before .before .before .before .before .before .before .before .before .be16 .result) 0 (p .result) (record { filled = 0; left = 0; at = 0 }) (search needs) (p .ensures .0) (p .ensures .1))
+put-lines-requires c κs = let p = c .before .before .before .before .before .before .put-numbered in omega (arith, p .ensures .0, numbered-length packetsWord (c .before .before .before .before .before .before .before .before .before .be16 .result), head-room (c .before .before .before .before .before .before .before .before .before .before .before .before .before .before .args .bundle .now) (c .before .before .before .before .before .before .before .before .before .before .before .before .before .before .args .page .now) (p .last .0) (p .last .0) (c .before .before .before .before .before .before .before .before .before .be16 .result) 0 (p .result) (record { filled = 0; left = 0; at = 0 }) (search needs) (p .ensures .0 ∙ zero-add _) (p .ensures .1))
 
 same-length : tie.Need-same-length
 same-length c = search needs
 
 returns : tie.Need-returns
 unfolding be16
-returns c = head-paged (c .before .before .before .before .before .before .before .before .before .before .before .before .before .before .before .before .before .args .bundle .now) _ _ _ _ _ _ _ (search needs) (c .before .before .before .before .before .before .before .before .before .before .before .before .be16 .ensures) (c .before .before .before .before .be162 .ensures) (c .before .before .before .before .before .before .before .before .before .put-numbered-line .ensures .0) (c .before .before .before .before .before .before .before .before .before .put-numbered-line .ensures .1) (c .before .before .put-lines .ensures)
+returns c = head-paged (c .before .before .before .before .before .before .before .before .before .before .before .before .before .before .before .before .before .args .bundle .now) _ _ _ _ _ _ _ (search needs) (c .before .before .before .before .before .before .before .before .before .before .before .before .be16 .ensures) (c .before .before .before .before .be162 .ensures) (c .before .before .before .before .before .before .before .before .before .put-numbered .ensures .0 ∙ zero-add _) (c .before .before .before .before .before .before .before .before .before .put-numbered .ensures .1) (c .before .before .put-lines .ensures)
 
 pub head-page-spec : {M : Type 1} → statement M
 head-page-spec =
@@ -54,8 +56,8 @@ head-page-spec =
     shared-slice-read-be16
     shared-slice-read-be16-2
     be16-requires
-    slice-aggregate-put-numbered-line
-    put-numbered-line-requires
+    slice-aggregate-put-numbered
+    put-numbered-requires
     cast-t15
     shared-slice-read-be16-3
     shared-slice-read-be16-4

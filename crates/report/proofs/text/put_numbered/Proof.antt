@@ -1,5 +1,5 @@
 use native.Mathlib.Omega.{arith}
-use Rattle.report.proofs.Writing.{both}
+use Rattle.report.proofs.Writing.{lined}
 use borrow.Author.Needs.{needs}
 use Rattle.report.proofs.text.put_numbered.Statement.{statement}
 use Rattle.report.proofs.text.put_numbered.Tie as tie
@@ -14,7 +14,7 @@ same-length : tie.Need-same-length
 same-length c = search needs
 
 returns : tie.Need-returns
-returns c = both _ _ _ _ _ _ _ _ (omega arith) (c .before .before .before .before .before .before .put .ensures) (c .before .before .put-decimal .ensures)
+returns c = lined _ _ _ _ _ _ _ _ (omega arith) (c .before .before .before .before .before .before .put .ensures) (c .before .before .put-decimal .ensures)
 
 pub put-numbered-spec : {M : Type 1} → statement M
 put-numbered-spec = tie.close (tie.spec put-requires put-decimal-requires same-length returns)

@@ -1,0 +1,42 @@
+// The answer of a packet: what its search finds, nothing, or a refusal. Added by the port.
+ghost use mathlib.Core.Path.{_≡_};
+ghost use Rattle.packet_answer.specs.Packet.{peerOf, answerOf};
+use flow::Answer;
+use flow::read_packet;
+use found::Found;
+use ip::Refusal;
+use search::search_checked;
+use tcp::Mss;
+
+// The answer of a packet: what its search finds, nothing, or a refusal 1 to 7.
+pub enum PacketAnswer {
+    Syn(Found),
+    SynAck(Found),
+    Nothing,
+    Refused(Refusal),
+}
+
+// A peer's MSS of 0 is absent.
+pub fn peer_of(number: u16) -> Mss
+    ensures { λ r. ⌜ r ≡ peerOf number ⌝ }
+{
+    if number == 0 {
+        return Mss::Absent;
+    }
+    Mss::Present(number)
+}
+
+// The answer of a packet against a list that was checked: what is not a well-formed record of the list fits nothing.
+pub fn answer_packet(packet: &[u8], peer: Mss, list: &[u8]) -> PacketAnswer
+    ensures { λ r. ⌜ r ≡ answerOf (now (packet .entry)) peer (now (list .entry)) ⌝ }
+{
+    let reading = read_packet(packet, peer);
+    let observation = reading.observation;
+    let answer = reading.answer;
+    match answer {
+        Answer::Syn => PacketAnswer::Syn(search_checked(observation, list)),
+        Answer::SynAck => PacketAnswer::SynAck(search_checked(observation, list)),
+        Answer::Nothing => PacketAnswer::Nothing,
+        Answer::Refused(refusal) => PacketAnswer::Refused(refusal),
+    }
+}
