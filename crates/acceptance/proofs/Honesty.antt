@@ -7,7 +7,10 @@ use native.Mathlib.Omega.{arith}
 use lib.Dec.{ltb}
 use lib.ListN.{length, getD}
 use Rattle.basis.proofs.Tests.{and-left, and-right}
+use Rattle.tcp.specs.declared.Mss.{Mss}
 use Rattle.observable.specs.declared.TcpObservation.{TcpObservation}
+use Rattle.flow.specs.declared.Answer.the-variants as reading
+use Rattle.flow.specs.Reading.{readPacket}
 use Rattle.distances.specs.declared.TtlFit.{TtlFit}
 use Rattle.matching.specs.declared.Features.{Features}
 use Rattle.matching.specs.declared.QuirksFit.{QuirksFit}
@@ -26,6 +29,7 @@ use Rattle.search.specs.declared.SearchAnswer.the-variants as answer
 use Rattle.search.specs.Search.{fitAt, numbersFrom, searchOver, searchAll, afterCheck, searchList}
 use Rattle.search.proofs.Order as order
 use Rattle.bundle.specs.declared.PacketAnswer.the-variants as packet
+use Rattle.bundle.specs.Answers.{answerOf}
 use Rattle.gateway.specs.declared.GatewayAnswer.{GatewayAnswer}
 use Rattle.gateway.specs.declared.GatewayAnswer.the-variants as gateway
 use Rattle.gateway.specs.Code.{foundFields, packetFields, fieldsOf, gatewayAnswer}
@@ -128,6 +132,20 @@ module _ (o : TcpObservation) (l : List ℕ) where
       by-count true e = let z : _≡_ {A = ℕ} 0 1 = cc in absurd (omega arith)
       by-count false e = after-found (checkList l) x e
 
+-- ---- a packet's answer
+
+module _ (p : List ℕ) (peer : Mss) (l : List ℕ) where
+  syn-answer
+      : readPacket p peer .answer ≡ reading.Syn → answerOf p peer l ≡ packet.Syn (searchAll (readPacket p peer .observation) l)
+  unfolding answerOf
+  syn-answer e = rw e
+
+  syn-ack-answer
+      : readPacket p peer .answer ≡ reading.SynAck
+      → answerOf p peer l ≡ packet.SynAck (searchAll (readPacket p peer .observation) l)
+  unfolding answerOf
+  syn-ack-answer e = rw e
+
 -- ---- the number that a gateway gets
 
 -- The outcome among a search's fields is which of the three it is.
@@ -152,6 +170,9 @@ honesty =
     record {
       exact = λ f ks bs s n es. (exact-to f ks bs s n es, exact-from f ks bs s n es);
       search = search-outcome;
+      answered = found-outcome;
+      syn-answer = syn-answer;
+      syn-ack-answer = syn-ack-answer;
       exact-not-fuzzy = λ a b r e. let z : _≡_ {A = ℕ} 0 1 = cc in omega arith;
       exact-not-none = λ a e. let z : _≡_ {A = ℕ} 0 1 = cc in omega arith;
       fuzzy-not-none = λ a r e. let z : _≡_ {A = ℕ} 0 1 = cc in omega arith;

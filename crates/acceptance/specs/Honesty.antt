@@ -5,8 +5,11 @@ use mathlib.Core.Bool.{true}
 use mathlib.Core.List.{List}
 use mathlib.Core.Logic.{_↔_}
 use Prim.Native.Nat.{ℕ, _%_, _<_}
+use Rattle.tcp.specs.declared.Mss.{Mss}
 use Rattle.quirks.specs.Quirks.{isEmpty}
 use Rattle.observable.specs.declared.TcpObservation.{TcpObservation}
+use Rattle.flow.specs.declared.Answer.the-variants as reading
+use Rattle.flow.specs.Reading.{readPacket}
 use Rattle.distances.specs.declared.TtlFit.{TtlFit}
 use Rattle.distances.specs.declared.TtlFit.the-variants as ttlfit
 use Rattle.distances.specs.Distances.{ttlFit}
@@ -26,8 +29,9 @@ use Rattle.siglist.specs.List.{recordCount, recordAt}
 use Rattle.found.specs.declared.Found.{Found}
 use Rattle.found.specs.declared.Found.the-variants as found
 use Rattle.search.specs.declared.SearchAnswer.the-variants as answer
-use Rattle.search.specs.Search.{fitAt, searchList}
+use Rattle.search.specs.Search.{fitAt, searchAll, searchList}
 use Rattle.bundle.specs.declared.PacketAnswer.the-variants as packet
+use Rattle.bundle.specs.Answers.{answerOf}
 use Rattle.gateway.specs.declared.GatewayAnswer.{GatewayAnswer}
 use Rattle.gateway.specs.declared.GatewayAnswer.the-variants as gateway
 use Rattle.gateway.specs.Code.{fieldsOf, codeOf, gatewayAnswer}
@@ -98,6 +102,17 @@ pub record Honesty : Type 0 where
       → (fitOf f kinds bytes s count entries ≡ fit.Exact) ↔ FitsExactly f kinds bytes s count entries
   -- What a search finds is one of the three outcomes.
   pub search : (o : TcpObservation) (l : List ℕ) (x : Found) → searchList o l ≡ answer.Found x → Outcome o l x
+  -- What the program and the gateway answer of a SYN or SYN+ACK is the search for its observation, and is one of the three outcomes
+  -- on any list, checked or not.
+  pub answered : (o : TcpObservation) (l : List ℕ) → Outcome o l (searchAll o l)
+  pub syn-answer
+      : (p : List ℕ) (peer : Mss) (l : List ℕ)
+      → readPacket p peer .answer ≡ reading.Syn
+      → answerOf p peer l ≡ packet.Syn (searchAll (readPacket p peer .observation) l)
+  pub syn-ack-answer
+      : (p : List ℕ) (peer : Mss) (l : List ℕ)
+      → readPacket p peer .answer ≡ reading.SynAck
+      → answerOf p peer l ≡ packet.SynAck (searchAll (readPacket p peer .observation) l)
   -- No two of the three answers are one.
   pub exact-not-fuzzy : (a b : ℕ) (r : FuzzyReason) → found.Exact a ≡ found.Fuzzy b r → ⊥
   pub exact-not-none : (a : ℕ) → found.Exact a ≡ found.Nothing → ⊥
