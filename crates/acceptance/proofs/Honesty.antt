@@ -2,7 +2,7 @@
 use mathlib.Core.Path.{_≡_, refl, sym, _∙_, ap}
 use mathlib.Core.Bool.{Bool, true, false, cond, _&&_}
 use mathlib.Core.List.{List}
-use Prim.Native.Nat.{ℕ, zero, suc, _+_, _<_}
+use Prim.Native.Nat.{ℕ, zero, suc, _+_, _%_, _<_}
 use native.Mathlib.Omega.{arith}
 use lib.Dec.{ltb}
 use lib.ListN.{length, getD}
@@ -28,14 +28,17 @@ use Rattle.search.specs.declared.SearchAnswer.{SearchAnswer}
 use Rattle.search.specs.declared.SearchAnswer.the-variants as answer
 use Rattle.search.specs.Search.{fitAt, numbersFrom, searchOver, searchAll, afterCheck, searchList}
 use Rattle.search.proofs.Order as order
+use Rattle.bundle.specs.declared.PacketAnswer.{PacketAnswer}
 use Rattle.bundle.specs.declared.PacketAnswer.the-variants as packet
+use Rattle.bundle.specs.Bundle.{peerOf}
 use Rattle.bundle.specs.Answers.{answerOf}
 use Rattle.gateway.specs.declared.GatewayAnswer.{GatewayAnswer}
 use Rattle.gateway.specs.declared.GatewayAnswer.the-variants as gateway
-use Rattle.gateway.specs.Code.{foundFields, packetFields, fieldsOf, gatewayAnswer}
+use Rattle.gateway.specs.Code.{foundFields, packetFields, fieldsOf, codeOf, gatewayAnswer}
+use Rattle.gateway.specs.Decode.{AllBytes, fieldsFrom, answerFrom, PacketFits}
 use Rattle.gateway.proofs.ReadBack as back
-use Rattle.gateway.proofs.Fits.{answers-fit, codes-differ}
-use Rattle.acceptance.specs.Honesty.{NothingTolerated, FitsExactly, fitOfRecord, Outcome, whichOf, outcomeOf, Honesty}
+use Rattle.gateway.proofs.Fits.{packet-fits, answers-fit, codes-differ}
+use Rattle.acceptance.specs.Honesty.{NothingTolerated, FitsExactly, fitOfRecord, Outcome, whichOf, outcomeOf, checkedAnswer, checkedCode, Honesty}
 
 -- ---- one record
 
@@ -165,6 +168,39 @@ outcome-of (gateway.Packet (packet.Refused r)) = refl
 outcome-of gateway.ListDoesNotFit = refl
 outcome-of (gateway.BadRecord i) = refl
 
+-- A packet's own answer, as the gateway's that holds it.
+unwrapped : (a b : PacketAnswer) → gateway.Packet a ≡ gateway.Packet b → a ≡ b
+unwrapped a b e = cc
+
+module _ (p : List ℕ) (peer : ℕ) (l : List ℕ) (hp : AllBytes p) (hl : AllBytes l) where
+  checked-fits : PacketFits (checkedAnswer p peer l)
+  checked-fits = packet-fits p (peerOf peer) l hp hl
+
+  checked-read-back : answerFrom (fieldsFrom (checkedCode p peer l)) ≡ gateway.Packet (checkedAnswer p peer l)
+  unfolding fieldsOf
+  checked-read-back = back.read-back (gateway.Packet (checkedAnswer p peer l)) checked-fits
+
+  checked-lowest-byte : checkedCode p peer l % 256 ≡ outcomeOf (gateway.Packet (checkedAnswer p peer l))
+  unfolding fieldsOf
+  checked-lowest-byte =
+      back.lowest-byte (gateway.Packet (checkedAnswer p peer l)) checked-fits ∙ outcome-of (gateway.Packet (checkedAnswer p peer l))
+
+checked-codes-differ
+    : (p q : List ℕ) (m n : ℕ) (l k : List ℕ)
+    → AllBytes p
+    → AllBytes q
+    → AllBytes l
+    → AllBytes k
+    → checkedCode p m l ≡ checkedCode q n k
+    → checkedAnswer p m l ≡ checkedAnswer q n k
+unfolding fieldsOf
+checked-codes-differ p q m n l k hp hq hl hk e =
+    unwrapped (checkedAnswer p m l) (checkedAnswer q n k)
+    (back.injective (gateway.Packet (checkedAnswer p m l)) (gateway.Packet (checkedAnswer q n k))
+    (packet-fits p (peerOf m) l hp hl)
+    (packet-fits q (peerOf n) k hq hk)
+    e)
+
 pub honesty : Honesty
 honesty =
     record {
@@ -181,4 +217,7 @@ honesty =
       lowest-byte =
           λ p peer l hp hl.
           back.lowest-byte (gatewayAnswer p peer l) (answers-fit p peer l hp hl) ∙ outcome-of (gatewayAnswer p peer l);
+      checked-read-back = checked-read-back;
+      checked-codes-differ = checked-codes-differ;
+      checked-lowest-byte = checked-lowest-byte;
     }

@@ -30,11 +30,13 @@ use Rattle.found.specs.declared.Found.{Found}
 use Rattle.found.specs.declared.Found.the-variants as found
 use Rattle.search.specs.declared.SearchAnswer.the-variants as answer
 use Rattle.search.specs.Search.{fitAt, searchAll, searchList}
+use Rattle.bundle.specs.declared.PacketAnswer.{PacketAnswer}
 use Rattle.bundle.specs.declared.PacketAnswer.the-variants as packet
+use Rattle.bundle.specs.Bundle.{peerOf}
 use Rattle.bundle.specs.Answers.{answerOf}
 use Rattle.gateway.specs.declared.GatewayAnswer.{GatewayAnswer}
 use Rattle.gateway.specs.declared.GatewayAnswer.the-variants as gateway
-use Rattle.gateway.specs.Code.{fieldsOf, codeOf, gatewayAnswer}
+use Rattle.gateway.specs.Code.{packetFields, fieldsOf, codeOf, gatewayAnswer}
 use Rattle.gateway.specs.Decode.{AllBytes, fieldsFrom, answerFrom}
 
 -- "Nothing tolerated": the TTL is in range, and no quirk is added or missing.
@@ -91,9 +93,16 @@ outcomeOf (gateway.Packet (packet.Refused r)) = 5
 outcomeOf gateway.ListDoesNotFit = 5
 outcomeOf (gateway.BadRecord i) = 5
 
--- The number that a gateway gets for a packet, the peer's MSS and a list.
+-- The number that a gateway gets for a packet, the peer's MSS and a list (`termread_answer`).
 abbrev pub codeAt : List ℕ → ℕ → List ℕ → ℕ
 codeAt p peer l = codeOf (fieldsOf (gatewayAnswer p peer l))
+
+-- The answer that a gateway gets which checked its list once, and its number (`termread_answer_checked`).
+abbrev pub checkedAnswer : List ℕ → ℕ → List ℕ → PacketAnswer
+checkedAnswer p peer l = answerOf p (peerOf peer) l
+
+abbrev pub checkedCode : List ℕ → ℕ → List ℕ → ℕ
+checkedCode p peer l = codeOf (packetFields (checkedAnswer p peer l))
 
 pub record Honesty : Type 0 where
   -- "Nothing tolerated is exact, else fuzzy": exact exactly when the gates hold and nothing is tolerated.
@@ -138,3 +147,22 @@ pub record Honesty : Type 0 where
       → AllBytes p
       → AllBytes l
       → codeAt p peer l % 256 ≡ outcomeOf (gatewayAnswer p peer l)
+  -- The same three of the function that gateways are told to call, on any byte strings, also where the list was not checked.
+  pub checked-read-back
+      : (p : List ℕ) (peer : ℕ) (l : List ℕ)
+      → AllBytes p
+      → AllBytes l
+      → answerFrom (fieldsFrom (checkedCode p peer l)) ≡ gateway.Packet (checkedAnswer p peer l)
+  pub checked-codes-differ
+      : (p q : List ℕ) (m n : ℕ) (l k : List ℕ)
+      → AllBytes p
+      → AllBytes q
+      → AllBytes l
+      → AllBytes k
+      → checkedCode p m l ≡ checkedCode q n k
+      → checkedAnswer p m l ≡ checkedAnswer q n k
+  pub checked-lowest-byte
+      : (p : List ℕ) (peer : ℕ) (l : List ℕ)
+      → AllBytes p
+      → AllBytes l
+      → checkedCode p peer l % 256 ≡ outcomeOf (gateway.Packet (checkedAnswer p peer l))
