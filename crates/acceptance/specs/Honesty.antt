@@ -1,7 +1,7 @@
 -- "Exact, fuzzy and none stay three answers": what each of the three means, for a record and for a search (document 01, module 7
 -- and "The signature list"), and that they stay three as the numbers that a gateway gets. `Honesty` is the statement.
 use mathlib.Core.Path.{_≡_}
-use mathlib.Core.Bool.{true}
+use mathlib.Core.Bool.{true, false}
 use mathlib.Core.List.{List}
 use mathlib.Core.Logic.{_↔_}
 use Prim.Native.Nat.{ℕ, _%_, _<_}
@@ -15,6 +15,7 @@ use Rattle.distances.specs.declared.TtlFit.the-variants as ttlfit
 use Rattle.distances.specs.Distances.{ttlFit}
 use Rattle.matching.specs.declared.Features.{Features}
 use Rattle.matching.specs.declared.FuzzyReason.{FuzzyReason}
+use Rattle.matching.specs.declared.Hops.the-variants as hops
 use Rattle.matching.specs.declared.QuirksFit.{QuirksFit}
 use Rattle.matching.specs.declared.QuirksFit.the-variants as quirksfit
 use Rattle.matching.specs.declared.Signature.{Signature}
@@ -53,6 +54,33 @@ pub record FitsExactly (f : Features) (kinds bytes : List ℕ) (s : Signature) (
   pub layout : layoutMatches (f .count) kinds bytes count entries ≡ true
   pub untolerated
       : NothingTolerated (ttlFit (f .ttl) (s .ittl)) (quirksFit (f .quirks) (maskedQuirks (s .quirks) (s .version) (f .version)))
+
+-- "else fuzzy with a reason: the hop distance if out of range, the added and the missing quirks": neither is rejected, and the TTL is
+-- out of range, or a quirk is added, or one is missing.
+pub data ToleratedWith : TtlFit → QuirksFit → FuzzyReason → Type 0 where
+  out-of-range
+      : {d : ℕ} {q : Tolerated}
+      → ToleratedWith (ttlfit.OutOfRange d) (quirksfit.Tolerated q)
+      (record { hops = hops.OutOfRange d; added = q .added; missing = q .missing })
+  an-added
+      : {d : ℕ} {q : Tolerated}
+      → isEmpty (q .added) ≡ false
+      → ToleratedWith (ttlfit.InRange d) (quirksfit.Tolerated q)
+      (record { hops = hops.InRange; added = q .added; missing = q .missing })
+  a-missing
+      : {d : ℕ} {q : Tolerated}
+      → isEmpty (q .missing) ≡ false
+      → ToleratedWith (ttlfit.InRange d) (quirksfit.Tolerated q)
+      (record { hops = hops.InRange; added = q .added; missing = q .missing })
+
+-- The seven gates hold, and something is tolerated, for this reason.
+pub record FitsFuzzily (f : Features) (kinds bytes : List ℕ) (s : Signature) (count : ℕ) (entries : List ℕ) (reason : FuzzyReason)
+    : Type 0
+  where
+    pub gates : scalarGates f s ≡ true
+    pub layout : layoutMatches (f .count) kinds bytes count entries ≡ true
+    pub tolerated
+        : ToleratedWith (ttlFit (f .ttl) (s .ittl)) (quirksFit (f .quirks) (maskedQuirks (s .quirks) (s .version) (f .version))) reason
 
 -- How record i of a list fits an observation; what is not a well-formed record of the list fits nothing.
 abbrev pub fitOfRecord : TcpObservation → List ℕ → ℕ → SignatureFit
@@ -109,6 +137,11 @@ pub record Honesty : Type 0 where
   pub exact
       : (f : Features) (kinds bytes : List ℕ) (s : Signature) (count : ℕ) (entries : List ℕ)
       → (fitOf f kinds bytes s count entries ≡ fit.Exact) ↔ FitsExactly f kinds bytes s count entries
+  -- Fuzzy with a reason exactly when the gates hold, neither the TTL nor the quirks are rejected, and something is tolerated; the reason
+  -- is then what was.
+  pub fuzzy
+      : (f : Features) (kinds bytes : List ℕ) (s : Signature) (count : ℕ) (entries : List ℕ) (reason : FuzzyReason)
+      → (fitOf f kinds bytes s count entries ≡ fit.Fuzzy reason) ↔ FitsFuzzily f kinds bytes s count entries reason
   -- What a search finds is one of the three outcomes.
   pub search : (o : TcpObservation) (l : List ℕ) (x : Found) → searchList o l ≡ answer.Found x → Outcome o l x
   -- What the program and the gateway answer of a SYN or SYN+ACK is the search for its observation, and is one of the three outcomes
