@@ -38,6 +38,7 @@ use Rattle.search.specs.Search.{fitAt, searchList}
 use Rattle.search.proofs.Order.{single}
 use Rattle.acceptance.specs.Values.{packetA, exampleList}
 use Rattle.acceptance.specs.Demand2.{MultiplierTheorem, ofOne, SingleFit, ShutOut, Demand2}
+use Rattle.acceptance.proofs.Observation.{the-observation}
 use Rattle.acceptance.proofs.Values.{values}
 
 -- ---- the multiplier
@@ -141,4 +142,4 @@ shut-out =
     }
 
 pub demand2 : Demand2
-demand2 = record { multiplier = multiplier-theorem; single = single-fit; values = values; shutOut = shut-out }
+demand2 = record { multiplier = multiplier-theorem; observation = the-observation; single = single-fit; values = values; shutOut = shut-out }

@@ -21,9 +21,10 @@ use Rattle.gateway.specs.declared.GatewayAnswer.{GatewayAnswer}
 use Rattle.gateway.specs.declared.GatewayAnswer.the-variants as gateway
 use Rattle.gateway.specs.Code.{packetFields, fieldsOf, codeOf, afterList, gatewayAnswer}
 use Rattle.acceptance.proofs.Overlap.{overlap}
+use Rattle.one_option.specs.Options.{optionsOf}
 use Rattle.alike.specs.Ip.{AlikeIpv4, AlikeIpv6}
 use Rattle.alike.specs.Packets.{Alike}
-use Rattle.alike.proofs.Equivalence.{ipv4-sym, ipv4-trans, ipv6-sym, ipv6-trans, tcp-refl, tcp-sym, tcp-trans, alike-refl, alike-sym, alike-trans}
+use Rattle.alike.proofs.Equivalence.{row-refl, row-sym, row-trans, ipv4-sym, ipv4-trans, ipv6-sym, ipv6-trans, tcp-refl, tcp-sym, tcp-trans, alike-refl, alike-sym, alike-trans}
 use Rattle.alike.proofs.Free.{free-alike, free-byte}
 use Rattle.alike.proofs.FreeTcp.{free-tcp}
 use Rattle.alike.proofs.Ip.{ip-alike-v4, ip-alike-v6}
@@ -54,6 +55,12 @@ the-relation =
       ipv6 =
           record { reflexive = ipv6-refl; symmetric = λ p q a. ipv6-sym a; transitive = λ p q r a b. ipv6-trans a b };
       tcp = record { reflexive = tcp-refl; symmetric = λ p q a. tcp-sym a; transitive = λ p q r a b. tcp-trans a b };
+      options =
+          record {
+            reflexive = λ s. row-refl (optionsOf s);
+            symmetric = λ s t a. row-sym a;
+            transitive = λ s t u a b. row-trans a b;
+          };
       sameLength = same-length;
       free = free-alike;
       free-byte = free-byte;

@@ -2,18 +2,28 @@
 use mathlib.Core.Path.{_≡_, refl, sym, _∙_, ap}
 use mathlib.Core.Bool.{Bool, true, false, cond, _&&_}
 use mathlib.Core.List.{List}
-use Prim.Native.Nat.{ℕ, zero, suc, _+_, _<_}
+use Prim.Native.Nat.{ℕ, zero, suc, _+_, _%_, _<_}
 use native.Mathlib.Omega.{arith}
 use lib.Dec.{ltb}
 use lib.ListN.{length, getD}
 use Rattle.basis.proofs.Tests.{and-left, and-right}
+use Rattle.tcp.specs.declared.Mss.{Mss}
 use Rattle.observable.specs.declared.TcpObservation.{TcpObservation}
+use Rattle.flow.specs.declared.Answer.the-variants as reading
+use Rattle.flow.specs.Reading.{readPacket}
+use Rattle.quirks.specs.Quirks.{isEmpty}
 use Rattle.distances.specs.declared.TtlFit.{TtlFit}
+use Rattle.distances.specs.declared.TtlFit.the-variants as ttlfit
 use Rattle.matching.specs.declared.Features.{Features}
+use Rattle.matching.specs.declared.FuzzyReason.{FuzzyReason}
+use Rattle.matching.specs.declared.Hops.the-variants as hops
 use Rattle.matching.specs.declared.QuirksFit.{QuirksFit}
+use Rattle.matching.specs.declared.QuirksFit.the-variants as quirksfit
 use Rattle.matching.specs.declared.Signature.{Signature}
 use Rattle.matching.specs.declared.SignatureFit.the-variants as fit
+use Rattle.matching.specs.declared.Tolerated.{Tolerated}
 use Rattle.matching.specs.Gates.{layoutMatches}
+use Rattle.matching.specs.Tolerance.{judgeInRange, judge}
 use Rattle.matching.specs.Fit.{featuresOf, scalarGates, toleranceOf, fitOf}
 use Rattle.matching.proofs.Laws.{Untolerated, exact-untolerated, untolerated-exact}
 use Rattle.siglist.specs.declared.ListAnswer.{ListAnswer}
@@ -25,13 +35,16 @@ use Rattle.search.specs.declared.SearchAnswer.{SearchAnswer}
 use Rattle.search.specs.declared.SearchAnswer.the-variants as answer
 use Rattle.search.specs.Search.{fitAt, numbersFrom, searchOver, searchAll, afterCheck, searchList}
 use Rattle.search.proofs.Order as order
+use Rattle.packet_answer.specs.declared.PacketAnswer.{PacketAnswer}
 use Rattle.packet_answer.specs.declared.PacketAnswer.the-variants as packet
+use Rattle.packet_answer.specs.Packet.{peerOf, answerOf}
 use Rattle.gateway.specs.declared.GatewayAnswer.{GatewayAnswer}
 use Rattle.gateway.specs.declared.GatewayAnswer.the-variants as gateway
-use Rattle.gateway.specs.Code.{foundFields, packetFields, fieldsOf, gatewayAnswer}
+use Rattle.gateway.specs.Code.{foundFields, packetFields, fieldsOf, codeOf, gatewayAnswer}
+use Rattle.gateway.specs.Decode.{AllBytes, fieldsFrom, answerFrom, PacketFits}
 use Rattle.gateway.proofs.ReadBack as back
-use Rattle.gateway.proofs.Fits.{answers-fit, codes-differ}
-use Rattle.acceptance.specs.Honesty.{NothingTolerated, FitsExactly, fitOfRecord, Outcome, whichOf, outcomeOf, Honesty}
+use Rattle.gateway.proofs.Fits.{packet-fits, answers-fit, codes-differ}
+use Rattle.acceptance.specs.Honesty.{NothingTolerated, FitsExactly, ToleratedWith, FitsFuzzily, fitOfRecord, Outcome, whichOf, outcomeOf, checkedAnswer, checkedCode, Honesty}
 
 -- ---- one record
 
@@ -40,6 +53,48 @@ as-nothing (Untolerated.nothing-tolerated a m) = NothingTolerated.nothing-tolera
 
 as-untolerated : {t : TtlFit} {q : QuirksFit} → NothingTolerated t q → Untolerated t q
 as-untolerated (NothingTolerated.nothing-tolerated a m) = Untolerated.nothing-tolerated a m
+
+-- What is fuzzy with the TTL in range has a quirk added or missing.
+in-range-fuzzy
+    : (d : ℕ) (q : Tolerated) (r : FuzzyReason)
+    → judgeInRange q ≡ fit.Fuzzy r
+    → ToleratedWith (ttlfit.InRange d) (quirksfit.Tolerated q) r
+unfolding judgeInRange
+in-range-fuzzy d q r = by-tests (isEmpty (q .added)) (isEmpty (q .missing)) refl refl
+  where
+    by-tests
+        : (a m : Bool)
+        → isEmpty (q .added) ≡ a
+        → isEmpty (q .missing) ≡ m
+        → cond (a && m) fit.Exact (fit.Fuzzy (record { hops = hops.InRange; added = q .added; missing = q .missing })) ≡ fit.Fuzzy r
+        → ToleratedWith (ttlfit.InRange d) (quirksfit.Tolerated q) r
+    by-tests true true ea em e = let z : _≡_ {A = ℕ} 0 1 = cc in absurd (omega arith)
+    by-tests true false ea em e =
+        let same : record { hops = hops.InRange; added = q .added; missing = q .missing } ≡ r = cc in
+        rw (← same) (ToleratedWith.a-missing em)
+    by-tests false m ea em e =
+        let same : record { hops = hops.InRange; added = q .added; missing = q .missing } ≡ r = cc in
+        rw (← same) (ToleratedWith.an-added ea)
+
+fuzzy-tolerated : (t : TtlFit) (q : QuirksFit) (r : FuzzyReason) → judge t q ≡ fit.Fuzzy r → ToleratedWith t q r
+unfolding judge
+fuzzy-tolerated ttlfit.Rejected q r e = let z : _≡_ {A = ℕ} 0 1 = cc in absurd (omega arith)
+fuzzy-tolerated (ttlfit.InRange d) quirksfit.Rejected r e = let z : _≡_ {A = ℕ} 0 1 = cc in absurd (omega arith)
+fuzzy-tolerated (ttlfit.InRange d) (quirksfit.Tolerated q) r e = in-range-fuzzy d q r e
+fuzzy-tolerated (ttlfit.OutOfRange d) quirksfit.Rejected r e = let z : _≡_ {A = ℕ} 0 1 = cc in absurd (omega arith)
+fuzzy-tolerated (ttlfit.OutOfRange d) (quirksfit.Tolerated q) r e =
+    let same : record { hops = hops.OutOfRange d; added = q .added; missing = q .missing } ≡ r = cc in
+    rw (← same) ToleratedWith.out-of-range
+
+and-false : (a : Bool) → a && false ≡ false
+and-false true = refl
+and-false false = refl
+
+tolerated-fuzzy : {t : TtlFit} {q : QuirksFit} {r : FuzzyReason} → ToleratedWith t q r → judge t q ≡ fit.Fuzzy r
+unfolding judge judgeInRange
+tolerated-fuzzy ToleratedWith.out-of-range = refl
+tolerated-fuzzy (ToleratedWith.an-added a) = rw a
+tolerated-fuzzy (ToleratedWith.a-missing m) = rw (m, and-false)
 
 module _ (f : Features) (kinds bytes : List ℕ) (s : Signature) (count : ℕ) (entries : List ℕ) where
   exact-to : fitOf f kinds bytes s count entries ≡ fit.Exact → FitsExactly f kinds bytes s count entries
@@ -62,6 +117,29 @@ module _ (f : Features) (kinds bytes : List ℕ) (s : Signature) (count : ℕ) (
   exact-from : FitsExactly f kinds bytes s count entries → fitOf f kinds bytes s count entries ≡ fit.Exact
   unfolding fitOf toleranceOf
   exact-from x = rw (x .gates, x .layout) (untolerated-exact (as-untolerated (x .untolerated)))
+
+  fuzzy-to
+      : (r : FuzzyReason) → fitOf f kinds bytes s count entries ≡ fit.Fuzzy r → FitsFuzzily f kinds bytes s count entries r
+  unfolding fitOf toleranceOf
+  fuzzy-to r = by-gates (scalarGates f s && layoutMatches (f .count) kinds bytes count entries) refl
+    where
+      by-gates
+          : (t : Bool)
+          → scalarGates f s && layoutMatches (f .count) kinds bytes count entries ≡ t
+          → cond t (toleranceOf f s) fit.Nothing ≡ fit.Fuzzy r
+          → FitsFuzzily f kinds bytes s count entries r
+      by-gates true gates e =
+          record {
+            gates = and-left (scalarGates f s) (layoutMatches (f .count) kinds bytes count entries) gates;
+            layout = and-right (scalarGates f s) (layoutMatches (f .count) kinds bytes count entries) gates;
+            tolerated = fuzzy-tolerated _ _ r e;
+          }
+      by-gates false gates e = let z : _≡_ {A = ℕ} 0 1 = cc in absurd (omega arith)
+
+  fuzzy-from
+      : (r : FuzzyReason) → FitsFuzzily f kinds bytes s count entries r → fitOf f kinds bytes s count entries ≡ fit.Fuzzy r
+  unfolding fitOf toleranceOf
+  fuzzy-from r x = rw (x .gates, x .layout) (tolerated-fuzzy (x .tolerated))
 
 -- ---- a search
 
@@ -128,6 +206,20 @@ module _ (o : TcpObservation) (l : List ℕ) where
       by-count true e = let z : _≡_ {A = ℕ} 0 1 = cc in absurd (omega arith)
       by-count false e = after-found (checkList l) x e
 
+-- ---- a packet's answer
+
+module _ (p : List ℕ) (peer : Mss) (l : List ℕ) where
+  syn-answer
+      : readPacket p peer .answer ≡ reading.Syn → answerOf p peer l ≡ packet.Syn (searchAll (readPacket p peer .observation) l)
+  unfolding answerOf
+  syn-answer e = rw e
+
+  syn-ack-answer
+      : readPacket p peer .answer ≡ reading.SynAck
+      → answerOf p peer l ≡ packet.SynAck (searchAll (readPacket p peer .observation) l)
+  unfolding answerOf
+  syn-ack-answer e = rw e
+
 -- ---- the number that a gateway gets
 
 -- The outcome among a search's fields is which of the three it is.
@@ -147,11 +239,48 @@ outcome-of (gateway.Packet (packet.Refused r)) = refl
 outcome-of gateway.ListDoesNotFit = refl
 outcome-of (gateway.BadRecord i) = refl
 
+-- A packet's own answer, as the gateway's that holds it.
+unwrapped : (a b : PacketAnswer) → gateway.Packet a ≡ gateway.Packet b → a ≡ b
+unwrapped a b e = cc
+
+module _ (p : List ℕ) (peer : ℕ) (l : List ℕ) (hp : AllBytes p) (hl : AllBytes l) where
+  checked-fits : PacketFits (checkedAnswer p peer l)
+  checked-fits = packet-fits p (peerOf peer) l hp hl
+
+  checked-read-back : answerFrom (fieldsFrom (checkedCode p peer l)) ≡ gateway.Packet (checkedAnswer p peer l)
+  unfolding fieldsOf
+  checked-read-back = back.read-back (gateway.Packet (checkedAnswer p peer l)) checked-fits
+
+  checked-lowest-byte : checkedCode p peer l % 256 ≡ outcomeOf (gateway.Packet (checkedAnswer p peer l))
+  unfolding fieldsOf
+  checked-lowest-byte =
+      back.lowest-byte (gateway.Packet (checkedAnswer p peer l)) checked-fits ∙ outcome-of (gateway.Packet (checkedAnswer p peer l))
+
+checked-codes-differ
+    : (p q : List ℕ) (m n : ℕ) (l k : List ℕ)
+    → AllBytes p
+    → AllBytes q
+    → AllBytes l
+    → AllBytes k
+    → checkedCode p m l ≡ checkedCode q n k
+    → checkedAnswer p m l ≡ checkedAnswer q n k
+unfolding fieldsOf
+checked-codes-differ p q m n l k hp hq hl hk e =
+    unwrapped (checkedAnswer p m l) (checkedAnswer q n k)
+    (back.injective (gateway.Packet (checkedAnswer p m l)) (gateway.Packet (checkedAnswer q n k))
+    (packet-fits p (peerOf m) l hp hl)
+    (packet-fits q (peerOf n) k hq hk)
+    e)
+
 pub honesty : Honesty
 honesty =
     record {
       exact = λ f ks bs s n es. (exact-to f ks bs s n es, exact-from f ks bs s n es);
+      fuzzy = λ f ks bs s n es r. (fuzzy-to f ks bs s n es r, fuzzy-from f ks bs s n es r);
       search = search-outcome;
+      answered = found-outcome;
+      syn-answer = syn-answer;
+      syn-ack-answer = syn-ack-answer;
       exact-not-fuzzy = λ a b r e. let z : _≡_ {A = ℕ} 0 1 = cc in omega arith;
       exact-not-none = λ a e. let z : _≡_ {A = ℕ} 0 1 = cc in omega arith;
       fuzzy-not-none = λ a r e. let z : _≡_ {A = ℕ} 0 1 = cc in omega arith;
@@ -160,4 +289,7 @@ honesty =
       lowest-byte =
           λ p peer l hp hl.
           back.lowest-byte (gatewayAnswer p peer l) (answers-fit p peer l hp hl) ∙ outcome-of (gatewayAnswer p peer l);
+      checked-read-back = checked-read-back;
+      checked-codes-differ = checked-codes-differ;
+      checked-lowest-byte = checked-lowest-byte;
     }

@@ -6,6 +6,7 @@ pub mod Demand3
 pub mod First
 pub mod Honesty
 pub mod NotFree
+pub mod Observation
 pub mod Overlap
 pub mod PacketGives
 pub mod PacketRefusals

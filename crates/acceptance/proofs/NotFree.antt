@@ -41,7 +41,7 @@ use Rattle.found.specs.Keep.{keep}
 use Rattle.search.specs.Search.{fitAt, searchFrom, numbersFrom, searchOver, searchAll, searchList}
 use Rattle.alike.proofs.Packets.{read-alike}
 use Rattle.acceptance.specs.Values.{packetA, exampleList}
-use Rattle.acceptance.specs.NotFree.{ReadApart, AnsweredApart, stamped, overIpv6, NotFree}
+use Rattle.acceptance.specs.NotFree.{ReadApart, AnsweredApart, stamped, overIpv6, noLength, noLengthIpv6, NotFree}
 use Rattle.acceptance.proofs.Values.{values}
 
 -- Two readings of which one number differs.
@@ -105,10 +105,12 @@ not-free =
       kind = not-exact (set packetA 40 3) (λ e. let other = other-kind in let z : _≡_ {A = ℕ} 0 1 = cc in omega arith);
       ownStamp = told-apart quirkBits stamped (set stamped 47 0) refl;
       peerStamp = told-apart quirkBits stamped (set stamped 51 1) refl;
+      version = told-apart refused packetA (set packetA 0 0x65) refl;
       ihl = told-apart refused packetA (set packetA 0 0x46) refl;
       serviceHigh = told-apart service packetA (set packetA 1 4) refl;
       serviceLow = told-apart quirkBits packetA (set packetA 1 1) refl;
       totalLength = told-apart mssNumber packetA (set packetA 3 0x2b) refl;
+      totalLengthHigh = told-apart refused noLength (set noLength 2 1) refl;
       identification = told-apart quirkBits packetA (set packetA 5 1) refl;
       flags = told-apart quirkBits packetA (set packetA 6 0) refl;
       fragmentOffset = told-apart refused packetA (set packetA 7 1) refl;
@@ -125,9 +127,11 @@ not-free =
       optionLength = told-apart mssNumber packetA (set packetA 41 3) refl;
       optionHigh = told-apart mssNumber packetA (set packetA 42 4) refl;
       optionLow = told-apart mssNumber packetA (set packetA 43 0xb5) refl;
+      trafficClassHigh = told-apart service overIpv6 (set overIpv6 0 0x61) refl;
       trafficClass = told-apart quirkBits overIpv6 (set overIpv6 1 0x10) refl;
       flowLabel = told-apart quirkBits overIpv6 (set overIpv6 3 1) refl;
       payloadLength = told-apart refused overIpv6 (set overIpv6 5 19) refl;
+      payloadLengthHigh = told-apart refused noLengthIpv6 (set noLengthIpv6 4 1) refl;
       nextHeader = told-apart refused overIpv6 (set overIpv6 6 17) refl;
       hopLimit = told-apart ttlByte overIpv6 (set overIpv6 7 0x41) refl;
     }

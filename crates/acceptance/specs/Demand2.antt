@@ -1,14 +1,19 @@
--- Demand 2: the multiplier theorem, the single fit, the table of values (Values.antt), and the readers that the table shuts out.
+-- Demand 2: the multiplier theorem, what an observation holds, the single fit, the table of values (Values.antt), and the readers that
+-- the table shuts out.
 -- That each public function's answer is its definition's stands in Demand1.antt. `Demand2` is the statement.
 use mathlib.Core.Path.{_≡_}
 use mathlib.Core.Bool.{Bool, false, true}
 use mathlib.Core.List.{List, [], _∷_}
 use mathlib.Core.Logic.{_↔_}
 use Prim.Native.Nat.{ℕ, _<_, _≤_}
+use Rattle.basis.specs.Bytes.{byteAt}
 use Rattle.tcp.specs.declared.IpVersion.{IpVersion}
 use Rattle.tcp.specs.declared.Mss.{Mss}
 use Rattle.tcp.specs.declared.Mss.the-variants as mss
-use Rattle.quirks.specs.Named.{empty}
+use Rattle.quirks.specs.declared.Quirk.the-variants as quirk
+use Rattle.quirks.specs.Quirks.{contains, SubsetByPlaces}
+use Rattle.quirks.specs.Named.{empty, seventeen}
+use Rattle.ttl.specs.declared.Ttl.the-variants as ttl
 use Rattle.window_size.specs.declared.Multiplier.the-variants as multiplier
 use Rattle.window_size.specs.declared.WindowMultiplier.{WindowMultiplier}
 use Rattle.window_size.specs.Divisors.{SomeOf, isV6, peerSize, twelve}
@@ -19,6 +24,7 @@ use Rattle.syn_options.specs.Walk.{walkOf}
 use Rattle.ip.specs.declared.Refusal.{Refusal}
 use Rattle.flow.specs.declared.Answer.the-variants as packet
 use Rattle.flow.specs.declared.Reading.{Reading}
+use Rattle.flow.specs.Tcp.{knownPeer}
 use Rattle.flow.specs.Reading.{readPacket}
 use Rattle.matching.specs.declared.SignatureFit.{SignatureFit}
 use Rattle.matching.specs.declared.SignatureFit.the-variants as fit
@@ -64,6 +70,28 @@ pub record MultiplierTheorem : Type 0 where
       → own < 100
       → multiplierOf window (mss.Present own) headers stamped version peer ≡ multiplier.Absent
 
+-- ---- the observation
+
+-- What holds of every reading; beside a refusal and "nothing" stands the empty observation, of which it holds too.
+pub record TheObservation (p : List ℕ) (peer : Mss) : Type 0 where
+  -- "The reader never gives Guess."
+  pub no-guess : (t : ℕ) → readPacket p peer .observation .ittl ≡ ttl.Guess t → ⊥
+  -- "A layout has at most 40 entries"; "two byte arrays of 40 and a count, entries past it 0"
+  pub at-most-40 : readPacket p peer .observation .olayout .count ≤ 40
+  pub kinds-past : (i : ℕ) → readPacket p peer .observation .olayout .count ≤ i → byteAt (readPacket p peer .observation .olayout .kinds) i ≡ 0
+  pub bytes-past : (i : ℕ) → readPacket p peer .observation .olayout .count ≤ i → byteAt (readPacket p peer .observation .olayout .bytes) i ≡ 0
+  -- "Seventeen bits": no other is shown
+  pub of-seventeen : SubsetByPlaces (readPacket p peer .observation .quirks) seventeen
+  -- "`OptBad` is never set, `PeerTimestampNonZero` on a SYN only."
+  pub no-opt-bad : contains (readPacket p peer .observation .quirks) quirk.OptBad ≡ false
+  pub peer-stamp
+      : contains (readPacket p peer .observation .quirks) quirk.PeerTimestampNonZero ≡ true → readPacket p peer .answer ≡ packet.Syn
+  -- "only a SYN+ACK's observation takes [the peer's MSS]; a SYN's has none", "A zero peer MSS counts as absent": and no other reading
+  -- depends on it.
+  pub syn-has-none : readPacket p peer .answer ≡ packet.Syn → readPacket p peer .observation .«peer_mss» ≡ mss.Absent
+  pub syn-ack-takes : readPacket p peer .answer ≡ packet.SynAck → readPacket p peer .observation .«peer_mss» ≡ knownPeer peer
+  pub no-other-takes : (other : Mss) → (readPacket p peer .answer ≡ packet.SynAck → ⊥) → readPacket p peer ≡ readPacket p other
+
 -- ---- the single fit
 
 -- What a search finds in one record, by its label and its fit.
@@ -102,6 +130,7 @@ pub record ShutOut : Type 0 where
 
 pub record Demand2 : Type 0 where
   pub multiplier : MultiplierTheorem
+  pub observation : (p : List ℕ) (peer : Mss) → TheObservation p peer
   pub single : SingleFit
   pub values : Values
   pub shutOut : ShutOut

@@ -26,6 +26,7 @@ use Rattle.bundle.specs.Answers.{answerAt}
 use Rattle.report.specs.Text.{lineOf}
 use Rattle.gateway.proofs.termread_answer_checked.Reads as answer-checked'
 use Rattle.gateway.proofs.termread_answer.Reads as answer'
+use Rattle.alike.specs.Options.{AlikeOptions}
 use Rattle.alike.specs.Ip.{AlikeIpv4, AlikeIpv6}
 use Rattle.alike.specs.Tcp.{AlikeTcp}
 use Rattle.alike.specs.Packets.{Alike}
@@ -46,6 +47,7 @@ pub record TheRelation : Type 0 where
   pub ipv4 : Equivalence AlikeIpv4
   pub ipv6 : Equivalence AlikeIpv6
   pub tcp : Equivalence AlikeTcp
+  pub options : Equivalence AlikeOptions
   -- "two packets of equal length"
   pub sameLength : (p q : List ℕ) → Alike p q → length p ≡ length q
   -- Not narrower: a change of one free item, or of one byte of it, gives an alike packet.

@@ -1,17 +1,21 @@
 -- "Exact, fuzzy and none stay three answers": what each of the three means, for a record and for a search (document 01, module 7
 -- and "The signature list"), and that they stay three as the numbers that a gateway gets. `Honesty` is the statement.
 use mathlib.Core.Path.{_≡_}
-use mathlib.Core.Bool.{true}
+use mathlib.Core.Bool.{true, false}
 use mathlib.Core.List.{List}
 use mathlib.Core.Logic.{_↔_}
 use Prim.Native.Nat.{ℕ, _%_, _<_}
+use Rattle.tcp.specs.declared.Mss.{Mss}
 use Rattle.quirks.specs.Quirks.{isEmpty}
 use Rattle.observable.specs.declared.TcpObservation.{TcpObservation}
+use Rattle.flow.specs.declared.Answer.the-variants as reading
+use Rattle.flow.specs.Reading.{readPacket}
 use Rattle.distances.specs.declared.TtlFit.{TtlFit}
 use Rattle.distances.specs.declared.TtlFit.the-variants as ttlfit
 use Rattle.distances.specs.Distances.{ttlFit}
 use Rattle.matching.specs.declared.Features.{Features}
 use Rattle.matching.specs.declared.FuzzyReason.{FuzzyReason}
+use Rattle.matching.specs.declared.Hops.the-variants as hops
 use Rattle.matching.specs.declared.QuirksFit.{QuirksFit}
 use Rattle.matching.specs.declared.QuirksFit.the-variants as quirksfit
 use Rattle.matching.specs.declared.Signature.{Signature}
@@ -26,11 +30,13 @@ use Rattle.siglist.specs.List.{recordCount, recordAt}
 use Rattle.found.specs.declared.Found.{Found}
 use Rattle.found.specs.declared.Found.the-variants as found
 use Rattle.search.specs.declared.SearchAnswer.the-variants as answer
-use Rattle.search.specs.Search.{fitAt, searchList}
+use Rattle.search.specs.Search.{fitAt, searchAll, searchList}
+use Rattle.packet_answer.specs.declared.PacketAnswer.{PacketAnswer}
 use Rattle.packet_answer.specs.declared.PacketAnswer.the-variants as packet
+use Rattle.packet_answer.specs.Packet.{peerOf, answerOf}
 use Rattle.gateway.specs.declared.GatewayAnswer.{GatewayAnswer}
 use Rattle.gateway.specs.declared.GatewayAnswer.the-variants as gateway
-use Rattle.gateway.specs.Code.{fieldsOf, codeOf, gatewayAnswer}
+use Rattle.gateway.specs.Code.{packetFields, fieldsOf, codeOf, gatewayAnswer}
 use Rattle.gateway.specs.Decode.{AllBytes, fieldsFrom, answerFrom}
 
 -- "Nothing tolerated": the TTL is in range, and no quirk is added or missing.
@@ -47,6 +53,33 @@ pub record FitsExactly (f : Features) (kinds bytes : List ℕ) (s : Signature) (
   pub layout : layoutMatches (f .count) kinds bytes count entries ≡ true
   pub untolerated
       : NothingTolerated (ttlFit (f .ttl) (s .ittl)) (quirksFit (f .quirks) (maskedQuirks (s .quirks) (s .version) (f .version)))
+
+-- "else fuzzy with a reason: the hop distance if out of range, the added and the missing quirks": neither is rejected, and the TTL is
+-- out of range, or a quirk is added, or one is missing.
+pub data ToleratedWith : TtlFit → QuirksFit → FuzzyReason → Type 0 where
+  out-of-range
+      : {d : ℕ} {q : Tolerated}
+      → ToleratedWith (ttlfit.OutOfRange d) (quirksfit.Tolerated q)
+      (record { hops = hops.OutOfRange d; added = q .added; missing = q .missing })
+  an-added
+      : {d : ℕ} {q : Tolerated}
+      → isEmpty (q .added) ≡ false
+      → ToleratedWith (ttlfit.InRange d) (quirksfit.Tolerated q)
+      (record { hops = hops.InRange; added = q .added; missing = q .missing })
+  a-missing
+      : {d : ℕ} {q : Tolerated}
+      → isEmpty (q .missing) ≡ false
+      → ToleratedWith (ttlfit.InRange d) (quirksfit.Tolerated q)
+      (record { hops = hops.InRange; added = q .added; missing = q .missing })
+
+-- The seven gates hold, and something is tolerated, for this reason.
+pub record FitsFuzzily (f : Features) (kinds bytes : List ℕ) (s : Signature) (count : ℕ) (entries : List ℕ) (reason : FuzzyReason)
+    : Type 0
+  where
+    pub gates : scalarGates f s ≡ true
+    pub layout : layoutMatches (f .count) kinds bytes count entries ≡ true
+    pub tolerated
+        : ToleratedWith (ttlFit (f .ttl) (s .ittl)) (quirksFit (f .quirks) (maskedQuirks (s .quirks) (s .version) (f .version))) reason
 
 -- How record i of a list fits an observation; what is not a well-formed record of the list fits nothing.
 abbrev pub fitOfRecord : TcpObservation → List ℕ → ℕ → SignatureFit
@@ -87,17 +120,40 @@ outcomeOf (gateway.Packet (packet.Refused r)) = 5
 outcomeOf gateway.ListDoesNotFit = 5
 outcomeOf (gateway.BadRecord i) = 5
 
--- The number that a gateway gets for a packet, the peer's MSS and a list.
+-- The number that a gateway gets for a packet, the peer's MSS and a list (`termread_answer`).
 abbrev pub codeAt : List ℕ → ℕ → List ℕ → ℕ
 codeAt p peer l = codeOf (fieldsOf (gatewayAnswer p peer l))
+
+-- The answer that a gateway gets which checked its list once, and its number (`termread_answer_checked`).
+abbrev pub checkedAnswer : List ℕ → ℕ → List ℕ → PacketAnswer
+checkedAnswer p peer l = answerOf p (peerOf peer) l
+
+abbrev pub checkedCode : List ℕ → ℕ → List ℕ → ℕ
+checkedCode p peer l = codeOf (packetFields (checkedAnswer p peer l))
 
 pub record Honesty : Type 0 where
   -- "Nothing tolerated is exact, else fuzzy": exact exactly when the gates hold and nothing is tolerated.
   pub exact
       : (f : Features) (kinds bytes : List ℕ) (s : Signature) (count : ℕ) (entries : List ℕ)
       → (fitOf f kinds bytes s count entries ≡ fit.Exact) ↔ FitsExactly f kinds bytes s count entries
+  -- Fuzzy with a reason exactly when the gates hold, neither the TTL nor the quirks are rejected, and something is tolerated; the reason
+  -- is then what was.
+  pub fuzzy
+      : (f : Features) (kinds bytes : List ℕ) (s : Signature) (count : ℕ) (entries : List ℕ) (reason : FuzzyReason)
+      → (fitOf f kinds bytes s count entries ≡ fit.Fuzzy reason) ↔ FitsFuzzily f kinds bytes s count entries reason
   -- What a search finds is one of the three outcomes.
   pub search : (o : TcpObservation) (l : List ℕ) (x : Found) → searchList o l ≡ answer.Found x → Outcome o l x
+  -- What the program and the gateway answer of a SYN or SYN+ACK is the search for its observation, and is one of the three outcomes
+  -- on any list, checked or not.
+  pub answered : (o : TcpObservation) (l : List ℕ) → Outcome o l (searchAll o l)
+  pub syn-answer
+      : (p : List ℕ) (peer : Mss) (l : List ℕ)
+      → readPacket p peer .answer ≡ reading.Syn
+      → answerOf p peer l ≡ packet.Syn (searchAll (readPacket p peer .observation) l)
+  pub syn-ack-answer
+      : (p : List ℕ) (peer : Mss) (l : List ℕ)
+      → readPacket p peer .answer ≡ reading.SynAck
+      → answerOf p peer l ≡ packet.SynAck (searchAll (readPacket p peer .observation) l)
   -- No two of the three answers are one.
   pub exact-not-fuzzy : (a b : ℕ) (r : FuzzyReason) → found.Exact a ≡ found.Fuzzy b r → ⊥
   pub exact-not-none : (a : ℕ) → found.Exact a ≡ found.Nothing → ⊥
@@ -123,3 +179,22 @@ pub record Honesty : Type 0 where
       → AllBytes p
       → AllBytes l
       → codeAt p peer l % 256 ≡ outcomeOf (gatewayAnswer p peer l)
+  -- The same three of the function that gateways are told to call, on any byte strings, also where the list was not checked.
+  pub checked-read-back
+      : (p : List ℕ) (peer : ℕ) (l : List ℕ)
+      → AllBytes p
+      → AllBytes l
+      → answerFrom (fieldsFrom (checkedCode p peer l)) ≡ gateway.Packet (checkedAnswer p peer l)
+  pub checked-codes-differ
+      : (p q : List ℕ) (m n : ℕ) (l k : List ℕ)
+      → AllBytes p
+      → AllBytes q
+      → AllBytes l
+      → AllBytes k
+      → checkedCode p m l ≡ checkedCode q n k
+      → checkedAnswer p m l ≡ checkedAnswer q n k
+  pub checked-lowest-byte
+      : (p : List ℕ) (peer : ℕ) (l : List ℕ)
+      → AllBytes p
+      → AllBytes l
+      → checkedCode p peer l % 256 ≡ outcomeOf (gateway.Packet (checkedAnswer p peer l))

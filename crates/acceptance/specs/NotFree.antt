@@ -37,6 +37,14 @@ overIpv6 =
     ∷ 0 ∷ 1 ∷ 0 ∷ 2 ∷ 0 ∷ 0 ∷ 0 ∷ 1 ∷ 0 ∷ 0 ∷ 0 ∷ 0 ∷ 0x60 ∷ 2 ∷ 0x16 ∷ 0xd0 ∷ 0 ∷ 0 ∷ 0 ∷ 0
     ∷ 2 ∷ 4 ∷ 5 ∷ 0xb4 ∷ []
 
+-- Packet A and its twin over IPv6 with a length of 0, so that the length's high byte alone tells whether there is a TCP part: with 1
+-- there the length is 256, which is clipped to the packet.
+abbrev pub noLength : List ℕ
+noLength = set packetA 3 0
+
+abbrev pub noLengthIpv6 : List ℕ
+noLengthIpv6 = set overIpv6 5 0
+
 -- One byte of packet A turned, and read apart.
 abbrev pub Turned : ℕ → ℕ → Type 0
 Turned i v = ReadApart packetA (set packetA i v)
@@ -51,11 +59,13 @@ pub record NotFree : Type 0 where
   -- a timestamp half that turns zero, and one that turns nonzero
   pub ownStamp : ReadApart stamped (set stamped 47 0)
   pub peerStamp : ReadApart stamped (set stamped 51 1)
-  -- the other fields of packet A, byte by byte: header length, type of service, total length
+  -- the other fields of packet A, byte by byte: version, header length, type of service, total length
+  pub version : Turned 0 0x65
   pub ihl : Turned 0 0x46
   pub serviceHigh : Turned 1 4
   pub serviceLow : Turned 1 1
   pub totalLength : Turned 3 0x2b
+  pub totalLengthHigh : ReadApart noLength (set noLength 2 1)
   -- identification turned nonzero; flags; fragment offset; TTL; protocol
   pub identification : Turned 5 1
   pub flags : Turned 6 0
@@ -76,8 +86,10 @@ pub record NotFree : Type 0 where
   pub optionHigh : Turned 42 4
   pub optionLow : Turned 43 0xb5
   -- IPv6: traffic class, flow label turned nonzero, payload length, next header, hop limit
+  pub trafficClassHigh : ReadApart overIpv6 (set overIpv6 0 0x61)
   pub trafficClass : ReadApart overIpv6 (set overIpv6 1 0x10)
   pub flowLabel : ReadApart overIpv6 (set overIpv6 3 1)
   pub payloadLength : ReadApart overIpv6 (set overIpv6 5 19)
+  pub payloadLengthHigh : ReadApart noLengthIpv6 (set noLengthIpv6 4 1)
   pub nextHeader : ReadApart overIpv6 (set overIpv6 6 17)
   pub hopLimit : ReadApart overIpv6 (set overIpv6 7 0x41)

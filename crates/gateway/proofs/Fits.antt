@@ -90,8 +90,8 @@ judged-fits reading.SynAck r l h fits = found-fits l h r
 judged-fits reading.Nothing r l h fits = tt
 judged-fits (reading.Refused x) r l h fits = fits
 
--- The answer of a packet against a list.
-packet-fits : (p : List ℕ) (peer : Mss) (l : List ℕ) → AllBytes p → AllBytes l → PacketFits (answerOf p peer l)
+-- The answer of a packet against a list, checked or not.
+pub packet-fits : (p : List ℕ) (peer : Mss) (l : List ℕ) → AllBytes p → AllBytes l → PacketFits (answerOf p peer l)
 unfolding answerOf
 packet-fits p peer l hp hl = judged-fits (readPacket p peer .answer) (readPacket p peer) l hl (reading-fits p peer hp)
 

@@ -14,7 +14,7 @@ use Rattle.quirks.specs.Quirks.{placeOf, bitOf, setOf, bitsOf, holds, co
 use Rattle.quirks.specs.Named.{fromQuirks, displayOrder, empty, seventeen}
 use Rattle.quirks.proofs.Laws.{contains-with-other}
 
-pub Within : QuirkSet → Type 0
+unfoldable pub Within : QuirkSet → Type 0
 Within s = SubsetByPlaces s seventeen
 
 -- Within the seventeen, and without OptBad.
