@@ -41,11 +41,12 @@ use Rattle.bundle.specs.Bundle.{peerOf}
 use Rattle.bundle.specs.Answers.{answerOf}
 use Rattle.gateway.specs.declared.GatewayAnswer.{GatewayAnswer}
 use Rattle.gateway.specs.declared.GatewayAnswer.the-variants as gateway
-use Rattle.gateway.specs.Code.{foundFields, packetFields, fieldsOf, codeOf, gatewayAnswer}
+use Rattle.gateway.specs.Code.{foundFields, packetFields, fieldsOf, gatewayAnswer}
 use Rattle.gateway.specs.Decode.{AllBytes, fieldsFrom, answerFrom, PacketFits}
 use Rattle.gateway.proofs.ReadBack as back
 use Rattle.gateway.proofs.Fits.{packet-fits, answers-fit, codes-differ}
 use Rattle.acceptance.specs.Honesty.{NothingTolerated, FitsExactly, ToleratedWith, FitsFuzzily, fitOfRecord, Outcome, whichOf, outcomeOf, checkedAnswer, checkedCode, Honesty}
+use Rattle.acceptance.proofs.Fails.{and-false}
 
 -- ---- one record
 
@@ -86,10 +87,6 @@ fuzzy-tolerated (ttlfit.OutOfRange d) quirksfit.Rejected r e = let z : _≡_ {A 
 fuzzy-tolerated (ttlfit.OutOfRange d) (quirksfit.Tolerated q) r e =
     let same : record { hops = hops.OutOfRange d; added = q .added; missing = q .missing } ≡ r = cc in
     rw (← same) ToleratedWith.out-of-range
-
-and-false : (a : Bool) → a && false ≡ false
-and-false true = refl
-and-false false = refl
 
 tolerated-fuzzy : {t : TtlFit} {q : QuirksFit} {r : FuzzyReason} → ToleratedWith t q r → judge t q ≡ fit.Fuzzy r
 unfolding judge judgeInRange

@@ -1,8 +1,10 @@
 pub mod Acceptance
+pub mod BadRecord
 pub mod BundleRefusals
 pub mod Demand1
 pub mod Demand2
 pub mod Demand3
+pub mod Fails
 pub mod First
 pub mod Honesty
 pub mod NotFree
