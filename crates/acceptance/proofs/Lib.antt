@@ -6,6 +6,7 @@ pub mod Demand2
 pub mod Demand3
 pub mod Fails
 pub mod First
+pub mod Fit
 pub mod Honesty
 pub mod NotFree
 pub mod Observation
