@@ -1,31 +1,17 @@
 -- The three answers stay three: what each means.
 use mathlib.Core.Path.{_≡_, refl, sym, _∙_, ap}
-use mathlib.Core.Bool.{Bool, true, false, cond, _&&_}
+use mathlib.Core.Bool.{Bool, true, false, cond}
 use mathlib.Core.List.{List}
 use Prim.Native.Nat.{ℕ, zero, suc, _+_, _%_, _<_}
 use native.Mathlib.Omega.{arith}
 use lib.Dec.{ltb}
 use lib.ListN.{length, getD}
-use Rattle.basis.proofs.Tests.{and-left, and-right}
 use Rattle.tcp.specs.declared.Mss.{Mss}
 use Rattle.observable.specs.declared.TcpObservation.{TcpObservation}
+use Rattle.ip.specs.declared.Refusal.{Refusal}
 use Rattle.flow.specs.declared.Answer.the-variants as reading
 use Rattle.flow.specs.Reading.{readPacket}
-use Rattle.quirks.specs.Quirks.{isEmpty}
-use Rattle.distances.specs.declared.TtlFit.{TtlFit}
-use Rattle.distances.specs.declared.TtlFit.the-variants as ttlfit
-use Rattle.matching.specs.declared.Features.{Features}
-use Rattle.matching.specs.declared.FuzzyReason.{FuzzyReason}
-use Rattle.matching.specs.declared.Hops.the-variants as hops
-use Rattle.matching.specs.declared.QuirksFit.{QuirksFit}
-use Rattle.matching.specs.declared.QuirksFit.the-variants as quirksfit
-use Rattle.matching.specs.declared.Signature.{Signature}
-use Rattle.matching.specs.declared.SignatureFit.the-variants as fit
-use Rattle.matching.specs.declared.Tolerated.{Tolerated}
-use Rattle.matching.specs.Gates.{layoutMatches}
-use Rattle.matching.specs.Tolerance.{judgeInRange, judge}
-use Rattle.matching.specs.Fit.{featuresOf, scalarGates, toleranceOf, fitOf}
-use Rattle.matching.proofs.Laws.{Untolerated, exact-untolerated, untolerated-exact}
+use Rattle.matching.specs.Fit.{featuresOf}
 use Rattle.siglist.specs.declared.ListAnswer.{ListAnswer}
 use Rattle.siglist.specs.declared.ListAnswer.the-variants as list
 use Rattle.siglist.specs.List.{recordCount, checkList}
@@ -40,106 +26,12 @@ use Rattle.packet_answer.specs.declared.PacketAnswer.the-variants as packet
 use Rattle.packet_answer.specs.Packet.{peerOf, answerOf}
 use Rattle.gateway.specs.declared.GatewayAnswer.{GatewayAnswer}
 use Rattle.gateway.specs.declared.GatewayAnswer.the-variants as gateway
-use Rattle.gateway.specs.Code.{foundFields, packetFields, fieldsOf, codeOf, gatewayAnswer}
+use Rattle.gateway.specs.Code.{foundFields, packetFields, fieldsOf, gatewayAnswer}
 use Rattle.gateway.specs.Decode.{AllBytes, fieldsFrom, answerFrom, PacketFits}
 use Rattle.gateway.proofs.ReadBack as back
 use Rattle.gateway.proofs.Fits.{packet-fits, answers-fit, codes-differ}
-use Rattle.acceptance.specs.Honesty.{NothingTolerated, FitsExactly, ToleratedWith, FitsFuzzily, fitOfRecord, Outcome, whichOf, outcomeOf, checkedAnswer, checkedCode, Honesty}
-
--- ---- one record
-
-as-nothing : {t : TtlFit} {q : QuirksFit} → Untolerated t q → NothingTolerated t q
-as-nothing (Untolerated.nothing-tolerated a m) = NothingTolerated.nothing-tolerated a m
-
-as-untolerated : {t : TtlFit} {q : QuirksFit} → NothingTolerated t q → Untolerated t q
-as-untolerated (NothingTolerated.nothing-tolerated a m) = Untolerated.nothing-tolerated a m
-
--- What is fuzzy with the TTL in range has a quirk added or missing.
-in-range-fuzzy
-    : (d : ℕ) (q : Tolerated) (r : FuzzyReason)
-    → judgeInRange q ≡ fit.Fuzzy r
-    → ToleratedWith (ttlfit.InRange d) (quirksfit.Tolerated q) r
-unfolding judgeInRange
-in-range-fuzzy d q r = by-tests (isEmpty (q .added)) (isEmpty (q .missing)) refl refl
-  where
-    by-tests
-        : (a m : Bool)
-        → isEmpty (q .added) ≡ a
-        → isEmpty (q .missing) ≡ m
-        → cond (a && m) fit.Exact (fit.Fuzzy (record { hops = hops.InRange; added = q .added; missing = q .missing })) ≡ fit.Fuzzy r
-        → ToleratedWith (ttlfit.InRange d) (quirksfit.Tolerated q) r
-    by-tests true true ea em e = let z : _≡_ {A = ℕ} 0 1 = cc in absurd (omega arith)
-    by-tests true false ea em e =
-        let same : record { hops = hops.InRange; added = q .added; missing = q .missing } ≡ r = cc in
-        rw (← same) (ToleratedWith.a-missing em)
-    by-tests false m ea em e =
-        let same : record { hops = hops.InRange; added = q .added; missing = q .missing } ≡ r = cc in
-        rw (← same) (ToleratedWith.an-added ea)
-
-fuzzy-tolerated : (t : TtlFit) (q : QuirksFit) (r : FuzzyReason) → judge t q ≡ fit.Fuzzy r → ToleratedWith t q r
-unfolding judge
-fuzzy-tolerated ttlfit.Rejected q r e = let z : _≡_ {A = ℕ} 0 1 = cc in absurd (omega arith)
-fuzzy-tolerated (ttlfit.InRange d) quirksfit.Rejected r e = let z : _≡_ {A = ℕ} 0 1 = cc in absurd (omega arith)
-fuzzy-tolerated (ttlfit.InRange d) (quirksfit.Tolerated q) r e = in-range-fuzzy d q r e
-fuzzy-tolerated (ttlfit.OutOfRange d) quirksfit.Rejected r e = let z : _≡_ {A = ℕ} 0 1 = cc in absurd (omega arith)
-fuzzy-tolerated (ttlfit.OutOfRange d) (quirksfit.Tolerated q) r e =
-    let same : record { hops = hops.OutOfRange d; added = q .added; missing = q .missing } ≡ r = cc in
-    rw (← same) ToleratedWith.out-of-range
-
-and-false : (a : Bool) → a && false ≡ false
-and-false true = refl
-and-false false = refl
-
-tolerated-fuzzy : {t : TtlFit} {q : QuirksFit} {r : FuzzyReason} → ToleratedWith t q r → judge t q ≡ fit.Fuzzy r
-unfolding judge judgeInRange
-tolerated-fuzzy ToleratedWith.out-of-range = refl
-tolerated-fuzzy (ToleratedWith.an-added a) = rw a
-tolerated-fuzzy (ToleratedWith.a-missing m) = rw (m, and-false)
-
-module _ (f : Features) (kinds bytes : List ℕ) (s : Signature) (count : ℕ) (entries : List ℕ) where
-  exact-to : fitOf f kinds bytes s count entries ≡ fit.Exact → FitsExactly f kinds bytes s count entries
-  unfolding fitOf toleranceOf
-  exact-to = by-gates (scalarGates f s && layoutMatches (f .count) kinds bytes count entries) refl
-    where
-      by-gates
-          : (t : Bool)
-          → scalarGates f s && layoutMatches (f .count) kinds bytes count entries ≡ t
-          → cond t (toleranceOf f s) fit.Nothing ≡ fit.Exact
-          → FitsExactly f kinds bytes s count entries
-      by-gates true gates e =
-          record {
-            gates = and-left (scalarGates f s) (layoutMatches (f .count) kinds bytes count entries) gates;
-            layout = and-right (scalarGates f s) (layoutMatches (f .count) kinds bytes count entries) gates;
-            untolerated = as-nothing (exact-untolerated _ _ e);
-          }
-      by-gates false gates e = let z : _≡_ {A = ℕ} 0 1 = cc in absurd (omega arith)
-
-  exact-from : FitsExactly f kinds bytes s count entries → fitOf f kinds bytes s count entries ≡ fit.Exact
-  unfolding fitOf toleranceOf
-  exact-from x = rw (x .gates, x .layout) (untolerated-exact (as-untolerated (x .untolerated)))
-
-  fuzzy-to
-      : (r : FuzzyReason) → fitOf f kinds bytes s count entries ≡ fit.Fuzzy r → FitsFuzzily f kinds bytes s count entries r
-  unfolding fitOf toleranceOf
-  fuzzy-to r = by-gates (scalarGates f s && layoutMatches (f .count) kinds bytes count entries) refl
-    where
-      by-gates
-          : (t : Bool)
-          → scalarGates f s && layoutMatches (f .count) kinds bytes count entries ≡ t
-          → cond t (toleranceOf f s) fit.Nothing ≡ fit.Fuzzy r
-          → FitsFuzzily f kinds bytes s count entries r
-      by-gates true gates e =
-          record {
-            gates = and-left (scalarGates f s) (layoutMatches (f .count) kinds bytes count entries) gates;
-            layout = and-right (scalarGates f s) (layoutMatches (f .count) kinds bytes count entries) gates;
-            tolerated = fuzzy-tolerated _ _ r e;
-          }
-      by-gates false gates e = let z : _≡_ {A = ℕ} 0 1 = cc in absurd (omega arith)
-
-  fuzzy-from
-      : (r : FuzzyReason) → FitsFuzzily f kinds bytes s count entries r → fitOf f kinds bytes s count entries ≡ fit.Fuzzy r
-  unfolding fitOf toleranceOf
-  fuzzy-from r x = rw (x .gates, x .layout) (tolerated-fuzzy (x .tolerated))
+use Rattle.acceptance.specs.Honesty.{fitOfRecord, Outcome, whichOf, outcomeOf, checkedAnswer, checkedCode, Honesty}
+use Rattle.acceptance.proofs.Fit.{exact-to, exact-from, fuzzy-to, fuzzy-from}
 
 -- ---- a search
 
@@ -220,6 +112,14 @@ module _ (p : List ℕ) (peer : Mss) (l : List ℕ) where
   unfolding answerOf
   syn-ack-answer e = rw e
 
+  nothing-answer : readPacket p peer .answer ≡ reading.Nothing → answerOf p peer l ≡ packet.Nothing
+  unfolding answerOf
+  nothing-answer e = rw e
+
+  refused-answer : (r : Refusal) → readPacket p peer .answer ≡ reading.Refused r → answerOf p peer l ≡ packet.Refused r
+  unfolding answerOf
+  refused-answer r e = rw e
+
 -- ---- the number that a gateway gets
 
 -- The outcome among a search's fields is which of the three it is.
@@ -281,6 +181,8 @@ honesty =
       answered = found-outcome;
       syn-answer = syn-answer;
       syn-ack-answer = syn-ack-answer;
+      nothing-answer = nothing-answer;
+      refused-answer = refused-answer;
       exact-not-fuzzy = λ a b r e. let z : _≡_ {A = ℕ} 0 1 = cc in omega arith;
       exact-not-none = λ a e. let z : _≡_ {A = ℕ} 0 1 = cc in omega arith;
       fuzzy-not-none = λ a r e. let z : _≡_ {A = ℕ} 0 1 = cc in omega arith;

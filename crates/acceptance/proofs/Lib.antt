@@ -1,9 +1,12 @@
 pub mod Acceptance
+pub mod BadRecord
 pub mod BundleRefusals
 pub mod Demand1
 pub mod Demand2
 pub mod Demand3
+pub mod Fails
 pub mod First
+pub mod Fit
 pub mod Honesty
 pub mod NotFree
 pub mod Observation

@@ -1,12 +1,12 @@
 -- What holds of every reading: its layout and its quirks by flow's laws; the TTL, the peer's timestamp and the peer's MSS, stage by stage.
 use mathlib.Core.Path.{_≡_, refl, sym, _∙_, ap}
-use mathlib.Core.Bool.{Bool, true, false, cond, not, _&&_, _||_, false≢true, true≢false}
+use mathlib.Core.Bool.{Bool, true, false, cond, not, _&&_, _||_, false≢true}
 use mathlib.Core.List.{List, [], _∷_}
 use Prim.Native.Nat.{ℕ}
 use native.Mathlib.Omega.{arith}
 use lib.Dec.{eqb, leb, ltb}
 use lib.ListN.{length, take}
-use Rattle.basis.specs.Bytes.{part, be32}
+use Rattle.basis.specs.Bytes.{part}
 use Rattle.basis.specs.Digits.{digit}
 use Rattle.rfc.specs.Rfc791 as v4
 use Rattle.rfc.specs.Rfc8200 as v6

@@ -1,6 +1,6 @@
 -- The refusals of option strings, lists and searches, and all of them together with those of packets and bundles.
-use mathlib.Core.Path.{_≡_, refl, sym, _∙_, ap}
-use mathlib.Core.Bool.{Bool, true, false, cond, _&&_, true≢false, false≢true}
+use mathlib.Core.Path.{_≡_, refl, ap}
+use mathlib.Core.Bool.{Bool, true, false, cond, _&&_, false≢true}
 use mathlib.Core.List.{List, [], _∷_}
 use mathlib.Core.Logic.{_↔_}
 use Prim.Native.Nat.{ℕ, _+_, _*_}
@@ -24,7 +24,9 @@ use Rattle.search.specs.Search.{afterCheck, searchList, searchRefusal}
 use Rattle.search.proofs.Refusals.{search-order}
 use Rattle.acceptance.specs.Refusals.{First, OptionsRow, FirstBad, ListRow, SearchRow, Refusals}
 use Rattle.bundle.specs.Bundle.{listOf}
+use Rattle.acceptance.proofs.BadRecord.{bad-of, good-not-bad, record-bad}
 use Rattle.acceptance.proofs.BundleRefusals.{bundle-row, bad-of-list, none-beside, answered}
+use Rattle.acceptance.proofs.Fails.{and-false}
 use Rattle.acceptance.proofs.First.{by-test, exactly}
 use Rattle.acceptance.proofs.PacketGives.{packet-gives, packet-answers}
 use Rattle.acceptance.proofs.PacketRefusals.{packet-first}
@@ -76,10 +78,6 @@ module _ (l : List ℕ) where
       by-tests true false eh er e = ListRow.records (leb-false (recordsOffset l + 24 * recordCount l) (length l) er)
       by-tests true true eh er e = ListRow.entries (leb-false (layoutOffset l + 2 * layoutCount l) (length l) e)
 
-  and-false : (a : Bool) → a && false ≡ false
-  and-false true = refl
-  and-false false = refl
-
   fits : listFits l ≡ true → ListRow l 9 → ⊥
   unfolding listFits
   fits e (ListRow.header h) = false≢true (rw (lt-leb 8 (length l) h) at e)
@@ -92,8 +90,8 @@ module _ (l : List ℕ) where
   records-first (Checked.all-good good) = First.later no-bad First.none
     where
       no-bad : ListRow l 10 → ⊥
-      no-bad (ListRow.bad-record i h bad) = true≢false (sym (good i (omega arith) (omega arith)) ∙ bad)
-  records-first (Checked.first-bad k h j bad before) = First.here (ListRow.bad-record k (omega arith) bad)
+      no-bad (ListRow.bad-record i h bad) = good-not-bad l i (good i (omega arith) (omega arith)) bad
+  records-first (Checked.first-bad k h j bad before) = First.here (ListRow.bad-record k (omega arith) (bad-of l k bad))
 
   list-row : First (ListRow l) (9 ∷ 10 ∷ []) (listRefusal (checkList l))
   unfolding listRefusal
@@ -108,7 +106,8 @@ module _ (l : List ℕ) where
   named-bad i (Checked.all-good good) e = let z : _≡_ {A = ℕ} 0 1 = cc in absurd (omega arith)
   named-bad i (Checked.first-bad k h j bad before) e =
       let same : k ≡ i = cc in
-      rw (← same) (record { within = omega arith; bad = bad; before = λ m b. before m (omega arith) b })
+      rw (← same)
+      (record { within = omega arith; bad = bad-of l k bad; before = λ m b. good-not-bad l m (before m (omega arith) b) })
 
   list-gives : (i : ℕ) → checkList l ≡ listAnswer.BadRecord i → FirstBad l i
   list-gives i e = by-fit (listFits l) refl
@@ -169,6 +168,7 @@ refusals =
       packet-answers = packet-answers;
       options = options-first;
       options-give = options-give;
+      record-bad = record-bad;
       list = λ l. exactly (list-row l);
       list-gives = list-gives;
       search = λ o l. exactly (search-row o l);

@@ -1,5 +1,5 @@
--- "Exact, fuzzy and none stay three answers": what each of the three means, for a record and for a search (document 01, module 7
--- and "The signature list"), and that they stay three as the numbers that a gateway gets. `Honesty` is the statement.
+-- "Exact, fuzzy and none stay three answers": what each of the three means, for a record, for a search and for a packet (document 01,
+-- module 7 and "The signature list"), and that they stay three as the numbers that a gateway gets. `Honesty` is the statement.
 use mathlib.Core.Path.{_≡_}
 use mathlib.Core.Bool.{true, false}
 use mathlib.Core.List.{List}
@@ -8,6 +8,7 @@ use Prim.Native.Nat.{ℕ, _%_, _<_}
 use Rattle.tcp.specs.declared.Mss.{Mss}
 use Rattle.quirks.specs.Quirks.{isEmpty}
 use Rattle.observable.specs.declared.TcpObservation.{TcpObservation}
+use Rattle.ip.specs.declared.Refusal.{Refusal}
 use Rattle.flow.specs.declared.Answer.the-variants as reading
 use Rattle.flow.specs.Reading.{readPacket}
 use Rattle.distances.specs.declared.TtlFit.{TtlFit}
@@ -154,6 +155,13 @@ pub record Honesty : Type 0 where
       : (p : List ℕ) (peer : Mss) (l : List ℕ)
       → readPacket p peer .answer ≡ reading.SynAck
       → answerOf p peer l ≡ packet.SynAck (searchAll (readPacket p peer .observation) l)
+  -- "nothing" and a refusal stay what they are.
+  pub nothing-answer
+      : (p : List ℕ) (peer : Mss) (l : List ℕ) → readPacket p peer .answer ≡ reading.Nothing → answerOf p peer l ≡ packet.Nothing
+  pub refused-answer
+      : (p : List ℕ) (peer : Mss) (l : List ℕ) (r : Refusal)
+      → readPacket p peer .answer ≡ reading.Refused r
+      → answerOf p peer l ≡ packet.Refused r
   -- No two of the three answers are one.
   pub exact-not-fuzzy : (a b : ℕ) (r : FuzzyReason) → found.Exact a ≡ found.Fuzzy b r → ⊥
   pub exact-not-none : (a : ℕ) → found.Exact a ≡ found.Nothing → ⊥

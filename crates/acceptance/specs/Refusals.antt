@@ -1,17 +1,18 @@
 -- Document 01, "Refusal numbers, in order of test": each number with what its row says, the order in which a packet, an option
 -- string, a list, a search and a bundle are tested, and what a refusal gives. `Refusals` is the statement.
 use mathlib.Core.Path.{_≡_}
-use mathlib.Core.Bool.{false, true}
+use mathlib.Core.Bool.{true, false}
 use mathlib.Core.List.{List, [], _∷_}
 use mathlib.Core.Logic.{_↔_}
 use Prim.Native.Nat.{ℕ, _+_, _*_, _<_}
 use lib.ListN.{length}
-use Rattle.basis.specs.Bytes.{part}
+use Rattle.basis.specs.Bytes.{byteAt, be16, be32, part}
 use Rattle.rfc.specs.Rfc791 as v4
 use Rattle.rfc.specs.Rfc8200 as v6
 use Rattle.rfc.specs.Rfc9293 as tcp
 use Rattle.tcp.specs.declared.Mss.{Mss}
-use Rattle.quirks.specs.Named.{empty}
+use Rattle.quirks.specs.Quirks.{setOf, holds}
+use Rattle.quirks.specs.Named.{empty, seventeen}
 use Rattle.observable.specs.declared.TcpObservation.{TcpObservation}
 use Rattle.observable.specs.Observation.{emptyObservation}
 use Rattle.syn_options.specs.declared.OptionsAnswer.the-variants as optionsAnswer
@@ -25,7 +26,8 @@ use Rattle.flow.specs.Flags.{maskedType}
 use Rattle.flow.specs.Reading.{readPacket}
 use Rattle.flow.specs.Refusals.{refusalOf}
 use Rattle.siglist.specs.declared.ListAnswer.the-variants as listAnswer
-use Rattle.siglist.specs.List.{recordCount, recordsOffset, layoutCount, layoutOffset, recordGood, checkList, listRefusal}
+use Rattle.siglist.specs.Record.{firstEntry, entryCount}
+use Rattle.siglist.specs.List.{recordCount, recordsOffset, layoutCount, layoutOffset, recordAt, entriesOf, recordGood, checkList, listRefusal}
 use Rattle.search.specs.declared.SearchAnswer.the-variants as searchAnswer
 use Rattle.search.specs.Search.{searchList, searchRefusal}
 use Rattle.bundle.specs.declared.BundleCheck.the-variants as bundleCheck
@@ -118,11 +120,45 @@ pub data OptionsRow (s : List ℕ) : ℕ → Type 0 where
 
 -- ---- a list and a search
 
+-- A record, as its 24 bytes, of a list of so many layout entries, with the entries of its layout.
+pub data Bad (r : List ℕ) (entries : ℕ) (layout : List ℕ) : Type 0 where
+  -- "a code is not listed": version (0, 4, 6), TTL form (0 to 3), window form (0 to 4), payload (0 to 2)
+  version-code : (byteAt r 0 ≡ 0 → ⊥) → (byteAt r 0 ≡ 4 → ⊥) → (byteAt r 0 ≡ 6 → ⊥) → Bad r entries layout
+  ttl-form : 3 < byteAt r 1 → Bad r entries layout
+  window-form : 4 < byteAt r 8 → Bad r entries layout
+  payload-code : 2 < byteAt r 13 → Bad r entries layout
+  -- "a presence byte is not 0 or 1"
+  mss-present : 1 < byteAt r 5 → Bad r entries layout
+  scale-present : 1 < byteAt r 11 → Bad r entries layout
+  -- "byte 21 or an absent or unused number is not 0": the MSS and the scale where absent, the distance of another form than Distance,
+  -- the number of window form any
+  byte-21 : 0 < byteAt r 21 → Bad r entries layout
+  absent-mss : byteAt r 5 ≡ 0 → 0 < be16 r 6 → Bad r entries layout
+  absent-scale : byteAt r 11 ≡ 0 → 0 < byteAt r 12 → Bad r entries layout
+  unused-distance : (byteAt r 1 ≡ 1 → ⊥) → 0 < byteAt r 3 → Bad r entries layout
+  unused-window : byteAt r 8 ≡ 0 → 0 < be16 r 9 → Bad r entries layout
+  -- "an MSS or MTU multiple exceeds 255"
+  mss-multiple : byteAt r 8 ≡ 3 → 255 < be16 r 9 → Bad r entries layout
+  mtu-multiple : byteAt r 8 ≡ 4 → 255 < be16 r 9 → Bad r entries layout
+  -- "a quirk bit is outside the seventeen"
+  quirk-bit
+      : (k : ℕ) → k < 32 → holds (setOf (be32 r 14)) k ≡ true → holds seventeen k ≡ false → Bad r entries layout
+  -- "its layout exceeds 40 entries, has first entry plus count above the entry count, or holds a bad entry": a kind other than 0 with a
+  -- byte other than 0
+  over-40 : 40 < entryCount r → Bad r entries layout
+  past-entries : entries < firstEntry r + entryCount r → Bad r entries layout
+  bad-entry
+      : (j : ℕ) → j < entryCount r → 0 < byteAt layout (2 * j) → 0 < byteAt layout (2 * j + 1) → Bad r entries layout
+
+-- "A record is bad": record i of a list.
+abbrev pub BadRecord : List ℕ → ℕ → Type 0
+BadRecord l i = Bad (recordAt l i) (layoutCount l) (entriesOf l (recordAt l i))
+
 -- The first bad record of a list, by its index from 0.
 pub record FirstBad (l : List ℕ) (i : ℕ) : Type 0 where
   pub within : i < recordCount l
-  pub bad : recordGood l i ≡ false
-  pub before : (j : ℕ) → j < i → recordGood l j ≡ true
+  pub bad : BadRecord l i
+  pub before : (j : ℕ) → j < i → BadRecord l j → ⊥
 
 pub data ListRow (l : List ℕ) : ℕ → Type 0 where
   -- 9: "list header or its areas do not fit"
@@ -130,7 +166,7 @@ pub data ListRow (l : List ℕ) : ℕ → Type 0 where
   records : length l < recordsOffset l + 24 * recordCount l → ListRow l 9
   entries : length l < layoutOffset l + 2 * layoutCount l → ListRow l 9
   -- 10: "a list record is bad"
-  bad-record : (i : ℕ) → i < recordCount l → recordGood l i ≡ false → ListRow l 10
+  bad-record : (i : ℕ) → i < recordCount l → BadRecord l i → ListRow l 10
 
 pub data SearchRow (o : TcpObservation) (l : List ℕ) : ℕ → Type 0 where
   of-list : {n : ℕ} → ListRow l n → SearchRow o l n
@@ -164,6 +200,8 @@ pub record Refusals : Type 0 where
       : (s : List ℕ)
       → parseOptionsRaw s .answer ≡ optionsAnswer.Refused
       → parseOptionsRaw s ≡ record { answer = optionsAnswer.Refused; options = parsedOf (startWalk empty) }
+  -- the test of a record that the check and the fit use
+  pub record-bad : (l : List ℕ) (i : ℕ) → (recordGood l i ≡ false) ↔ BadRecord l i
   -- a list 9, then 10, with the index of the first bad record
   pub list : (l : List ℕ) (n : ℕ) → (listRefusal (checkList l) ≡ n) ↔ First (ListRow l) (9 ∷ 10 ∷ []) n
   pub list-gives : (l : List ℕ) (i : ℕ) → checkList l ≡ listAnswer.BadRecord i → FirstBad l i
