@@ -1,8 +1,7 @@
 -- The refusals of bundles.
-use mathlib.Core.Path.{_≡_, refl, sym, _∙_, ap}
-use mathlib.Core.Bool.{Bool, true, false, cond, not}
+use mathlib.Core.Path.{_≡_, refl, ap}
+use mathlib.Core.Bool.{Bool, true, false, cond}
 use mathlib.Core.List.{List, [], _∷_}
-use mathlib.Core.Logic.{_↔_}
 use Prim.Native.Nat.{ℕ, _<_}
 use native.Mathlib.Omega.{arith}
 use lib.ListN.{length}
@@ -11,12 +10,11 @@ use Rattle.siglist.specs.declared.ListAnswer.the-variants as listAnswer
 use Rattle.siglist.specs.List.{checkList, listRefusal}
 use Rattle.bundle.specs.declared.BundleCheck.{BundleCheck}
 use Rattle.bundle.specs.declared.BundleCheck.the-variants as bundleCheck
-use Rattle.bundle.specs.Bundle.{packetCount, packetsOffset, listOf, packetEnd, bundleFits, ofList, checkBundle, bundleRefusal}
-use Rattle.bundle.specs.Answers.{BundleAnswer, afterCheck, startOf, bundleAnswer}
+use Rattle.bundle.specs.Bundle.{packetCount, listOf, bundleFits, ofList, checkBundle, bundleRefusal}
+use Rattle.bundle.specs.Answers.{afterCheck, bundleAnswer}
 use Rattle.bundle.proofs.Packets.{good-fits}
-use Rattle.bundle.proofs.Refusals.{Past, Unfit, unfit, fit-not-unfit, bundle-order, all-answered}
-use Rattle.acceptance.specs.Refusals.{First, FirstBad, ListRow, BundleRow}
-use Rattle.acceptance.proofs.First.{by-test}
+use Rattle.bundle.proofs.Refusals.{Unfit, unfit, fit-not-unfit, bundle-order, all-answered}
+use Rattle.acceptance.specs.Refusals.{First, ListRow, BundleRow}
 
 module _ (b : List ℕ) where
   as-row : Unfit b → BundleRow b 12

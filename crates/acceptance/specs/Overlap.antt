@@ -1,10 +1,10 @@
 -- Why demand 3 is said of packets and not of whole bundles: "areas may overlap", so that a free byte of a packet may be the list's.
 use mathlib.Core.Path.{_≡_}
-use mathlib.Core.List.{List, [], _∷_, _++_}
+use mathlib.Core.List.{List, [], _∷_}
 use Prim.Native.Nat.{ℕ}
 use lib.ListN.{set}
 use Rattle.alike.specs.Packets.{Alike}
-use Rattle.bundle.specs.Bundle.{packetBytes, bundleRefusal, checkBundle}
+use Rattle.bundle.specs.Bundle.{packetBytes}
 use Rattle.report.specs.Pages.{outputOf}
 use Rattle.acceptance.specs.Values.{packetA}
 

@@ -1,7 +1,7 @@
 -- Laws of binary digits: of a number's half, of and, or and complement, of a power of two; a number is its digits.
 use mathlib.Core.Path.{_≡_, refl, sym, _∙_, ap}
 use mathlib.Core.Logic.{_≢_}
-use Prim.Native.Nat.{ℕ, zero, suc, _+_, _*_, _-_, _/_, _%_, _^_, _<_, _≤_, min, max}
+use Prim.Native.Nat.{ℕ, zero, suc, _*_, _-_, _/_, _%_, _^_, _<_, min, max}
 use native.Mathlib.Omega.{arith}
 use native.Mathlib.Nat.{pow-zero, pow-succ', div-one, div-div-eq-div-mul}
 use lib.Pow.{pow-add}

@@ -1,11 +1,10 @@
 -- "only a SYN+ACK's observation takes [the peer's MSS]; a SYN's has none": no other reading depends on it.
-use mathlib.Core.Path.{_≡_, refl, sym, _∙_, ap}
+use mathlib.Core.Path.{_≡_, refl}
 use mathlib.Core.Bool.{Bool, true, false, cond}
 use mathlib.Core.List.{List}
 use Prim.Native.Nat.{ℕ}
 use Rattle.rfc.specs.Rfc9293.{control}
 use Rattle.tcp.specs.declared.Mss.{Mss}
-use Rattle.tcp.specs.declared.Mss.the-variants as mss
 use Rattle.flow.specs.declared.Answer.the-variants as answer
 use Rattle.ip.specs.declared.IpFacts.{IpFacts}
 use Rattle.ip.specs.declared.IpRead.{IpRead}

@@ -1,8 +1,8 @@
 -- A packet is refused by the first row of document 01's table that holds, and by none where none does; a refusal gives nothing beside.
-use mathlib.Core.Path.{_≡_, refl, sym, _∙_, ap}
+use mathlib.Core.Path.{_≡_, refl, _∙_, ap}
 use mathlib.Core.Bool.{Bool, true, false, cond, not, _&&_, _||_}
-use mathlib.Core.List.{List, [], _∷_}
-use Prim.Native.Nat.{ℕ, suc}
+use mathlib.Core.List.{List}
+use Prim.Native.Nat.{ℕ}
 use lib.Dec.{eqb, ltb}
 use lib.ListN.{length}
 use Rattle.basis.specs.Bytes.{part}
@@ -20,8 +20,8 @@ use Rattle.flow.specs.Flags.{flagsInvalid, isSynType, isSynAckType}
 use Rattle.ip.specs.Ip.{ipv4Facts, readIpv4, ipv6Facts, readIpv6, readIp}
 use Rattle.flow.specs.Tcp.{readTcp}
 use Rattle.ip.specs.Numbers.{number}
-use Rattle.flow.specs.Reading.{tcpPart, afterIp, readPacket}
-use Rattle.flow.specs.Refusals.{isV4, isV6, partOf, rows, firstRow, refusalOf}
+use Rattle.flow.specs.Reading.{afterIp, readPacket}
+use Rattle.flow.specs.Refusals.{isV4, isV6, rows, firstRow, refusalOf}
 
 either
     : (t : Bool) (a b : Reading) (m n : ℕ)

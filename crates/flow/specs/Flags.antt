@@ -1,6 +1,6 @@
 -- The flags of a TCP segment (document 01, "Headers and options").
 use Prim.Native.Nat.{ℕ, _+_, _*_}
-use mathlib.Core.Bool.{Bool, not, _&&_, _||_}
+use mathlib.Core.Bool.{Bool, _&&_, _||_}
 use lib.Dec.{eqb}
 use Rattle.rfc.specs.Rfc9293.{fin, syn, rst, ack}
 

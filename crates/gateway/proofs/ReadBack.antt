@@ -5,22 +5,19 @@ use native.Mathlib.Omega.{arith}
 use native.Mathlib.Nat.{mod-eq-of-lt}
 use mathlib.Core.Bool.{cond}
 use lib.Dec.{eqb}
-use Rattle.quirks.specs.Quirks.{bitsOf}
 use Rattle.ip.specs.declared.Refusal.{Refusal}
 use Rattle.ip.specs.declared.Refusal.the-variants as refusal
 use Rattle.ip.specs.Numbers.{number}
-use Rattle.matching.specs.declared.FuzzyReason.{FuzzyReason}
 use Rattle.matching.specs.declared.Hops.{Hops}
 use Rattle.matching.specs.declared.Hops.the-variants as hops
 use Rattle.found.specs.declared.Found.{Found}
 use Rattle.found.specs.declared.Found.the-variants as found
-use Rattle.packet_answer.specs.declared.PacketAnswer.{PacketAnswer}
 use Rattle.packet_answer.specs.declared.PacketAnswer.the-variants as packet
 use Rattle.gateway.specs.declared.GatewayAnswer.{GatewayAnswer}
 use Rattle.gateway.specs.declared.GatewayAnswer.the-variants as gateway
 use Rattle.gateway.specs.declared.Fields.{Fields}
 use Rattle.gateway.specs.Code.{plain, hopsOf, farOf, foundFields, givenBy, packetFields, fieldsOf, codeOf}
-use Rattle.gateway.specs.Decode.{fieldsFrom, foundFrom, answerFrom, HopsFit, FoundFits, RefusalFits, PacketFits, AnswerFits}
+use Rattle.gateway.specs.Decode.{fieldsFrom, foundFrom, answerFrom, HopsFit, FoundFits, RefusalFits, AnswerFits}
 
 -- ---- the bytes of a number
 

@@ -1,14 +1,14 @@
 -- Laws of the option lengths: what a short packet gives, and the IPv6 payload's size and second byte read off the packet.
-use mathlib.Core.Path.{_≡_, refl, sym, _∙_, ap}
+use mathlib.Core.Path.{_≡_, refl, _∙_}
 use Prim.Native.Nat.{ℕ, _+_, _-_, _*_, _%_, _<_, _≤_, min}
 use mathlib.Core.Bool.{Bool, true, false, cond, _||_}
 use mathlib.Core.List.{List}
 use native.Mathlib.Omega.{arith}
 use lib.Dec.{eqb}
-use lib.ListN.{length, getD, take, drop, length-take, length-drop, List·getD-eq-default}
+use lib.ListN.{length, drop, length-take, length-drop, List·getD-eq-default}
 use lib.Seq.{getD-take, getD-drop}
 use borrow.Author.Tests.{eq-eqb, ne-eqb, lt-ltb, le-ltb}
-use Rattle.basis.specs.Bytes.{byteAt, be16}
+use Rattle.basis.specs.Bytes.{byteAt}
 use Rattle.rfc.specs.Rfc8200.{nextHeader, payloadLength, payload}
 use Rattle.ip_options.specs.IpOptions.{ipv4OptionLength, ipv6ExtensionLength}
 

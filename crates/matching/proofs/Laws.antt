@@ -1,5 +1,5 @@
 -- Laws of the fit: the entries of a layout one by one, and what three answers mean.
-use mathlib.Core.Path.{_≡_, refl, sym, _∙_, ap}
+use mathlib.Core.Path.{_≡_, refl}
 use mathlib.Core.Bool.{Bool, true, false, cond, _&&_}
 use mathlib.Core.List.{List}
 use Prim.Native.Nat.{ℕ, _+_, _*_, _<_}
@@ -7,7 +7,6 @@ use native.Mathlib.Omega.{arith}
 use lib.Dec.{eqb}
 use borrow.Author.Tests.{eq-eqb, ne-eqb}
 use Rattle.basis.specs.Bytes.{byteAt}
-use Rattle.basis.specs.Tests.{allBelow}
 use Rattle.basis.proofs.Tests.{none-below, one-more-below, fails-below}
 use Rattle.quirks.specs.Quirks.{isEmpty}
 use Rattle.matching.specs.declared.Features.{Features}

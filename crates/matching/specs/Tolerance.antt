@@ -12,9 +12,7 @@ use Rattle.distances.specs.declared.TtlFit.the-variants as ttlfit
 use Rattle.matching.specs.declared.Tolerated.{Tolerated}
 use Rattle.matching.specs.declared.QuirksFit.{QuirksFit}
 use Rattle.matching.specs.declared.QuirksFit.the-variants as quirksfit
-use Rattle.matching.specs.declared.Hops.{Hops}
 use Rattle.matching.specs.declared.Hops.the-variants as hops
-use Rattle.matching.specs.declared.FuzzyReason.{FuzzyReason}
 use Rattle.matching.specs.declared.SignatureFit.{SignatureFit}
 use Rattle.matching.specs.declared.SignatureFit.the-variants as answer
 

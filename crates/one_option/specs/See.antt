@@ -1,5 +1,4 @@
 -- What one option says of MSS, scale and quirks (document 01, "Headers and options").
-use Prim.Native.Nat.{ℕ}
 use mathlib.Core.Bool.{Bool, cond, not, _&&_}
 use lib.Dec.{eqb, leb, ltb}
 use lib.ListN.{length}

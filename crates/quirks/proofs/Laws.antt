@@ -1,19 +1,18 @@
 -- Laws of quirk sets: what a set contains.
-use mathlib.Core.Path.{_≡_, refl, sym, _∙_, ap}
-use mathlib.Core.Bool.{Bool, true, false, _&&_, _||_, not}
-use mathlib.Core.Logic.{_↔_}
-use Prim.Native.Nat.{ℕ, zero, suc, _+_, _*_, _-_, _^_, _<_, _≤_, min, max}
+use mathlib.Core.Path.{_≡_, refl, _∙_, ap}
+use mathlib.Core.Bool.{Bool, true, _&&_, _||_, not}
+use Prim.Native.Nat.{ℕ, zero, suc, _*_, _-_, _^_, _<_, min, max}
 use native.Mathlib.Omega.{arith}
 use native.Mathlib.Nat.{zero-mul, one-mul}
 use lib.Dec.{eqb}
 use lib.Pow.{pow-pos}
-use lib.Bits.{bitAnd, bitOr, and-lt}
-use borrow.Author.Tests.{eq-eqb, ne-eqb, eqb-true}
+use lib.Bits.{bitAnd}
+use borrow.Author.Tests.{eq-eqb, ne-eqb}
 use Rattle.basis.specs.Digits.{digit}
-use Rattle.basis.proofs.Digits.{digit-lt, digit-and, digit-or, digit-not, and-power, digit-of-zero, digit-power-same, digit-power-other, digits-zero}
+use Rattle.basis.proofs.Digits.{digit-lt, digit-and, digit-or, digit-not, and-power, digit-power-same, digit-power-other}
 use Rattle.quirks.specs.declared.Quirk.{Quirk}
 use Rattle.quirks.specs.declared.QuirkSet.{QuirkSet}
-use Rattle.quirks.specs.Quirks.{placeOf, bitOf, setOf, bitsOf, holds, contains, isEmpty, with, difference, union, intersection}
+use Rattle.quirks.specs.Quirks.{placeOf, bitOf, bitsOf, holds, contains, with, difference, union, intersection}
 use Rattle.quirks.proofs.Places.{place-lt, place-injective}
 
 -- ---- the code's test of a quirk

@@ -1,17 +1,16 @@
 -- A difference is empty exactly if the first set is a subset of the second: place by place, and, within the seventeen, quirk by quirk.
 use mathlib.Core.Path.{_≡_, refl, sym, _∙_, ap, subst}
-use mathlib.Core.Bool.{Bool, true, false, _&&_, _||_, not, false≢true}
+use mathlib.Core.Bool.{Bool, true, _||_, not}
 use mathlib.Core.Logic.{_↔_}
 use Prim.Native.Nat.{ℕ, zero, suc, _-_, _^_, _<_, min}
 use native.Mathlib.Omega.{arith}
 use lib.Dec.{eqb}
-use lib.Bits.{bitAnd, and-le-l}
+use lib.Bits.{and-le-l}
 use borrow.Author.Tests.{eq-eqb, eqb-true}
 use Rattle.basis.specs.Digits.{digit}
 use Rattle.basis.specs.Tests.{allBelow}
 use Rattle.basis.proofs.Digits.{digit-lt, digit-of-zero, digits-zero}
 use Rattle.basis.proofs.Tests.{below}
-use Rattle.quirks.specs.declared.Quirk.{Quirk}
 use Rattle.quirks.specs.declared.QuirkSet.{QuirkSet}
 use Rattle.quirks.specs.Quirks.{placeOf, bitOf, bitsOf, holds, contains, isEmpty, with, difference, SubsetByPlaces, SubsetByQuirks}
 use Rattle.quirks.specs.Named.{seventeen, fromQuirks, displayOrder}

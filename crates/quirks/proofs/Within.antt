@@ -1,7 +1,7 @@
 -- Sets within the seventeen: the empty one, and any with a quirk more.
 use mathlib.Core.Path.{_≡_, refl, sym, _∙_, ap, subst}
 use mathlib.Core.Bool.{Bool, true, false, not, false≢true}
-use Prim.Native.Nat.{ℕ, _<_, _^_, max}
+use Prim.Native.Nat.{ℕ, _^_, max}
 use native.Mathlib.Omega.{arith}
 use native.Mathlib.Decide.{ℕ-discrete}
 use lib.Dec.{eqb}
@@ -10,7 +10,7 @@ use Rattle.basis.proofs.Digits.{digit-or, digit-of-zero, digit-power-other}
 use Rattle.quirks.specs.declared.Quirk.{Quirk}
 use Rattle.quirks.specs.declared.Quirk.the-variants as quirk
 use Rattle.quirks.specs.declared.QuirkSet.{QuirkSet}
-use Rattle.quirks.specs.Quirks.{placeOf, bitOf, setOf, bitsOf, holds, contains, with, addIf, SubsetByPlaces}
+use Rattle.quirks.specs.Quirks.{placeOf, bitOf, bitsOf, holds, contains, with, addIf, SubsetByPlaces}
 use Rattle.quirks.specs.Named.{fromQuirks, displayOrder, empty, seventeen}
 use Rattle.quirks.proofs.Laws.{contains-with-other}
 

@@ -1,5 +1,4 @@
 -- The named sets as rows of quirks (document 01, modules 1 and 7).
-use Prim.Native.Nat.{ℕ}
 use mathlib.Core.List.{List, [], _∷_}
 use Rattle.quirks.specs.declared.Quirk.{Quirk}
 use Rattle.quirks.specs.declared.Quirk.the-variants as quirk

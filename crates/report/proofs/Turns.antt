@@ -1,12 +1,11 @@
 -- Laws of a page: one line more, and its end.
 use mathlib.Core.Path.{_≡_, refl, sym, _∙_, ap, subst}
 use mathlib.Core.Bool.{true, false}
-use mathlib.Core.List.{List, [], _++_, append-nil}
-use Prim.Native.Nat.{ℕ, zero, suc, _+_, _-_, _<_, _≤_}
+use mathlib.Core.List.{List, _++_, append-nil}
+use Prim.Native.Nat.{ℕ, suc, _+_, _-_, _<_, _≤_}
 use native.Mathlib.Omega.{arith}
 use native.Mathlib.Nat.{add-zero, zero-add}
-use lib.Dec.{leb}
-use lib.ListN.{length, take, drop, take-append-drop}
+use lib.ListN.{length, take, take-append-drop}
 use borrow.Author.Tests.{le-leb, lt-leb}
 use Rattle.report.specs.declared.Progress.{Progress}
 use Rattle.bundle.specs.declared.BundleCheck.{BundleCheck}
@@ -14,7 +13,7 @@ use Rattle.bundle.specs.declared.BundleCheck.the-variants as check
 use Rattle.bundle.specs.Bundle.{packetCount, packetsOffset, packetEnd, bundleRefusal}
 use Rattle.bundle.specs.Answers.{answerAt, packetLies}
 use Rattle.report.specs.Text.{packetsWord, decimal, newline, lineOf, headLine}
-use Rattle.report.specs.Pages.{written, Put, Filled, Paged, progressOf, Page, pageFrom, fullPage, behind, refusedPage, headPage, firstOf}
+use Rattle.report.specs.Pages.{written, Put, Filled, Paged, Page, pageFrom, fullPage, behind, refusedPage, headPage, firstOf}
 use Rattle.report.proofs.Writing.{both, written-length, numbered-length}
 
 -- Nothing more is put.

@@ -1,8 +1,8 @@
 -- The pages, one after the other, are the whole output.
-use mathlib.Core.Path.{_≡_, refl, sym, _∙_, ap, subst}
-use mathlib.Core.Bool.{Bool, true, false, cond}
-use mathlib.Core.List.{List, [], _++_, append-assoc, append-nil}
-use Prim.Native.Nat.{ℕ, zero, suc, _+_, _<_, _≤_}
+use mathlib.Core.Path.{_≡_, refl, _∙_, ap}
+use mathlib.Core.Bool.{Bool, true, false}
+use mathlib.Core.List.{List, _++_, append-assoc, append-nil}
+use Prim.Native.Nat.{ℕ, zero, suc, _+_, _≤_}
 use native.Mathlib.Omega.{arith}
 use lib.Dec.{leb}
 use lib.ListN.{length, length-append}
@@ -13,7 +13,7 @@ use Rattle.bundle.specs.Bundle.{packetCount, packetsOffset, packetEnd, checkBun
 use Rattle.bundle.specs.Answers.{answerAt, packetLies, answersFrom, afterCheck, bundleAnswer}
 use Rattle.report.specs.Text.{packetsWord, refusedWord, lineOf, headLine, refusedLine}
 use Rattle.report.proofs.Writing.{line-length, numbered-length}
-use Rattle.report.specs.Pages.{Page, behind, fullPage, pageFrom, linesOf, textOf, outputOf, outputOfInput, firstOf, firstPage, nextPage, laterPages, allPages}
+use Rattle.report.specs.Pages.{Page, pageFrom, linesOf, textOf, outputOf, outputOfInput, firstOf, firstPage, nextPage, laterPages, allPages}
 
 -- The lines of the packets that a page leaves.
 abbrev rest : List ℕ → Page → List ℕ

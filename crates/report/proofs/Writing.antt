@@ -6,14 +6,14 @@ use native.Mathlib.Omega.{arith}
 use native.Mathlib.Numerals.{add-one}
 use native.Mathlib.Nat.{add-assoc}
 use lib.ListN.{length, take, drop, getD, set, length-append, length-drop}
-use lib.Seq.{paste, paste-zero, paste-suc, length-paste, take-all, take-at, drop-append-add, drop-drop, length-take-le}
+use lib.Seq.{paste, paste-suc, take-all, take-at, drop-append-add, drop-drop, length-take-le}
 use Rattle.report.specs.Pages.{written, Put}
 use Rattle.ip.specs.Numbers.{number}
 use Rattle.found.specs.declared.Found.{Found}
 use Rattle.found.specs.declared.Found.the-variants as found
 use Rattle.packet_answer.specs.declared.PacketAnswer.{PacketAnswer}
 use Rattle.packet_answer.specs.declared.PacketAnswer.the-variants as packet
-use Rattle.report.specs.Text.{width, fiveDigits, decimal, newline, exactWord, fuzzyWord, synWord, synackWord, refusedWord, foundText, answerText, lineOf}
+use Rattle.report.specs.Text.{width, decimal, newline, exactWord, fuzzyWord, synWord, synackWord, refusedWord, foundText, answerText, lineOf}
 
 pub copied : (page word : List ℕ) (at i : ℕ) → length word ≤ i → i ≤ length word → paste page at word i ≡ written page at word
 unfolding written

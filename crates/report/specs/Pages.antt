@@ -10,7 +10,7 @@ use Rattle.bundle.specs.declared.BundleCheck.the-variants as check
 use Rattle.packet_answer.specs.declared.PacketAnswer.{PacketAnswer}
 use Rattle.report.specs.declared.Progress.{Progress}
 use Rattle.bundle.specs.Bundle.{packetCount, packetsOffset, packetEnd, checkBundle}
-use Rattle.bundle.specs.Answers.{BundleAnswer, answerAt, packetLies, bundleAnswer}
+use Rattle.bundle.specs.Answers.{answerAt, packetLies, bundleAnswer}
 use Rattle.report.specs.Text.{lineOf, headLine, refusedLine}
 
 -- ---- the whole output

@@ -2,7 +2,7 @@
 use Prim.Native.Nat.{ℕ, _+_, _*_, _/_, _%_, min}
 use mathlib.Core.List.{List}
 use lib.ListN.{length}
-use Rattle.basis.specs.Bytes.{byteAt, be16, part}
+use Rattle.basis.specs.Bytes.{byteAt, be16}
 
 -- Version: the top four bits of byte 0.
 abbrev pub version : List ℕ → ℕ

@@ -1,5 +1,5 @@
 -- The TCP header of RFC 9293, section 3.1, read off the TCP part of a packet. The ports are never read. Bytes past the end read as 0.
-use Prim.Native.Nat.{ℕ, _+_, _*_, _/_, _%_, _-_, min, max}
+use Prim.Native.Nat.{ℕ, _*_, _/_, _%_, _-_, min, max}
 use mathlib.Core.List.{List}
 use lib.ListN.{length}
 use Rattle.basis.specs.Bytes.{byteAt, be16, be32, part}

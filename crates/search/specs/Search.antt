@@ -1,7 +1,7 @@
 -- The search (document 01, "The signature list"): "the first exact record in list order; else the first fuzzy one, with its
 -- reason; else none". It goes over a row of record numbers; the plain search takes 0, 1, .. to the last.
 use Prim.Native.Nat.{ℕ, zero, suc, _+_}
-use mathlib.Core.Bool.{Bool, true, false, cond, _&&_}
+use mathlib.Core.Bool.{cond, _&&_}
 use mathlib.Core.List.{List, [], _∷_}
 use lib.Dec.{ltb}
 use Rattle.observable.specs.declared.TcpObservation.{TcpObservation}

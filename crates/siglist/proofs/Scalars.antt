@@ -5,7 +5,7 @@ use mathlib.Core.List.{List}
 use Prim.Native.Nat.{ℕ}
 use lib.Dec.{eqb}
 use Rattle.basis.specs.Bytes.{byteAt, be16, be32}
-use Rattle.basis.proofs.Tests.{and-false, and-true}
+use Rattle.basis.proofs.Tests.{and-false}
 use Rattle.siglist.specs.Record.{versionGood, ttlGood, presenceGood, windowGood, payloadGood, quirksGood, scalarsGood}
 
 module _ (r : List ℕ) where

@@ -1,9 +1,9 @@
 -- The signature list (document 01, "The signature list"): its header, its areas, its records and their layouts.
 use mathlib.Core.Path.{_≡_}
 use Prim.Native.Nat.{ℕ, zero, suc, _+_, _*_, _≤_}
-use mathlib.Core.Bool.{Bool, cond, not, _&&_}
+use mathlib.Core.Bool.{Bool, cond, _&&_}
 use mathlib.Core.List.{List}
-use lib.Dec.{eqb, leb, ltb}
+use lib.Dec.{eqb, leb}
 use lib.ListN.{length}
 use Rattle.basis.specs.Bytes.{be16, part}
 use Rattle.siglist.specs.declared.Areas.{Areas}

@@ -1,8 +1,8 @@
 -- A record of the signature list, and when it is bad (document 01, "The signature list"). A record is its 24 bytes.
-use Prim.Native.Nat.{ℕ, _+_, _*_, _%_}
-use mathlib.Core.Bool.{Bool, true, false, cond, not, _&&_, _||_}
+use Prim.Native.Nat.{ℕ, _%_}
+use mathlib.Core.Bool.{Bool, true, false, cond, _&&_, _||_}
 use mathlib.Core.List.{List}
-use lib.Dec.{eqb, leb, ltb}
+use lib.Dec.{eqb, leb}
 use Rattle.basis.specs.Bytes.{byteAt, be16, be32}
 use Rattle.quirks.specs.Quirks.{setOf, isEmpty, difference}
 use Rattle.quirks.specs.Named.{seventeen}

@@ -1,11 +1,11 @@
 -- Laws of a walk's layout: at most forty entries, and entries past the count are 0.
-use mathlib.Core.Path.{_≡_, refl, sym, _∙_, ap}
+use mathlib.Core.Path.{_≡_, refl, _∙_}
 use mathlib.Core.Bool.{Bool, true, false, cond, _&&_}
 use mathlib.Core.List.{List, [], _∷_}
-use Prim.Native.Nat.{ℕ, zero, suc, _+_, _<_, _≤_}
+use Prim.Native.Nat.{ℕ, zero, suc, _+_, _≤_}
 use native.Mathlib.Omega.{arith}
 use lib.Dec.{ltb}
-use lib.ListN.{length, getD, take, set, length-take, replicate, getD-replicate}
+use lib.ListN.{length, take, length-take, replicate, getD-replicate}
 use lib.Seq.{getD-set-other}
 use Rattle.basis.specs.Bytes.{byteAt}
 use Rattle.quirks.specs.declared.QuirkSet.{QuirkSet}
@@ -15,7 +15,7 @@ use Rattle.syn_options.specs.declared.OptionsAnswer.the-variants as answ
 use Rattle.syn_options.specs.declared.OptionsRead.{OptionsRead}
 use Rattle.syn_options.specs.declared.Walked.{Walked}
 use Rattle.one_option.specs.Options.{Opt, asked, runsPast, optionsAfter, optionsOf}
-use Rattle.syn_options.specs.Walk.{entryByte, putEntry, putOption, walkFrom, startWalk, walkOf, parsedOf, parseOptionsRaw, optionsRefusal}
+use Rattle.syn_options.specs.Walk.{putEntry, putOption, walkFrom, startWalk, walkOf, parsedOf, parseOptionsRaw, optionsRefusal}
 
 -- A string has no more options than bytes.
 pub options-few : (skip : ℕ) (s : List ℕ) → length (optionsAfter skip s) ≤ length s

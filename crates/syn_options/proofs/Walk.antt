@@ -6,15 +6,14 @@ use Prim.Native.Nat.{ℕ, zero, suc, _+_, _-_, _<_, _≤_, min, max}
 use native.Mathlib.Omega.{arith}
 use native.Mathlib.Numerals.{add-one}
 use native.Mathlib.Decide.{decLe, ℕ-discrete}
-use lib.Dec.{eqb, ltb}
-use lib.ListN.{length, getD, take, drop, set, length-take, length-drop, drop-of-length-le}
+use lib.Dec.{ltb}
+use lib.ListN.{length, take, drop, set, length-take, length-drop, drop-of-length-le}
 use lib.Seq.{drop-cons, drop-drop, take-all, getD-take, getD-drop}
 use borrow.Author.Tests.{lt-ltb, le-ltb, eq-eqb, ne-eqb}
 use Rattle.basis.specs.Bytes.{byteAt}
-use Rattle.tcp.specs.declared.Layout.{Layout}
 use Rattle.one_option.specs.declared.Seen.{Seen}
 use Rattle.syn_options.specs.declared.Walked.{Walked}
-use Rattle.one_option.specs.Options.{Opt, asked, runsPast, optionOf, optionsAfter, optionsOf}
+use Rattle.one_option.specs.Options.{asked, runsPast, optionOf, optionsAfter, optionsOf}
 use Rattle.one_option.specs.See.{seeOption}
 use Rattle.syn_options.specs.Walk.{entryByte, putEntry, putOption, walkFrom}
 use Rattle.one_option.proofs.See.{opt}

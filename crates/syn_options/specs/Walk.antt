@@ -9,7 +9,6 @@ use Rattle.quirks.specs.Named.{empty}
 use Rattle.tcp.specs.declared.Layout.{Layout}
 use Rattle.tcp.specs.declared.Mss.the-variants as mss
 use Rattle.tcp.specs.declared.Wscale.the-variants as wscale
-use Rattle.one_option.specs.declared.Seen.{Seen}
 use Rattle.syn_options.specs.declared.Walked.{Walked}
 use Rattle.syn_options.specs.declared.ParsedTcpOptions.{ParsedTcpOptions}
 use Rattle.syn_options.specs.declared.OptionsAnswer.{OptionsAnswer}

@@ -1,11 +1,10 @@
 -- Laws of the TTL reading.
 use mathlib.Core.Path.{_≡_, refl, sym}
 use mathlib.Core.Bool.{Bool, true, false, cond}
-use Prim.Native.Nat.{ℕ, _-_, _<_, _≤_}
+use Prim.Native.Nat.{ℕ, _<_, _≤_}
 use native.Mathlib.Omega.{arith}
 use lib.Dec.{leb, eqb}
 use borrow.Author.Tests.{le-leb, lt-leb, eqb-true}
-use Rattle.ttl.specs.declared.Ttl.{Ttl}
 use Rattle.ttl.specs.declared.Ttl.the-variants.{Value, Distance, Guess, Bad}
 use Rattle.ttl.specs.Ttl.{initialOf, guessOf, readingOf, byteOf}
 

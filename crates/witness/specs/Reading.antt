@@ -1,6 +1,6 @@
 -- The reading of a packet and of an option string, as numbers: each value of an answer under a number of its own, 0 where there is none.
 use Prim.Native.Nat.{ℕ, _+_, _*_, _-_}
-use mathlib.Core.Bool.{Bool, not, cond}
+use mathlib.Core.Bool.{not, cond}
 use mathlib.Core.List.{List}
 use lib.Dec.{eqb, leb, ltb}
 use Rattle.basis.specs.Bytes.{be32}

@@ -1,5 +1,3 @@
-use mathlib.Core.Path.{sym}
-use native.Mathlib.Omega.{arith}
 use Rattle.basis.specs.Bytes.{be16}
 use borrow.Author.Needs.{needs}
 use Rattle.bundle.proofs.number_at.Statement.{statement}

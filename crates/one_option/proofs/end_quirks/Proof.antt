@@ -1,6 +1,5 @@
 -- `one_option::end_quirks` meets its contract.
 use Rattle.one_option.proofs.See.{end-of-options, quirks-of, opt, just}
-use mathlib.Core.Path.{sym, _∙_}
 use borrow.Author.Needs.{needs}
 use Rattle.one_option.proofs.end_quirks.Statement.{statement}
 use Rattle.one_option.proofs.end_quirks.Tie as tie

@@ -3,7 +3,7 @@ use Rattle.one_option.proofs.See.{no-scale, short-scale, enough-scale}
 use Prim.Native.Nat.{_<_, _≤_}
 use lib.ListN.{length}
 use native.Mathlib.Omega.{arith}
-use mathlib.Core.Path.{sym, _∙_}
+use mathlib.Core.Path.{sym}
 use borrow.Author.Needs.{needs}
 use Rattle.one_option.proofs.later_scale.Statement.{statement}
 use Rattle.one_option.proofs.later_scale.Tie as tie

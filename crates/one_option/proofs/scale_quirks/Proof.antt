@@ -3,7 +3,7 @@ use Rattle.one_option.proofs.See.{scale-short, scale-enough, quirks-of,
 use Prim.Native.Nat.{_<_, _≤_}
 use lib.ListN.{length}
 use native.Mathlib.Omega.{arith}
-use mathlib.Core.Path.{sym, _∙_}
+use mathlib.Core.Path.{sym}
 use borrow.Author.Needs.{needs}
 use Rattle.one_option.proofs.scale_quirks.Statement.{statement}
 use Rattle.one_option.proofs.scale_quirks.Tie as tie

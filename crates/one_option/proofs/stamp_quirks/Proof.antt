@@ -4,7 +4,7 @@ use Rattle.basis.specs.Bytes.{be16, be32}
 use Prim.Native.Nat.{_<_, _≤_}
 use lib.ListN.{length}
 use native.Mathlib.Omega.{arith}
-use mathlib.Core.Path.{sym, _∙_}
+use mathlib.Core.Path.{sym}
 use borrow.Author.Needs.{needs}
 use Rattle.one_option.proofs.stamp_quirks.Statement.{statement}
 use Rattle.one_option.proofs.stamp_quirks.Tie as tie

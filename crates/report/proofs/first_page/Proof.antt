@@ -2,7 +2,7 @@ use Rattle.bundle.proofs.Packets.{list-within, good-fits, passed}
 use Rattle.bundle.specs.Bundle.{checkBundle, bundleRefusal}
 use borrow.Author.Tests.{le-leb, lt-leb}
 use lib.ListN.{length}
-use mathlib.Core.Path.{_≡_, sym, _∙_, ap}
+use mathlib.Core.Path.{sym, _∙_, ap}
 use native.Mathlib.Omega.{arith}
 use Rattle.report.proofs.Turns.{paged, filled-full, refused}
 use Rattle.report.specs.Pages.{firstPage, fullPage}

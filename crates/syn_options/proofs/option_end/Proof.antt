@@ -1,10 +1,8 @@
 -- `syn_options::option_end` meets its contract.
 use Rattle.syn_options.proofs.Walk.{last-end, nop-end, short-end, sized-end}
-use Rattle.basis.specs.Bytes.{byteAt}
-use Prim.Native.Nat.{_+_, _<_, _≤_}
-use lib.ListN.{length}
+use Prim.Native.Nat.{_+_}
 use native.Mathlib.Omega.{arith}
-use mathlib.Core.Path.{sym, _∙_}
+use mathlib.Core.Path.{_∙_}
 use borrow.Author.Needs.{needs}
 use Rattle.syn_options.proofs.option_end.Statement.{statement}
 use Rattle.syn_options.proofs.option_end.Tie as tie

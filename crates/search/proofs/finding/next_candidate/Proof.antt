@@ -6,7 +6,7 @@ use Rattle.siglist.specs.List.{AreasFit}
 use Rattle.found.specs.declared.Found.{Found}
 use mathlib.Core.List.{List}
 use mathlib.Core.Path.{_≡_, refl, sym, _∙_}
-use Prim.Native.Nat.{ℕ, _+_, _-_, _≤_}
+use Prim.Native.Nat.{ℕ, _-_, _≤_}
 use native.Mathlib.Omega.{arith}
 use borrow.Author.Needs.{needs}
 use Rattle.search.proofs.finding.next_candidate.Statement.{statement}

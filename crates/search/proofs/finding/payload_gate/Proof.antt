@@ -3,8 +3,6 @@ use Rattle.search.proofs.Codes.{empty-passes, data-passes}
 use borrow.Author.Needs.{needs}
 use Rattle.search.proofs.finding.payload_gate.Statement.{statement}
 use Rattle.search.proofs.finding.payload_gate.Tie as tie
-use Rattle.search.proofs.finding.payload_gate.Reads as reads
-use Rattle.search.proofs.finding.payload_gate.Lts as lts
 
 -- src/lib.rt:394:30
 enum-told : tie.Need-enum-told

@@ -3,8 +3,6 @@ use Rattle.search.proofs.Codes.{v4-passes, v6-passes}
 use borrow.Author.Needs.{needs}
 use Rattle.search.proofs.finding.version_gate.Statement.{statement}
 use Rattle.search.proofs.finding.version_gate.Tie as tie
-use Rattle.search.proofs.finding.version_gate.Reads as reads
-use Rattle.search.proofs.finding.version_gate.Lts as lts
 
 -- src/lib.rt:403:26
 enum-told : tie.Need-enum-told

@@ -1,6 +1,5 @@
 -- `witness::mss_of` meets its contract.
 use Rattle.witness.specs.Observed.{mssIf}
-use borrow.Author.Needs.{needs}
 use Rattle.witness.proofs.decoded.mss_of.Statement.{statement}
 use Rattle.witness.proofs.decoded.mss_of.Tie as tie
 

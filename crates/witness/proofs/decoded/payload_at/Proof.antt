@@ -1,7 +1,6 @@
 -- `witness::payload_at` meets its contract.
 use Rattle.basis.proofs.Rules.{cases}
 use Rattle.witness.specs.Observed.{payloadAt}
-use borrow.Author.Needs.{needs}
 use Rattle.witness.proofs.decoded.payload_at.Statement.{statement}
 use Rattle.witness.proofs.decoded.payload_at.Tie as tie
 

@@ -1,7 +1,6 @@
 -- `witness::scale_at` meets its contract.
 use Rattle.basis.proofs.Rules.{cases}
 use Rattle.witness.specs.Observed.{scaleAt}
-use borrow.Author.Needs.{needs}
 use Rattle.witness.proofs.decoded.scale_at.Statement.{statement}
 use Rattle.witness.proofs.decoded.scale_at.Tie as tie
 

@@ -1,7 +1,6 @@
 -- `witness::ttl_at` meets its contract.
 use Rattle.basis.proofs.Rules.{cases}
 use Rattle.witness.specs.Observed.{ttlAt}
-use borrow.Author.Needs.{needs}
 use Rattle.witness.proofs.decoded.ttl_at.Statement.{statement}
 use Rattle.witness.proofs.decoded.ttl_at.Tie as tie
 

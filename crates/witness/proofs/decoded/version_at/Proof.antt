@@ -1,7 +1,6 @@
 -- `witness::version_at` meets its contract.
 use Rattle.basis.proofs.Rules.{cases}
 use Rattle.witness.specs.Observed.{versionAt}
-use borrow.Author.Needs.{needs}
 use Rattle.witness.proofs.decoded.version_at.Statement.{statement}
 use Rattle.witness.proofs.decoded.version_at.Tie as tie
 

@@ -1,7 +1,6 @@
 -- `witness::bad_number` meets its contract.
 use Rattle.basis.proofs.Rules.{cases}
 use Rattle.witness.specs.Searching.{badNumber}
-use borrow.Author.Needs.{needs}
 use Rattle.witness.proofs.searched.bad_number.Statement.{statement}
 use Rattle.witness.proofs.searched.bad_number.Tie as tie
 

@@ -1,7 +1,6 @@
 -- `witness::first_only` meets its contract.
 use Rattle.basis.proofs.Rules.{cases}
 use Rattle.witness.specs.Searching.{firstOnly}
-use borrow.Author.Needs.{needs}
 use Rattle.witness.proofs.searched.first_only.Statement.{statement}
 use Rattle.witness.proofs.searched.first_only.Tie as tie
 
