@@ -19,7 +19,8 @@ use Rattle.quirks.specs.Quirks.{setOf, bitsOf, holds, isEmpty, difference}
 use Rattle.quirks.specs.Named.{seventeen}
 use Rattle.quirks.proofs.Laws.{holds-difference}
 use Rattle.quirks.proofs.Named.{seventeen-bits}
-use Rattle.siglist.specs.Record.{firstEntry, entryCount, versionGood, ttlGood, presenceGood, windowGood, payloadGood, quirksGood, scalarsGood, entryGood, entriesGood}
+use Rattle.gates.specs.Gates.{entryGood, entriesGood}
+use Rattle.sigrecord.specs.Record.{firstEntry, entryCount, versionGood, ttlGood, presenceGood, windowGood, payloadGood, quirksGood, scalarsGood}
 use Rattle.siglist.specs.List.{layoutCount, recordAt, entriesOf, layoutLies, recordGood}
 use Rattle.acceptance.specs.Refusals.{Bad, BadRecord}
 use Rattle.acceptance.proofs.Fails.{either-false, failing, or-left, or-right, and-false, positive, nonzero}
@@ -155,8 +156,8 @@ module _ (r : List ℕ) (entries : ℕ) (layout : List ℕ) where
       failing _ (entryCount r)
       (λ j h e.
       Bad.bad-entry j h
-      (positive (byteAt layout (2 * j)) (or-left (eqb (byteAt layout (2 * j)) 0) (eqb (byteAt layout (2 * j + 1)) 0) e))
-      (positive (byteAt layout (2 * j + 1)) (or-right (eqb (byteAt layout (2 * j)) 0) (eqb (byteAt layout (2 * j + 1)) 0) e)))
+      (positive (byteAt layout (2 * j)) (or-right (eqb (byteAt layout (2 * j + 1)) 0) (eqb (byteAt layout (2 * j)) 0) e))
+      (positive (byteAt layout (2 * j + 1)) (or-left (eqb (byteAt layout (2 * j + 1)) 0) (eqb (byteAt layout (2 * j)) 0) e)))
 
 module _ (l : List ℕ) (i : ℕ) where
   pub bad-of : recordGood l i ≡ false → BadRecord l i

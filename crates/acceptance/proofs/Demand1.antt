@@ -10,7 +10,9 @@ use Rattle.syn_options.proofs.Unique as syn-options
 use Rattle.ip.proofs.Unique as ip
 use Rattle.flow.proofs.Unique as flow
 use Rattle.distances.proofs.Unique as distances
+use Rattle.gates.proofs.Unique as gates
 use Rattle.matching.proofs.Unique as matching
+use Rattle.sigrecord.proofs.Unique as sigrecord
 use Rattle.siglist.proofs.Unique as siglist
 use Rattle.found.proofs.Unique as found
 use Rattle.search.proofs.Unique as search
@@ -127,12 +129,12 @@ of-distances =
 of-matching : Matching
 of-matching =
     record {
-      olen-matches = λ o s. let u = matching.olen-matches-one o s in record { asks-nothing = tt; one = u; is = u .meets };
-      mss-matches = λ o s. let u = matching.mss-matches-one o s in record { asks-nothing = tt; one = u; is = u .meets };
-      wscale-matches = λ o s. let u = matching.wscale-matches-one o s in record { asks-nothing = tt; one = u; is = u .meets };
+      olen-matches = λ o s. let u = gates.olen-matches-one o s in record { asks-nothing = tt; one = u; is = u .meets };
+      mss-matches = λ o s. let u = gates.mss-matches-one o s in record { asks-nothing = tt; one = u; is = u .meets };
+      wscale-matches = λ o s. let u = gates.wscale-matches-one o s in record { asks-nothing = tt; one = u; is = u .meets };
       quirks-fit = λ o s. let u = matching.quirks-fit-one o s in record { asks-nothing = tt; one = u; is = u .meets };
-      olayout-matches = λ κs ks bs n es m. let u = matching.olayout-matches-one κs ks bs n es m in record { asks-nothing = tt; one = u; is = u .meets };
-      entry-good = λ k b. let u = matching.entry-good-one k b in record { asks-nothing = tt; one = u; is = u .meets };
+      olayout-matches = λ κs ks bs n es m. let u = gates.olayout-matches-one κs ks bs n es m in record { asks-nothing = tt; one = u; is = u .meets };
+      entry-good = λ k b. let u = gates.entry-good-one k b in record { asks-nothing = tt; one = u; is = u .meets };
       features-of = λ o. let u = matching.features-of-one o in record { asks-nothing = tt; one = u; is = u .meets };
       tolerance = λ f s. let u = matching.tolerance-one f s in record { asks-nothing = tt; one = u; is = u .meets };
     }
@@ -141,7 +143,7 @@ of-siglist : Siglist
 of-siglist =
     record {
       read-header = λ κs l. let u = siglist.read-header-one κs l in record { asks-nothing = tt; one = u; is = u .meets };
-      scalars-well-formed = λ κs r. let u = siglist.scalars-well-formed-one κs r in record { asks-nothing = tt; one = u; is = u .meets };
+      scalars-well-formed = λ κs r. let u = sigrecord.scalars-well-formed-one κs r in record { asks-nothing = tt; one = u; is = u .meets };
       check-list = λ κs l. let u = siglist.check-list-one κs l in record { asks-nothing = tt; one = u; is = u .meets };
     }
 

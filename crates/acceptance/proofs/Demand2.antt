@@ -28,7 +28,7 @@ use Rattle.matching.specs.declared.SignatureFit.{SignatureFit}
 use Rattle.matching.specs.declared.SignatureFit.the-variants as fit
 use Rattle.siglist.specs.declared.ListAnswer.{ListAnswer}
 use Rattle.siglist.specs.declared.ListAnswer.the-variants as list
-use Rattle.siglist.specs.Record.{labelOf}
+use Rattle.sigrecord.specs.Record.{labelOf}
 use Rattle.siglist.specs.List.{recordCount, recordAt, listFits, recordGood, checkList}
 use Rattle.siglist.proofs.Refusals.{does-not-fit, Checked, first-bad-named}
 use Rattle.found.specs.declared.Found.the-variants as found

@@ -16,7 +16,7 @@ use Rattle.matching.specs.declared.QuirksFit.the-variants as quirksfit
 use Rattle.matching.specs.declared.Signature.{Signature}
 use Rattle.matching.specs.declared.SignatureFit.the-variants as fit
 use Rattle.matching.specs.declared.Tolerated.{Tolerated}
-use Rattle.matching.specs.Gates.{layoutMatches}
+use Rattle.gates.specs.Gates.{layoutMatches}
 use Rattle.matching.specs.Tolerance.{judgeInRange, judge}
 use Rattle.matching.specs.Fit.{scalarGates, toleranceOf, fitOf}
 use Rattle.matching.proofs.Laws.{Untolerated, exact-untolerated, untolerated-exact}

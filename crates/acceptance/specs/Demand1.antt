@@ -95,21 +95,22 @@ use Rattle.distances.proofs.payload_size_matches.Reads as payload-size-matches'
 -- matching
 use Rattle.matching.specs.declared.Features.{Features}
 use Rattle.matching.specs.declared.Signature.{Signature}
-use Rattle.matching.specs.Gates.{olenMatches, mssMatches, scaleMatches, entryGood, entriesGood, layoutMatches}
+use Rattle.gates.specs.Gates.{olenMatches, mssMatches, scaleMatches, entryGood, entriesGood, layoutMatches}
 use Rattle.matching.specs.Tolerance.{quirksFit}
 use Rattle.matching.specs.Fit.{featuresOf, toleranceOf}
-use Rattle.matching.proofs.olen_matches.Reads as olen-matches'
-use Rattle.matching.proofs.mss_matches.Reads as mss-matches'
-use Rattle.matching.proofs.wscale_matches.Reads as wscale-matches'
+use Rattle.gates.proofs.olen_matches.Reads as olen-matches'
+use Rattle.gates.proofs.mss_matches.Reads as mss-matches'
+use Rattle.gates.proofs.wscale_matches.Reads as wscale-matches'
 use Rattle.matching.proofs.quirks_fit.Reads as quirks-fit'
-use Rattle.matching.proofs.entry_good.Reads as entry-good'
-use Rattle.matching.proofs.olayout_matches.Reads as olayout-matches'
+use Rattle.gates.proofs.entry_good.Reads as entry-good'
+use Rattle.gates.proofs.olayout_matches.Reads as olayout-matches'
 use Rattle.matching.proofs.features_of.Reads as features-of'
 use Rattle.matching.proofs.tolerance.Reads as tolerance'
 -- siglist
-use Rattle.siglist.specs.List.{headerOf, scalarsWellFormed, checkList}
+use Rattle.siglist.specs.List.{headerOf, checkList}
+use Rattle.sigrecord.specs.Record.{scalarsWellFormed}
 use Rattle.siglist.proofs.read_header.Reads as read-header'
-use Rattle.siglist.proofs.scalars_well_formed.Reads as scalars-well-formed'
+use Rattle.sigrecord.proofs.scalars_well_formed.Reads as scalars-well-formed'
 use Rattle.siglist.proofs.check_list.Reads as check-list'
 -- found
 use Rattle.matching.specs.declared.SignatureFit.{SignatureFit}

@@ -23,10 +23,10 @@ use Rattle.matching.specs.declared.Signature.{Signature}
 use Rattle.matching.specs.declared.SignatureFit.{SignatureFit}
 use Rattle.matching.specs.declared.SignatureFit.the-variants as fit
 use Rattle.matching.specs.declared.Tolerated.{Tolerated}
-use Rattle.matching.specs.Gates.{layoutMatches}
+use Rattle.gates.specs.Gates.{layoutMatches}
 use Rattle.matching.specs.Tolerance.{maskedQuirks, quirksFit}
 use Rattle.matching.specs.Fit.{featuresOf, scalarGates, fitOf}
-use Rattle.siglist.specs.Record.{labelOf}
+use Rattle.sigrecord.specs.Record.{labelOf}
 use Rattle.siglist.specs.List.{recordCount, recordAt}
 use Rattle.found.specs.declared.Found.{Found}
 use Rattle.found.specs.declared.Found.the-variants as found

@@ -26,7 +26,7 @@ use Rattle.flow.specs.Flags.{maskedType}
 use Rattle.flow.specs.Reading.{readPacket}
 use Rattle.flow.specs.Refusals.{refusalOf}
 use Rattle.siglist.specs.declared.ListAnswer.the-variants as listAnswer
-use Rattle.siglist.specs.Record.{firstEntry, entryCount}
+use Rattle.sigrecord.specs.Record.{firstEntry, entryCount}
 use Rattle.siglist.specs.List.{recordCount, recordsOffset, layoutCount, layoutOffset, recordAt, entriesOf, recordGood, checkList, listRefusal}
 use Rattle.search.specs.declared.SearchAnswer.the-variants as searchAnswer
 use Rattle.search.specs.Search.{searchList, searchRefusal}

@@ -24,10 +24,10 @@ use Rattle.matching.specs.declared.QuirksFit.the-variants as quirksfit
 use Rattle.matching.specs.declared.SignatureFit.{SignatureFit}
 use Rattle.matching.specs.declared.SignatureFit.the-variants as fit
 use Rattle.matching.specs.declared.Tolerated.{Tolerated}
-use Rattle.matching.specs.Gates.{layoutMatches}
+use Rattle.gates.specs.Gates.{layoutMatches}
 use Rattle.matching.specs.Tolerance.{maskedQuirks, quirksFit, judgeInRange, judge}
 use Rattle.matching.specs.Fit.{scalarGates, toleranceOf, fitOf}
-use Rattle.siglist.specs.Record.{ttlOf, signatureOf}
+use Rattle.sigrecord.specs.Record.{ttlOf, signatureOf}
 use Rattle.gateway.specs.Decode.{AllBytes, HopsFit}
 
 -- ---- the quirks

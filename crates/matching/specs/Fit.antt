@@ -10,7 +10,7 @@ use Rattle.matching.specs.declared.Signature.{Signature}
 use Rattle.matching.specs.declared.SignatureFit.{SignatureFit}
 use Rattle.matching.specs.declared.SignatureFit.the-variants as answer
 use Rattle.distances.specs.Gates.{versionMatches, windowMatches, payloadMatches}
-use Rattle.matching.specs.Gates.{olenMatches, mssMatches, scaleMatches, layoutMatches}
+use Rattle.gates.specs.Gates.{olenMatches, mssMatches, scaleMatches, layoutMatches}
 use Rattle.distances.specs.Distances.{ttlFit}
 use Rattle.matching.specs.Tolerance.{maskedQuirks, quirksFit, judge}
 

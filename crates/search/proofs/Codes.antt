@@ -8,7 +8,7 @@ use borrow.Author.Tests.{ne-eqb}
 use Rattle.tcp.specs.declared.PayloadSize.the-variants as payload
 use Rattle.tcp.specs.declared.IpVersion.the-variants as version
 use Rattle.distances.specs.Gates.{payloadMatches, versionMatches}
-use Rattle.siglist.specs.Record.{payloadOf, versionOf}
+use Rattle.sigrecord.specs.Record.{payloadOf, versionOf}
 
 pub empty-passes : (code : ℕ) → not (eqb code 1) ≡ payloadMatches payload.Zero (payloadOf code)
 unfolding payloadOf payloadMatches

@@ -10,13 +10,13 @@ use borrow.Author.Tests.{lt-ltb, eq-eqb}
 use Rattle.matching.specs.declared.Features.{Features}
 use Rattle.matching.specs.declared.SignatureFit.{SignatureFit}
 use Rattle.matching.specs.declared.SignatureFit.the-variants as fit
-use Rattle.matching.specs.Gates.{entriesGood, layoutMatches}
+use Rattle.gates.specs.Gates.{entriesGood, layoutMatches}
 use Rattle.matching.specs.Fit.{scalarGates, toleranceOf, fitOf}
-use Rattle.basis.proofs.Bytes.{part-length}
 use Rattle.basis.proofs.Tests.{and-left, and-right, and-false, and-true}
 use Rattle.siglist.specs.declared.Areas.{Areas}
-use Rattle.siglist.specs.Record.{signatureOf, firstEntry, entryCount, scalarsGood}
-use Rattle.siglist.specs.List.{recordCount, layoutCount, AreasFit, recordStart, recordAt, entriesOf, layoutLies, recordGood, scalarsWellFormed}
+use Rattle.sigrecord.specs.Record.{signatureOf, firstEntry, entryCount, scalarsGood}
+use Rattle.siglist.specs.List.{recordCount, layoutCount, AreasFit, recordAt, entriesOf, layoutLies, recordGood}
+use Rattle.sigrecord.specs.Record.{scalarsWellFormed}
 use Rattle.found.specs.Keep.{fitsNothing}
 use Rattle.search.specs.Search.{fitAt}
 use Rattle.siglist.proofs.List.{list-fits}
@@ -105,11 +105,6 @@ module _ (f : Features) (kinds bytes l : List ℕ) (a : Areas) (i : ℕ) (fits :
       let layout = and-left (layoutMatches (f .count) kinds bytes (entryCount (recordAt l i)) (entriesOf l (recordAt l i))) (recordGood l i) holds in
       let good = and-right (layoutMatches (f .count) kinds bytes (entryCount (recordAt l i)) (entriesOf l (recordAt l i))) (recordGood l i) holds in
       rw (here, good, open-gates, layout)
-
--- A record that lies in a list is whole.
-pub record-whole : (l : List ℕ) (a : Areas) (i : ℕ) → AreasFit l a → i < a .records → length (recordAt l i) ≡ 24
-record-whole l a i fits inside =
-    part-length (recordStart l i) (recordStart l i + 24) l (omega arith) ∙ omega arith
 
 -- Whether a record holds: its layout is the observation's, and it is well formed.
 module _ (n : ℕ) (kinds bytes l : List ℕ) (a : Areas) (i : ℕ) (fits : AreasFit l a) where

@@ -12,7 +12,7 @@ use Rattle.matching.specs.declared.SignatureFit.the-variants as fit
 use Rattle.matching.specs.Fit.{featuresOf}
 use Rattle.found.specs.declared.Found.{Found}
 use Rattle.found.specs.declared.Found.the-variants as found
-use Rattle.siglist.specs.Record.{labelOf}
+use Rattle.sigrecord.specs.Record.{labelOf}
 use Rattle.siglist.specs.List.{recordCount, recordAt}
 use Rattle.found.specs.Keep.{keep}
 use Rattle.search.specs.Search.{fitAt, searchFrom, numbersFrom, searchOver, searchAll}

@@ -9,7 +9,7 @@ use Rattle.matching.specs.declared.SignatureFit.{SignatureFit}
 use Rattle.matching.specs.declared.SignatureFit.the-variants as fit
 use Rattle.found.specs.declared.Found.{Found}
 use Rattle.found.specs.declared.Found.the-variants as found
-use Rattle.siglist.specs.Record.{labelOf}
+use Rattle.sigrecord.specs.Record.{labelOf}
 use Rattle.siglist.specs.List.{recordAt, listFits}
 use Rattle.found.specs.Keep.{fitsNothing, keep, isExact}
 use Rattle.search.specs.Search.{fitAt, searchFrom, numbersFrom}

@@ -5,7 +5,7 @@ use Rattle.basis.proofs.Tests.{and-false, and-true}
 use Rattle.matching.specs.declared.Features.{Features}
 use Rattle.matching.specs.declared.Signature.{Signature}
 use Rattle.distances.specs.Gates.{versionMatches, windowMatches, payloadMatches}
-use Rattle.matching.specs.Gates.{olenMatches, mssMatches, scaleMatches}
+use Rattle.gates.specs.Gates.{olenMatches, mssMatches, scaleMatches}
 use Rattle.matching.specs.Fit.{scalarGates}
 
 module _ (f : Features) (s : Signature) where

@@ -16,7 +16,7 @@ use Rattle.siglist.specs.declared.ListAnswer.{ListAnswer}
 use Rattle.siglist.specs.declared.ListAnswer.the-variants as list
 use Rattle.search.specs.declared.SearchAnswer.{SearchAnswer}
 use Rattle.search.specs.declared.SearchAnswer.the-variants as answer
-use Rattle.siglist.specs.Record.{signatureOf, entryCount, labelOf}
+use Rattle.sigrecord.specs.Record.{signatureOf, entryCount, labelOf}
 use Rattle.siglist.specs.List.{recordCount, listFits, recordAt, entriesOf, recordGood, checkList}
 
 -- How record i fits: what is not a well-formed record of the list fits nothing.

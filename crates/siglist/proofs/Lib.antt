@@ -1,4 +1,3 @@
 pub mod List
 pub mod Refusals
-mod Scalars
 pub mod Unique

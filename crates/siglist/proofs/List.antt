@@ -1,5 +1,5 @@
 -- Laws of the list: its areas as numbers, and one turn of the loop over its records.
-use mathlib.Core.Path.{_≡_, refl, sym, subst}
+use mathlib.Core.Path.{_≡_, refl, sym, subst, _∙_}
 use mathlib.Core.Bool.{Bool, true, false, cond, _&&_}
 use mathlib.Core.List.{List}
 use Prim.Native.Nat.{ℕ, suc, _+_, _*_, _-_, _<_, _≤_}
@@ -8,11 +8,12 @@ use lib.Dec.{leb}
 use lib.ListN.{length}
 use borrow.Author.Tests.{leb-true, le-leb}
 use Rattle.basis.proofs.Tests.{and-left, and-right}
+use Rattle.basis.proofs.Bytes.{part-length}
 use Rattle.siglist.specs.declared.Areas.{Areas}
 use Rattle.siglist.specs.declared.Header.{Header}
 use Rattle.siglist.specs.declared.Header.the-variants as header
 use Rattle.siglist.specs.declared.ListAnswer.the-variants as answer
-use Rattle.siglist.specs.List.{recordCount, recordsOffset, layoutCount, layoutOffset, listFits, areasOf, headerOf, AreasFit, recordGood, recordsFrom}
+use Rattle.siglist.specs.List.{recordCount, recordsOffset, layoutCount, layoutOffset, listFits, areasOf, headerOf, AreasFit, recordStart, recordAt, recordGood, recordsFrom}
 
 -- A list that fits has a whole header.
 pub header-fits : (l : List ℕ) → listFits l ≡ true → 8 ≤ length l
@@ -82,3 +83,8 @@ header-none l e = by-test (listFits l) e
     by-test : (t : Bool) → cond {A = Header} t (header.Fits (areasOf l)) header.DoesNotFit ≡ header.DoesNotFit → t ≡ false
     by-test true same = let z : _≡_ {A = ℕ} 0 1 = cc in absurd (omega arith)
     by-test false same = refl
+
+-- A record that lies in a list is whole.
+pub record-whole : (l : List ℕ) (a : Areas) (i : ℕ) → AreasFit l a → i < a .records → length (recordAt l i) ≡ 24
+record-whole l a i fits inside =
+    part-length (recordStart l i) (recordStart l i + 24) l (omega arith) ∙ omega arith

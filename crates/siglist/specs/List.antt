@@ -3,7 +3,7 @@ use mathlib.Core.Path.{_≡_}
 use Prim.Native.Nat.{ℕ, zero, suc, _+_, _*_, _≤_}
 use mathlib.Core.Bool.{Bool, cond, _&&_}
 use mathlib.Core.List.{List}
-use lib.Dec.{eqb, leb}
+use lib.Dec.{leb}
 use lib.ListN.{length}
 use Rattle.basis.specs.Bytes.{be16, part}
 use Rattle.siglist.specs.declared.Areas.{Areas}
@@ -11,8 +11,8 @@ use Rattle.siglist.specs.declared.Header.{Header}
 use Rattle.siglist.specs.declared.Header.the-variants as header
 use Rattle.siglist.specs.declared.ListAnswer.{ListAnswer}
 use Rattle.siglist.specs.declared.ListAnswer.the-variants as answer
-use Rattle.matching.specs.Gates.{entriesGood}
-use Rattle.siglist.specs.Record.{firstEntry, entryCount, scalarsGood}
+use Rattle.gates.specs.Gates.{entriesGood}
+use Rattle.sigrecord.specs.Record.{firstEntry, entryCount, scalarsGood}
 
 -- "Header of 8 bytes, four two-byte numbers: signature count, offset of records, layout entry count, offset of layout entries."
 abbrev pub recordCount : List ℕ → ℕ
@@ -77,10 +77,6 @@ layoutLies l first count =
 -- A record is well formed if no condition makes it bad.
 unfoldable pub recordGood : List ℕ → ℕ → Bool
 recordGood l i = scalarsGood (recordAt l i) && layoutLies l (firstEntry (recordAt l i)) (entryCount (recordAt l i))
-
--- A record given as its 24 bytes: it is whole, and no condition but those of its layout makes it bad.
-unfoldable pub scalarsWellFormed : List ℕ → Bool
-scalarsWellFormed r = eqb (length r) 24 && scalarsGood r
 
 -- Of so many records from this one on: all well formed, or the index of the first that is bad.
 unfoldable pub recordsFrom : List ℕ → ℕ → ℕ → ListAnswer

@@ -2,13 +2,13 @@
 ghost use mathlib.Core.Path.{_≡_};
 ghost use Prim.Native.Nat.{_+_, _*_, _≤_, _<_};
 ghost use lib.ListN.{length};
-ghost use Rattle.siglist.specs.List.{listFits, areasOf, headerOf, AreasFit, layoutLies, recordGood, scalarsWellFormed, checkList};
+ghost use Rattle.gates.specs.Gates.{entriesGood};
+ghost use Rattle.siglist.specs.List.{listFits, areasOf, headerOf, AreasFit, layoutLies, recordGood, checkList};
+use gates::entry_good;
 use numbers::be16;
 use numbers::wide;
-use raw::entries_good;
-use raw::scalars_good;
-
-mod raw;
+use sigrecord::RECORD;
+use sigrecord::scalars_well_formed;
 
 // A list is well formed, or refused: 9, or 10 with the index of its first bad record.
 pub enum ListAnswer {
@@ -18,8 +18,6 @@ pub enum ListAnswer {
 }
 
 const HEADER: usize = 8;
-
-pub const RECORD: usize = 24;
 
 // The numbers of a list's header.
 pub struct Areas {
@@ -73,6 +71,21 @@ pub fn read_header(list: &[u8]) -> Header
     Header::Fits(areas_of(list))
 }
 
+fn entries_good(entries: &[u8], count: usize) -> bool
+    requires { ⌜ 2 * count ≤ length (now entries) ⌝ }
+    ensures { λ r. ⌜ r ≡ entriesGood (now (entries .entry)) count ⌝ }
+{
+    let mut i = 0;
+    while i < count {
+        let at = 2 * i;
+        if !entry_good(entries[at], entries[at + 1]) {
+            return false;
+        }
+        i += 1;
+    }
+    true
+}
+
 fn layout_good(list: &[u8], areas: Areas, first: usize, count: usize) -> bool
     requires { ⌜ AreasFit (now list) areas ⌝ }
     ensures { λ r. ⌜ r ≡ layoutLies (now (list .entry)) first count ⌝ }
@@ -98,7 +111,7 @@ fn record_good(list: &[u8], areas: Areas, i: usize) -> bool
     let start = areas.records_offset + RECORD * i;
     let end = start + RECORD;
     let raw = &list[start..end];
-    if !scalars_good(raw) {
+    if !scalars_well_formed(raw) {
         return false;
     }
     layout_good(
@@ -107,16 +120,6 @@ fn record_good(list: &[u8], areas: Areas, i: usize) -> bool
         be16(raw[18], raw[19]) as usize,
         wide(raw[20]) as usize,
     )
-}
-
-// A record, given as its bytes, is well formed but for its layout.
-pub fn scalars_well_formed(raw: &[u8]) -> bool
-    ensures { λ r. ⌜ r ≡ scalarsWellFormed (now (raw .entry)) ⌝ }
-{
-    if raw.len() != RECORD {
-        return false;
-    }
-    scalars_good(raw)
 }
 
 // A list is well formed, or refused by 9, or by 10 with the index of its first bad record.

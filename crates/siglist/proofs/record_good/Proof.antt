@@ -1,5 +1,7 @@
 -- `siglist::record_good` meets its contract.
-use Rattle.siglist.specs.List.{recordGood}
+use Rattle.siglist.specs.List.{recordAt, recordGood}
+use Rattle.siglist.proofs.List.{record-whole}
+use Rattle.sigrecord.proofs.Scalars.{whole}
 use borrow.Author.Tests.{not-true, not-false}
 use Rattle.basis.specs.Bytes.{be16}
 use borrow.Author.Needs.{needs}
@@ -24,14 +26,15 @@ part-raw-start c = search needs
 part-raw-end : tie.Need-part-raw-end
 part-raw-end c = search needs
 
-scalars-good-requires : tie.Need-scalars-good-requires
-scalars-good-requires c κs = search needs
+scalars-well-formed-requires : tie.Need-scalars-well-formed-requires
+scalars-well-formed-requires c κs = search needs
 
 returns : tie.Need-returns
 unfolding recordGood
 returns c =
     let pre = c .before .before .before .before .before .pre in
-    rw (← pre .0 .recordsAt, ← c .before .scalars-good .ensures, not-true (c .before .scalars-good .result) (c .if1 .taken))
+    let a = c .before .before .before .before .before .args in
+    rw (← whole (recordAt (a .list .now) (a .i)) (record-whole (a .list .now) (a .areas) (a .i) (pre .0) (pre .1)), ← pre .0 .recordsAt, ← c .before .scalars-well-formed .ensures, not-true (c .before .scalars-well-formed .result) (c .if1 .taken))
 
 shared-slice-read-be16 : tie.Need-shared-slice-read-be16
 shared-slice-read-be16 c = search needs
@@ -61,10 +64,12 @@ returns-2 : tie.Need-returns-2
 unfolding recordGood be16
 returns-2 c =
     let pre = c .before .before .before .before .before .before .before .before .before .before .before .pre in
+    let a = c .before .before .before .before .before .before .before .before .before .before .before .args in
     rw (
+      ← whole (recordAt (a .list .now) (a .i)) (record-whole (a .list .now) (a .areas) (a .i) (pre .0) (pre .1)),
       ← pre .0 .recordsAt,
-      ← c .before .before .before .before .before .before .before .scalars-good .ensures,
-      not-false (c .before .before .before .before .before .before .before .scalars-good .result) (c .before .before .before .before .before .before .if1 .left),
+      ← c .before .before .before .before .before .before .before .scalars-well-formed .ensures,
+      not-false (c .before .before .before .before .before .before .before .scalars-well-formed .result) (c .before .before .before .before .before .before .if1 .left),
       c .layout-good .ensures,
       c .before .wide .ensures,
       c .before .before .before .be16 .ensures,
@@ -80,7 +85,7 @@ record-good-spec =
     sub-raw
     part-raw-start
     part-raw-end
-    scalars-good-requires
+    scalars-well-formed-requires
     returns
     shared-slice-read-be16
     shared-slice-read-be16-2

@@ -1,6 +1,6 @@
 -- `search::gates_at` meets its contract.
 use lib.Dec.{eqb}
-use Rattle.siglist.specs.Record.{entryCount, signatureOf}
+use Rattle.sigrecord.specs.Record.{entryCount, signatureOf}
 use Rattle.basis.proofs.Tests.{and-false}
 use Rattle.search.proofs.Scalars.{fails-version, fails-olen, fails-mss, fails-scale, fails-payload, window-decides}
 use Rattle.basis.specs.Bytes.{be16}

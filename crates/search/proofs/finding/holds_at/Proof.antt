@@ -1,5 +1,6 @@
 -- `search::holds_at` meets its contract.
-use Rattle.search.proofs.Fits.{layout-fails, bad-place, record-whole, scalars-decide}
+use Rattle.search.proofs.Fits.{layout-fails, bad-place, scalars-decide}
+use Rattle.siglist.proofs.List.{record-whole}
 use Rattle.basis.specs.Bytes.{be16}
 use lib.Dec.{leb}
 use Prim.Native.Nat.{_+_, _≤_}

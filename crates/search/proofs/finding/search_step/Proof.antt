@@ -2,7 +2,7 @@
 use Rattle.search.proofs.Rows.{keep-nothing}
 use Rattle.found.specs.Keep.{keep}
 use Rattle.siglist.specs.List.{recordAt}
-use Rattle.siglist.specs.Record.{labelOf}
+use Rattle.sigrecord.specs.Record.{labelOf}
 use Rattle.matching.specs.declared.SignatureFit.{SignatureFit}
 use mathlib.Core.Path.{sym, _∙_, ap}
 use borrow.Author.Needs.{needs}

@@ -2,7 +2,7 @@
 use mathlib.Core.Path.{_≡_}
 use Prim.Native.Nat.{ℕ, _+_, _*_, _%_, _<_}
 use native.Mathlib.Omega.{arith}
-use Rattle.siglist.specs.Record.{windowOf}
+use Rattle.sigrecord.specs.Record.{windowOf}
 use borrow.Author.Needs.{needs}
 use Rattle.search.proofs.finding.window_gate.Statement.{statement}
 use Rattle.search.proofs.finding.window_gate.Tie as tie

@@ -1,6 +1,6 @@
 -- `search::mss_of` meets its contract.
 use Rattle.basis.proofs.Rules.{cases}
-use Rattle.siglist.specs.Record.{mssOf}
+use Rattle.sigrecord.specs.Record.{mssOf}
 use Rattle.search.proofs.raw.mss_of.Statement.{statement}
 use Rattle.search.proofs.raw.mss_of.Tie as tie
 

@@ -1,6 +1,6 @@
 -- `search::payload_of` meets its contract.
 use Rattle.basis.proofs.Rules.{cases}
-use Rattle.siglist.specs.Record.{payloadOf}
+use Rattle.sigrecord.specs.Record.{payloadOf}
 use Rattle.search.proofs.raw.payload_of.Statement.{statement}
 use Rattle.search.proofs.raw.payload_of.Tie as tie
 

@@ -1,6 +1,6 @@
 -- `search::scale_of` meets its contract.
 use Rattle.basis.proofs.Rules.{cases}
-use Rattle.siglist.specs.Record.{scaleOf}
+use Rattle.sigrecord.specs.Record.{scaleOf}
 use Rattle.search.proofs.raw.scale_of.Statement.{statement}
 use Rattle.search.proofs.raw.scale_of.Tie as tie
 

@@ -1,5 +1,5 @@
 -- `search::signature_of` meets its contract.
-use Rattle.siglist.specs.Record.{signatureOf}
+use Rattle.sigrecord.specs.Record.{signatureOf}
 use Rattle.basis.specs.Bytes.{be16, be32}
 use borrow.Author.Needs.{needs}
 use Rattle.search.proofs.raw.signature_of.Statement.{statement}

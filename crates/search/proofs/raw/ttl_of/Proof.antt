@@ -1,6 +1,6 @@
 -- `search::ttl_of` meets its contract.
 use Rattle.basis.proofs.Rules.{cases}
-use Rattle.siglist.specs.Record.{ttlOf}
+use Rattle.sigrecord.specs.Record.{ttlOf}
 use Rattle.search.proofs.raw.ttl_of.Statement.{statement}
 use Rattle.search.proofs.raw.ttl_of.Tie as tie
 

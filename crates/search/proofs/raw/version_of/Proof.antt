@@ -1,6 +1,6 @@
 -- `search::version_of` meets its contract.
 use Rattle.basis.proofs.Rules.{cases}
-use Rattle.siglist.specs.Record.{versionOf}
+use Rattle.sigrecord.specs.Record.{versionOf}
 use Rattle.search.proofs.raw.version_of.Statement.{statement}
 use Rattle.search.proofs.raw.version_of.Tie as tie
 

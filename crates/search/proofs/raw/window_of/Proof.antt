@@ -1,6 +1,6 @@
 -- `search::window_of` meets its contract.
 use Rattle.basis.proofs.Rules.{cases}
-use Rattle.siglist.specs.Record.{windowOf}
+use Rattle.sigrecord.specs.Record.{windowOf}
 use borrow.Author.Needs.{needs}
 use Rattle.search.proofs.raw.window_of.Statement.{statement}
 use Rattle.search.proofs.raw.window_of.Tie as tie

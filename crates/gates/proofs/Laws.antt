@@ -1,0 +1,67 @@
+-- Laws of the layout gate: the entries of a layout one by one.
+use mathlib.Core.Path.{_≡_}
+use mathlib.Core.Bool.{Bool, true, false, _&&_}
+use mathlib.Core.List.{List}
+use Prim.Native.Nat.{ℕ, _+_, _*_, _<_}
+use lib.Dec.{eqb}
+use borrow.Author.Tests.{eq-eqb, ne-eqb}
+use Rattle.basis.specs.Bytes.{byteAt}
+use Rattle.basis.proofs.Tests.{none-below, one-more-below, fails-below}
+use Rattle.gates.specs.Gates.{entryGood, entriesGood, entriesMatch}
+
+module _ (kinds bytes entries : List ℕ) where
+  here : ℕ → Bool
+  here i = eqb (byteAt kinds i) (byteAt entries (2 * i)) && eqb (byteAt bytes i) (byteAt entries (2 * i + 1))
+
+  pub no-entry : entriesMatch kinds bytes entries 0 ≡ true
+  unfolding entriesMatch here
+  no-entry = none-below here
+
+  pub entry-matches
+      : (i : ℕ)
+      → byteAt kinds i ≡ byteAt entries (2 * i)
+      → byteAt bytes i ≡ byteAt entries (2 * i + 1)
+      → entriesMatch kinds bytes entries i ≡ true
+      → entriesMatch kinds bytes entries (i + 1) ≡ true
+  unfolding entriesMatch here
+  entry-matches i kind byte before =
+      one-more-below here i
+      (rw (eq-eqb (byteAt kinds i) (byteAt entries (2 * i)) kind, eq-eqb (byteAt bytes i) (byteAt entries (2 * i + 1)) byte))
+      before
+
+  pub kind-differs
+      : (count i : ℕ) → i < count → (byteAt kinds i ≡ byteAt entries (2 * i) → ⊥) → entriesMatch kinds bytes entries count ≡ false
+  unfolding entriesMatch here
+  kind-differs count i h differs =
+      fails-below here count i h (rw (ne-eqb (byteAt kinds i) (byteAt entries (2 * i)) differs))
+
+  pub byte-differs
+      : (count i : ℕ)
+      → i < count
+      → byteAt kinds i ≡ byteAt entries (2 * i)
+      → (byteAt bytes i ≡ byteAt entries (2 * i + 1) → ⊥)
+      → entriesMatch kinds bytes entries count ≡ false
+  unfolding entriesMatch here
+  byte-differs count i h kind differs =
+      fails-below here count i h
+      (rw (
+        eq-eqb (byteAt kinds i) (byteAt entries (2 * i)) kind,
+        ne-eqb (byteAt bytes i) (byteAt entries (2 * i + 1)) differs,
+      ))
+
+-- The entries of a signature, good one by one.
+module _ (entries : List ℕ) where
+  good : ℕ → Bool
+  good i = entryGood (byteAt entries (2 * i)) (byteAt entries (2 * i + 1))
+
+  pub none-bad : entriesGood entries 0 ≡ true
+  unfolding entriesGood good
+  none-bad = none-below good
+
+  pub one-more-good : (i : ℕ) → entryGood (byteAt entries (2 * i)) (byteAt entries (2 * i + 1)) ≡ true → entriesGood entries i ≡ true → entriesGood entries (i + 1) ≡ true
+  unfolding entriesGood good
+  one-more-good i here-good before = one-more-below good i here-good before
+
+  pub one-bad : (count i : ℕ) → i < count → entryGood (byteAt entries (2 * i)) (byteAt entries (2 * i + 1)) ≡ false → entriesGood entries count ≡ false
+  unfolding entriesGood good
+  one-bad count i h bad = fails-below good count i h bad

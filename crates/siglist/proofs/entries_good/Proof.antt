@@ -1,0 +1,78 @@
+-- `siglist::entries_good` meets its contract.
+use Rattle.gates.specs.Gates.{entryGood, entriesGood}
+use Rattle.basis.proofs.Tests.{none-below, one-more-below, fails-below}
+use Rattle.basis.specs.Bytes.{byteAt}
+use borrow.Author.Tests.{not-true, not-false}
+use native.Mathlib.Omega.{arith}
+use Prim.Native.Nat.{ℕ, _+_, _*_, _-_, _≤_}
+use mathlib.Core.Bool.{true}
+use mathlib.Core.Path.{_≡_, sym, _∙_}
+use borrow.Author.Needs.{needs}
+use Rattle.siglist.proofs.entries_good.Statement.{statement}
+use Rattle.siglist.proofs.entries_good.Tie as tie
+
+abbrev Inv-loop : tie.InvT-loop
+Inv-loop entries count i₀ i = (i ≤ count) × (entriesGood entries i ≡ true)
+
+abbrev μ-loop : tie.MeasureT-loop
+μ-loop entries count i₀ i = count - i
+
+loop-holds : tie.Need-loop-holds Inv-loop μ-loop
+unfolding entriesGood
+loop-holds c = (search needs, none-below _)
+
+mul-at : tie.Need-mul-at Inv-loop μ-loop
+mul-at c = search needs
+
+shared-slice-read-entry-good : tie.Need-shared-slice-read-entry-good Inv-loop μ-loop
+shared-slice-read-entry-good c = search needs
+
+add-entry-good : tie.Need-add-entry-good Inv-loop μ-loop
+add-entry-good c = search needs
+
+shared-slice-read-entry-good-2 : tie.Need-shared-slice-read-entry-good-2 Inv-loop μ-loop
+shared-slice-read-entry-good-2 c = search needs
+
+entry-good-requires : tie.Need-entry-good-requires Inv-loop μ-loop
+entry-good-requires c κs = search needs
+
+returns : tie.Need-returns Inv-loop μ-loop
+unfolding entriesGood
+returns c =
+    let e = c .before .before .before .before .before .before .before .args .entries .now in
+    sym (fails-below (λ (i : ℕ). entryGood (byteAt e (2 * i)) (byteAt e (2 * i + 1))) (c .before .before .before .before .before .before .before .args .count) (c .before .before .before .before .before .loop .i) (c .before .before .before .before .loop-test .taken) (sym (c .before .entry-good .ensures) ∙ not-true (c .before .entry-good .result) (c .if1 .taken)))
+
+add-i : tie.Need-add-i Inv-loop μ-loop
+add-i c = search needs
+
+loop-less : tie.Need-loop-less Inv-loop μ-loop
+loop-less c = search needs
+
+loop-again : tie.Need-loop-again Inv-loop μ-loop
+unfolding entriesGood
+loop-again c =
+    let e = c .before .before .before .before .before .before .before .args .entries .now in
+    (search needs, one-more-below (λ (i : ℕ). entryGood (byteAt e (2 * i)) (byteAt e (2 * i + 1))) (c .before .before .before .before .before .loop .i) (sym (c .before .entry-good .ensures) ∙ not-false (c .before .entry-good .result) (c .if1 .left)) (c .before .before .before .before .before .loop .inv .1))
+
+returns-2 : tie.Need-returns-2 Inv-loop μ-loop
+returns-2 c =
+    let end : c .before .loop .i ≡ c .before .before .before .args .count = omega arith in
+    sym (rw end at (c .before .loop .inv .1))
+
+pub entries-good-spec : {M : Type 1} → statement M
+entries-good-spec =
+    tie.close
+    (tie.spec
+    Inv-loop
+    μ-loop
+    loop-holds
+    mul-at
+    shared-slice-read-entry-good
+    add-entry-good
+    shared-slice-read-entry-good-2
+    entry-good-requires
+    returns
+    add-i
+    loop-less
+    loop-again
+    returns-2)
