@@ -35,17 +35,17 @@ pub fn is_nothing(fit: SignatureFit) -> bool
 pub fn keep_fit(held: Found, label: u16, fit: SignatureFit) -> Found
     ensures { λ r. ⌜ r ≡ keep held label fit ⌝ }
 {
-    match held {
-        Found::Exact(kept) => Found::Exact(kept),
-        Found::Nothing => match fit {
-            SignatureFit::Nothing => Found::Nothing,
-            SignatureFit::Exact => Found::Exact(label),
-            SignatureFit::Fuzzy(reason) => Found::Fuzzy(label, reason),
+    match fit {
+        SignatureFit::Nothing => held,
+        SignatureFit::Exact => match held {
+            Found::Nothing => Found::Exact(label),
+            Found::Exact(kept) => Found::Exact(kept),
+            Found::Fuzzy(_, _) => Found::Exact(label),
         },
-        Found::Fuzzy(kept, why) => match fit {
-            SignatureFit::Nothing => Found::Fuzzy(kept, why),
-            SignatureFit::Exact => Found::Exact(label),
-            SignatureFit::Fuzzy(_) => Found::Fuzzy(kept, why),
+        SignatureFit::Fuzzy(reason) => match held {
+            Found::Nothing => Found::Fuzzy(label, reason),
+            Found::Exact(kept) => Found::Exact(kept),
+            Found::Fuzzy(kept, why) => Found::Fuzzy(kept, why),
         },
     }
 }

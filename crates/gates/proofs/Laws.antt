@@ -6,7 +6,7 @@ use Prim.Native.Nat.{ℕ, _+_, _*_, _<_}
 use lib.Dec.{eqb}
 use borrow.Author.Tests.{eq-eqb, ne-eqb}
 use Rattle.basis.specs.Bytes.{byteAt}
-use Rattle.basis.proofs.Tests.{none-below, one-more-below, fails-below}
+use Rattle.basis.proofs.Tests.{and-false, none-below, one-more-below, fails-below}
 use Rattle.gates.specs.Gates.{entryGood, entriesGood, entriesMatch}
 
 module _ (kinds bytes entries : List ℕ) where
@@ -38,16 +38,12 @@ module _ (kinds bytes entries : List ℕ) where
   pub byte-differs
       : (count i : ℕ)
       → i < count
-      → byteAt kinds i ≡ byteAt entries (2 * i)
       → (byteAt bytes i ≡ byteAt entries (2 * i + 1) → ⊥)
       → entriesMatch kinds bytes entries count ≡ false
   unfolding entriesMatch here
-  byte-differs count i h kind differs =
+  byte-differs count i h differs =
       fails-below here count i h
-      (rw (
-        eq-eqb (byteAt kinds i) (byteAt entries (2 * i)) kind,
-        ne-eqb (byteAt bytes i) (byteAt entries (2 * i + 1)) differs,
-      ))
+      (rw (ne-eqb (byteAt bytes i) (byteAt entries (2 * i + 1)) differs) (and-false (eqb (byteAt kinds i) (byteAt entries (2 * i)))))
 
 -- The entries of a signature, good one by one.
 module _ (entries : List ℕ) where

@@ -1,8 +1,9 @@
 // The gates of matching.rs: option length, MSS, scale and layout. Those of version, window and payload are in distances.
 ghost use mathlib.Core.Path.{_≡_};
 ghost use mathlib.Core.Bool.{_&&_};
-ghost use Prim.Native.Nat.{_*_, _≤_};
+ghost use Prim.Native.Nat.{_*_, _≤_, _<_};
 ghost use lib.ListN.{length};
+ghost use Rattle.basis.specs.Bytes.{byteAt};
 ghost use Rattle.gates.specs.Gates.{olenMatches, mssMatches, scaleMatches, entryGood, entriesGood, entriesMatch, layoutMatches};
 use tcp::Mss;
 use tcp::Wscale;
@@ -51,8 +52,19 @@ pub fn entry_good(kind: u8, byte: u8) -> bool
     kind == 0
 }
 
-// Each kind and byte of an observation's layout against the entries of a signature, kind before byte, in one walk with whether
-// the entries are good.
+// The same of an entry whose byte was read: its kind is read only where that decides.
+fn kind_allows(entries: &[u8], at: usize, byte: u8) -> bool
+    requires { ⌜ at < length (now entries) ⌝ }
+    ensures { λ r. ⌜ r ≡ entryGood (byteAt (now (entries .entry)) at) byte ⌝ }
+{
+    if byte == 0 {
+        return true;
+    }
+    entries[at] == 0
+}
+
+// Each kind and byte of an observation's layout against the entries of a signature, which lie kind before byte, in one walk with
+// whether the entries are good.
 fn entries_match(kinds: &[u8], bytes: &[u8], entries: &[u8], count: usize) -> bool
     requires { ⌜ (count ≤ length (now kinds)) × (count ≤ length (now bytes)) × (2 * count ≤ length (now entries)) ⌝ }
     ensures { λ r. ⌜ r ≡ entriesMatch (now (kinds .entry)) (now (bytes .entry)) (now (entries .entry)) count && entriesGood (now (entries .entry)) count ⌝ }
@@ -60,15 +72,14 @@ fn entries_match(kinds: &[u8], bytes: &[u8], entries: &[u8], count: usize) -> bo
     let mut i = 0;
     while i < count {
         let at = 2 * i;
-        let kind = entries[at];
         let byte = entries[at + 1];
-        if kinds[i] != kind {
-            return false;
-        }
         if bytes[i] != byte {
             return false;
         }
-        if !entry_good(kind, byte) {
+        if !kind_allows(entries, at, byte) {
+            return false;
+        }
+        if kinds[i] != entries[at] {
             return false;
         }
         i += 1;

@@ -23,9 +23,6 @@ loop-holds c = (search needs, no-entry _ _ _, none-bad _)
 mul-at : tie.Need-mul-at Inv-loop μ-loop
 mul-at c = search needs
 
-shared-slice-read-kind : tie.Need-shared-slice-read-kind Inv-loop μ-loop
-shared-slice-read-kind c = search needs
-
 add-byte : tie.Need-add-byte Inv-loop μ-loop
 add-byte c = search needs
 
@@ -36,19 +33,24 @@ shared-slice-read-if1 : tie.Need-shared-slice-read-if1 Inv-loop μ-loop
 shared-slice-read-if1 c = search needs
 
 returns : tie.Need-returns Inv-loop μ-loop
-returns c = rw (kind-differs (c .before .before .before .before .before .before .before .before .before .args .kinds .now) (c .before .before .before .before .before .before .before .before .before .args .bytes .now) (c .before .before .before .before .before .before .before .before .before .args .entries .now) (c .before .before .before .before .before .before .before .before .before .args .count) (c .before .before .before .before .before .loop .i) (c .before .before .before .before .loop-test .taken) (c .if1 .taken))
+returns c = rw (byte-differs (c .before .before .before .before .before .before .before .before .args .kinds .now) (c .before .before .before .before .before .before .before .before .args .bytes .now) (c .before .before .before .before .before .before .before .before .args .entries .now) (c .before .before .before .before .before .before .before .before .args .count) (c .before .before .before .before .loop .i) (c .before .before .before .loop-test .taken) (c .if1 .taken))
 
-shared-slice-read-if2 : tie.Need-shared-slice-read-if2 Inv-loop μ-loop
-shared-slice-read-if2 c = search needs
+kind-allows-requires : tie.Need-kind-allows-requires Inv-loop μ-loop
+kind-allows-requires c κs = search needs
 
 returns-2 : tie.Need-returns-2 Inv-loop μ-loop
-returns-2 c = rw (byte-differs (c .before .before .before .before .before .before .before .before .before .before .before .args .kinds .now) (c .before .before .before .before .before .before .before .before .before .before .before .args .bytes .now) (c .before .before .before .before .before .before .before .before .before .before .before .args .entries .now) (c .before .before .before .before .before .before .before .before .before .before .before .args .count) (c .before .before .before .before .before .before .before .loop .i) (c .before .before .before .before .before .before .loop-test .taken) (c .before .before .if1 .left) (c .if2 .taken))
+returns-2 c =
+    let a = c .before .before .before .before .before .before .before .before .before .before .args in
+    rw (one-bad (a .entries .now) (a .count) (c .before .before .before .before .before .before .loop .i) (c .before .before .before .before .before .loop-test .taken) (sym (c .before .kind-allows .ensures) ∙ not-true (c .before .kind-allows .result) (c .if2 .taken))) (sym (and-false (entriesMatch (a .kinds .now) (a .bytes .now) (a .entries .now) (a .count))))
 
-entry-good-requires : tie.Need-entry-good-requires Inv-loop μ-loop
-entry-good-requires c κs = search needs
+shared-slice-read-if3 : tie.Need-shared-slice-read-if3 Inv-loop μ-loop
+shared-slice-read-if3 c = search needs
+
+shared-slice-read-if3-2 : tie.Need-shared-slice-read-if3-2 Inv-loop μ-loop
+shared-slice-read-if3-2 c = search needs
 
 returns-3 : tie.Need-returns-3 Inv-loop μ-loop
-returns-3 c = rw (one-bad (c .before .before .before .before .before .before .before .before .before .before .before .before .before .args .entries .now) (c .before .before .before .before .before .before .before .before .before .before .before .before .before .args .count) (c .before .before .before .before .before .before .before .before .before .loop .i) (c .before .before .before .before .before .before .before .before .loop-test .taken) (sym (c .before .entry-good .ensures) ∙ not-true (c .before .entry-good .result) (c .if3 .taken))) (sym (and-false (entriesMatch (c .before .before .before .before .before .before .before .before .before .before .before .before .before .args .kinds .now) (c .before .before .before .before .before .before .before .before .before .before .before .before .before .args .bytes .now) (c .before .before .before .before .before .before .before .before .before .before .before .before .before .args .entries .now) (c .before .before .before .before .before .before .before .before .before .before .before .before .before .args .count))))
+returns-3 c = rw (kind-differs (c .before .before .before .before .before .before .before .before .before .before .before .before .before .args .kinds .now) (c .before .before .before .before .before .before .before .before .before .before .before .before .before .args .bytes .now) (c .before .before .before .before .before .before .before .before .before .before .before .before .before .args .entries .now) (c .before .before .before .before .before .before .before .before .before .before .before .before .before .args .count) (c .before .before .before .before .before .before .before .before .before .loop .i) (c .before .before .before .before .before .before .before .before .loop-test .taken) (c .if3 .taken))
 
 add-i : tie.Need-add-i Inv-loop μ-loop
 add-i c = search needs
@@ -61,8 +63,8 @@ loop-again c =
     let a = c .before .before .before .before .before .before .before .before .before .before .before .before .before .args in
     let l = c .before .before .before .before .before .before .before .before .before .loop in (
       search needs,
-      entry-matches (a .kinds .now) (a .bytes .now) (a .entries .now) (l .i) (c .before .before .before .before .if1 .left) (c .before .before .if2 .left) (l .inv .1),
-      one-more-good (a .entries .now) (l .i) (sym (c .before .entry-good .ensures) ∙ not-false (c .before .entry-good .result) (c .if3 .left)) (l .inv .2),
+      entry-matches (a .kinds .now) (a .bytes .now) (a .entries .now) (l .i) (c .if3 .left) (c .before .before .before .before .before .if1 .left) (l .inv .1),
+      one-more-good (a .entries .now) (l .i) (sym (c .before .before .before .before .kind-allows .ensures) ∙ not-false (c .before .before .before .before .kind-allows .result) (c .before .before .before .if2 .left)) (l .inv .2),
     )
 
 returns-4 : tie.Need-returns-4 Inv-loop μ-loop
@@ -78,14 +80,14 @@ entries-match-spec =
     μ-loop
     loop-holds
     mul-at
-    shared-slice-read-kind
     add-byte
     shared-slice-read-byte
     shared-slice-read-if1
     returns
-    shared-slice-read-if2
+    kind-allows-requires
     returns-2
-    entry-good-requires
+    shared-slice-read-if3
+    shared-slice-read-if3-2
     returns-3
     add-i
     loop-less
