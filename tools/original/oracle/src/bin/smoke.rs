@@ -1,9 +1,6 @@
 //! The whole example of document 01 and some of its values, asked of the original.
-//! Also the windows in which instructions are counted: calls of one function, N and then 2 N times.
 
-use huginn_net_tcp::ConnectionTracker;
 use oracle::*;
-use std::hint::black_box;
 
 const A: [u8; 44] = [
     0x45, 0, 0, 0x2c, 0, 0, 0x40, 0, 0x40, 6, 0, 0, 0, 0, 0, 0, 0, 0, 0, 0, //
@@ -12,13 +9,6 @@ const A: [u8; 44] = [
 
 /// Any version, Value 64, MSS any, window MSS x 4, scale any, layout MSS, quirks 0x2, payload empty.
 const RECORD: [u8; 24] = [0, 0, 64, 0, 0, 0, 0, 0, 3, 0, 4, 0, 0, 0, 0, 0, 0, 2, 0, 0, 1, 0, 0, 7];
-
-/// A SYN as Linux sends it: MSS, SACK permitted, timestamps, no-op, scale.
-const LINUX: [u8; 60] = [
-    0x45, 0, 0, 0x3c, 0x1c, 0x46, 0x40, 0, 0x40, 6, 0, 0, 10, 0, 0, 1, 10, 0, 0, 2, //
-    0xd4, 0x31, 0, 80, 0x5d, 0x1f, 2, 9, 0, 0, 0, 0, 0xa0, 2, 0xfa, 0xf0, 0, 0, 0, 0, //
-    2, 4, 5, 0xb4, 4, 2, 8, 10, 0x11, 0x22, 0x33, 0x44, 0, 0, 0, 0, 1, 3, 3, 7,
-];
 
 fn main() {
     let Observed::Syn(a) = observe(&A, None) else { panic!("packet A is a SYN") };
@@ -53,47 +43,4 @@ fn main() {
     bytes::put_signature(&mut record, &mut [0; 80], &text).expect("a record holds it");
     assert_eq!(record[..22], RECORD[..22]);
     println!("SYN+ACK with peer MSS 12: synack {answer}");
-
-    count();
-}
-
-fn count() {
-    const CALLS: usize = 100;
-    let mut tracker = ConnectionTracker::new(1);
-    let mut out = [0u8; bytes::ANSWER];
-    let Observed::Syn(linux) = observe(&LINUX, None) else { panic!("a SYN") };
-    // windows 0, 1: the original's own entry, with one tracker for all calls
-    window(CALLS, || drop(black_box(process(black_box(&LINUX), &mut tracker))));
-    // windows 2, 3: observe, with a tracker of its own for each call
-    window(CALLS, || drop(black_box(observe(black_box(&LINUX), None))));
-    // windows 4, 5: the call for C, which also writes the bytes
-    window(CALLS, || unsafe {
-        c::original_observe(black_box(LINUX.as_ptr()), LINUX.len(), 0, 0, out.as_mut_ptr());
-    });
-    // windows 6, 7: the window multiplier of the observation
-    window(CALLS, || {
-        black_box(black_box(&linux).window_multiplier());
-    });
-}
-
-fn window(calls: usize, mut call: impl FnMut()) {
-    for times in [calls, 2 * calls] {
-        bench_begin();
-        for _ in 0..times {
-            call();
-        }
-        bench_end();
-    }
-}
-
-#[unsafe(no_mangle)]
-#[inline(never)]
-extern "C" fn bench_begin() {
-    black_box(1);
-}
-
-#[unsafe(no_mangle)]
-#[inline(never)]
-extern "C" fn bench_end() {
-    black_box(2);
 }
