@@ -25,7 +25,7 @@ def answered():
     yield "SYN+ACK, 36 hops", v4(tcp(flags=0x12, ack=1), ttl=28), "synack fuzzy 7"
     yield "SYN+ACK, 35 hops", v4(tcp(flags=0x12, ack=1), ttl=29), "synack exact 7"
     yield "SYN+ACK, TTL above", v4(tcp(flags=0x12, ack=1), ttl=65), "synack fuzzy 7"
-    yield "SYN+ACK, acknowledgement 0", v4(tcp(flags=0x12)), "synack none"
+    yield "SYN+ACK, acknowledgment 0", v4(tcp(flags=0x12)), "synack none"
     yield "version 6, SYN+ACK", v6(tcp(flags=0x12, ack=1)), "synack exact 7"
     for flags in (0x10, 0x01, 0x04, 0x11, 0x14, 0x18):
         yield f"flags {flags:#x}", v4(tcp(flags=flags, ack=1)), "nothing"

@@ -21,8 +21,8 @@ use Rattle.flow.specs.declared.Reading.{Reading}
 use Rattle.ip.specs.declared.Refusal.the-variants as refusal
 use Rattle.flow.specs.Flags.{isSet, flagsInvalid, isSynType, isSynAckType}
 
--- The quirks of a TCP header, added to those of the IP header, by its flags, sequence number, acknowledgment number and urgent
--- pointer: ecn; seq- (sequence number 0); ack- (ACK with number 0) and ack+ (a number without ACK or RST); urgf+ (URG) and
+-- The quirks of a TCP header (document 01, module 6; flow.rs), added to those of the IP header, by its flags, sequence number,
+-- acknowledgment number and urgent pointer: ecn (ECE or CWR); seq- (sequence number 0); ack- (ACK with number 0) and ack+ (a number without ACK or RST); urgf+ (URG) and
 -- uptr+ (a pointer without URG); pushf+ (PSH).
 unfoldable pub headerQuirks : ℕ → ℕ → ℕ → ℕ → QuirkSet → QuirkSet
 headerQuirks flags sequence acknowledgment urgent q =

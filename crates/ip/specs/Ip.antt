@@ -21,7 +21,7 @@ use Rattle.ip.specs.declared.Refusal.the-variants as refusal
 
 -- ---- IPv4
 
--- The quirks of an IPv4 header, by its ECN bits, its reserved flag, Don't Fragment and its identification:
+-- The quirks of an IPv4 header (document 01, module 6; flow.rs), by its ECN bits, its reserved flag, Don't Fragment and its identification:
 -- ecn; 0+ (a must-be-zero bit is set); df; id+ (df, and an identification); id- (neither).
 unfoldable pub ipv4Quirks : ℕ → ℕ → ℕ → ℕ → QuirkSet
 ipv4Quirks ecn reserved df identification =
@@ -58,7 +58,7 @@ readIpv4 p =
 
 -- ---- IPv6
 
--- The quirks of an IPv6 header, by its flow label and the ECN bits of its traffic class.
+-- The quirks of an IPv6 header (the same), by its flow label and the ECN bits of its traffic class.
 unfoldable pub ipv6Quirks : ℕ → ℕ → QuirkSet
 ipv6Quirks flowLabel ecn = addIf (not (eqb ecn 0)) quirk.Ecn (addIf (not (eqb flowLabel 0)) quirk.FlowID empty)
 

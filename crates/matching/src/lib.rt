@@ -1,4 +1,4 @@
-// matching.rs: how an observation fits a signature.
+// matching.rs: how an observation fits a signature. Its gates are in `gates` and `distances`; `search` tests them on a record's bytes.
 ghost use mathlib.Core.Path.{_≡_};
 ghost use Rattle.matching.specs.Tolerance.{maskedQuirks, quirksFit, judgeInRange, judge};
 ghost use Rattle.matching.specs.Fit.{featuresOf, toleranceOf};
@@ -43,7 +43,7 @@ pub struct Features {
     pub count: usize,
 }
 
-// The quirks that had to be tolerated: `Option<QuirksFit>`.
+// The quirks that had to be tolerated: the original's `QuirksFit`.
 pub struct Tolerated {
     // Shown by the traffic, not declared by the signature.
     pub added: QuirkSet,
@@ -51,6 +51,7 @@ pub struct Tolerated {
     pub missing: QuirkSet,
 }
 
+// `Option<QuirksFit>`.
 pub enum QuirksFit {
     Rejected,
     Tolerated(Tolerated),

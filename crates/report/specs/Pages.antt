@@ -1,4 +1,4 @@
--- The output of a bundle, and how it is cut into pages of 4,096 bytes.
+-- The output of a bundle, and how it is cut into pages of the caller's size.
 use mathlib.Core.Path.{_≡_}
 use Prim.Native.Nat.{ℕ, zero, suc, _+_}
 use mathlib.Core.Bool.{Bool, cond}

@@ -81,7 +81,8 @@ fn head_page(bundle: &[u8], page: &mut [u8]) -> Progress
     put_lines(bundle, progress, page)
 }
 
-// The first page of a bundle's output; `longer`: the input goes on past the bundle.
+// The first page of a bundle's output; `longer`: the input goes on past the bundle. A page takes a line while 19 bytes are left, the
+// longest line; a shorter page takes nothing, and says that nothing is left.
 pub fn first_page(bundle: &[u8], longer: bool, page: &mut [u8]) -> Progress
     ensures { λ r. ⌜ Paged (now (page .entry)) (firstPage (now (bundle .entry)) longer (length (now (page .entry)))) r (now (page .exit)) ⌝ }
 {

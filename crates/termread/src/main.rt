@@ -66,6 +66,7 @@ fn read_input(buffer: &mut [u8]) -> Input
     }
 }
 
+// What is filled always fits the page (report/proofs/Whole.antt); the test is for the slice.
 fn write_page(page: &[u8], filled: usize) {
     if filled <= page.len() {
         io::write_all(STDOUT_FILENO, &page[0..filled]);

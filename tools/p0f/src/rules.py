@@ -10,7 +10,7 @@ READING = {
     "proper size": "MSS, scale, SACK permitted and timestamps have their proper size whatever their length byte says; another shows bad",
     "damage": "an option past the end, a SACK outside 10 to 34 bytes, another kind outside 2 to 40: the walk ends and shows bad",
     "many options": "the walk ends after 24 options and shows bad",
-    "ack bit": "ack+ needs an odd first byte of the acknowledgement",
+    "ack bit": "ack+ needs an odd first byte of the acknowledgment",
     "last byte": "opt+ does not see the last byte",
     "reserved bit": "the lowest of the four bits below the data offset shows ecn",
     "last stamp": "the last timestamp counts, not any zero one",
