@@ -27,7 +27,7 @@ extern "C" {
 uint64_t termread_check_list(const uint8_t *list, size_t list_length);
 
 /* The answer of a packet (from its IP header on) against a list that termread_check_list found good. On another list it is still
-   safe, and what is not a well-formed record of the list fits nothing. */
+   safe, and what is not a well-formed record of the list does not fit. */
 uint64_t termread_answer_checked(const uint8_t *packet, size_t packet_length, uint16_t peer_mss, const uint8_t *list,
                                  size_t list_length);
 

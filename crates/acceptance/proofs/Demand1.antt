@@ -151,7 +151,7 @@ of-held : Held
 of-held =
     record {
       is-exact = λ f. let u = found.is-exact-one f in record { asks-nothing = tt; one = u; is = u .meets };
-      is-nothing = λ f. let u = found.is-nothing-one f in record { asks-nothing = tt; one = u; is = u .meets };
+      is-none = λ f. let u = found.is-none-one f in record { asks-nothing = tt; one = u; is = u .meets };
       keep-fit = λ held label f. let u = found.keep-fit-one held label f in record { asks-nothing = tt; one = u; is = u .meets };
     }
 

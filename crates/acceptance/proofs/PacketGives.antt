@@ -23,8 +23,7 @@ use Rattle.flow.specs.declared.Answer.the-variants as answer
 use Rattle.flow.specs.declared.Reading.{Reading}
 use Rattle.flow.specs.Flags.{maskedType, flagsInvalid, isSynType, isSynAckType}
 use Rattle.flow.specs.Tcp.{readTcp}
-use Rattle.flow.specs.Reading.{tcpPart, afterIp, readPacket}
-use Rattle.flow.specs.Refusals.{refusalOf}
+use Rattle.flow.specs.Reading.{tcpPart, afterIp, readPacket, refusalOf}
 use Rattle.acceptance.specs.Refusals.{part4, part6, FlagsByte, Refused, Gives, Answered}
 
 -- What the IP stage gives: a refusal under 7, or facts whose TCP part is the packet's.

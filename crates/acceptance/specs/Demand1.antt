@@ -61,7 +61,7 @@ use Rattle.observable.proofs.TcpObservation.window_multiplier.Reads as window-m
 use Rattle.observable.proofs.TcpObservation.own_timestamp_is_nonzero.Reads as own-timestamp'
 -- one_option
 use Rattle.one_option.specs.Options.{asked}
-use Rattle.one_option.specs.See.{laterMss, laterScale, shownQuirks}
+use Rattle.one_option.specs.See.{laterMss, laterScale, laterQuirks}
 use Rattle.one_option.proofs.asked_bytes.Reads as asked-bytes'
 use Rattle.one_option.proofs.later_mss.Reads as later-mss'
 use Rattle.one_option.proofs.later_scale.Reads as later-scale'
@@ -85,7 +85,7 @@ use Rattle.flow.proofs.read_packet.Reads as read-packet'
 use Rattle.distances.specs.declared.SigPayload.{SigPayload}
 use Rattle.distances.specs.declared.SigVersion.{SigVersion}
 use Rattle.distances.specs.declared.WindowSize.{WindowSize}
-use Rattle.distances.specs.Gates.{versionMatches, windowMatches, payloadMatches}
+use Rattle.distances.specs.DistanceGates.{versionMatches, windowMatches, payloadMatches}
 use Rattle.distances.specs.Distances.{ttlFit, reportedHops}
 use Rattle.distances.proofs.ip_version_matches.Reads as ip-version-matches'
 use Rattle.distances.proofs.ttl_fit.Reads as ttl-fit'
@@ -115,9 +115,9 @@ use Rattle.siglist.proofs.check_list.Reads as check-list'
 -- found
 use Rattle.matching.specs.declared.SignatureFit.{SignatureFit}
 use Rattle.found.specs.declared.Found.{Found}
-use Rattle.found.specs.Keep.{fitsNothing, keep, isExact}
+use Rattle.found.specs.Keep.{isNone, keep, isExact}
 use Rattle.found.proofs.is_exact.Reads as is-exact'
-use Rattle.found.proofs.is_nothing.Reads as is-nothing'
+use Rattle.found.proofs.is_none.Reads as is-none'
 use Rattle.found.proofs.keep_fit.Reads as keep-fit'
 -- search
 use Rattle.search.specs.Search.{searchAll, searchList}
@@ -216,7 +216,7 @@ pub record OneOption : Type 0 where
       : (κs : Lfts 1) (kind : ℕ) (own : RefT (List ℕ)) (syn : Bool) (q : QuirkSet)
       → Answers (later-quirks'.Pre κs) (later-quirks'.Post κs)
       (kind, (own, (syn, (q, tt))))
-      (shownQuirks syn q (record { kind = kind; own = now own }))
+      (laterQuirks syn q (record { kind = kind; own = now own }))
 
 pub record Options : Type 0 where
   pub walk-options
@@ -271,7 +271,7 @@ pub record Siglist : Type 0 where
 
 pub record Held : Type 0 where
   pub is-exact : (f : Found) → Answers (is-exact'.Pre tt) (is-exact'.Post tt) (f, tt) (isExact f)
-  pub is-nothing : (f : SignatureFit) → Answers (is-nothing'.Pre tt) (is-nothing'.Post tt) (f, tt) (fitsNothing f)
+  pub is-none : (f : SignatureFit) → Answers (is-none'.Pre tt) (is-none'.Post tt) (f, tt) (isNone f)
   pub keep-fit
       : (held : Found) (label : ℕ) (f : SignatureFit)
       → Answers (keep-fit'.Pre tt) (keep-fit'.Post tt) (held, (label, (f, tt))) (keep held label f)

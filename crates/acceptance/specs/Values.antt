@@ -14,12 +14,11 @@ use Rattle.syn_options.specs.declared.OptionsAnswer.the-variants as options
 use Rattle.syn_options.specs.Walk.{walkOf, parseOptionsRaw}
 use Rattle.observable.specs.declared.TcpObservation.{TcpObservation}
 use Rattle.flow.specs.declared.Answer.the-variants as answer
-use Rattle.flow.specs.Reading.{readPacket}
-use Rattle.flow.specs.Refusals.{refusalOf}
+use Rattle.flow.specs.Reading.{readPacket, refusalOf}
 use Rattle.matching.specs.declared.Hops.the-variants as hops
 use Rattle.distances.specs.declared.TtlFit.the-variants as ttlfit
 use Rattle.distances.specs.declared.WindowSize.the-variants as wsize
-use Rattle.distances.specs.Gates.{windowMatches}
+use Rattle.distances.specs.DistanceGates.{windowMatches}
 use Rattle.distances.specs.Distances.{initialTtl, ttlFit}
 use Rattle.found.specs.declared.Found.the-variants as found
 use Rattle.siglist.specs.declared.ListAnswer.the-variants as list
@@ -139,7 +138,7 @@ pub record ThreeAnswers : Type 0 where
   pub fuzzy
       : searchList (readPacket (set packetA 8 0x1c) mss.Absent .observation) exampleList
       ≡ search.Found (found.Fuzzy 7 (record { hops = hops.OutOfRange 36; added = setOf 0; missing = setOf 0 }))
-  pub none : searchList (readPacket (set packetA 34 0x17) mss.Absent .observation) exampleList ≡ search.Found found.Nothing
+  pub none : searchList (readPacket (set packetA 34 0x17) mss.Absent .observation) exampleList ≡ search.Found found.None
 
 -- "The whole example", as a bundle: its header, the list behind it, then A, B (A with TTL byte 1c) and C, peer absent; and its four lines.
 abbrev pub exampleBundle : List ℕ

@@ -10,15 +10,15 @@ use Rattle.tcp.specs.declared.Mss.the-variants as mss
 use Rattle.syn_options.specs.declared.Walked.{Walked}
 use Rattle.syn_options.specs.Walk.{startWalk, walkOf}
 use Rattle.ip.specs.declared.IpFacts.{IpFacts}
-use Rattle.flow.specs.Tcp.{headerQuirks, shownQuirks, payloadClass, observationOf, observed, knownPeer, readTcp}
+use Rattle.flow.specs.Tcp.{headerQuirks, quirksOfHeaders, payloadClass, observationOf, observationFrom, knownPeer, readTcp}
 use Rattle.alike.specs.Tcp.{AlikeTcp}
 use Rattle.alike.proofs.Options.{like-row, walk-like}
 use Rattle.alike.proofs.Cut.{first-like}
 
 module _ (f : IpFacts) (t u : List ℕ) (peer : Mss) (a : AlikeTcp t u) where
   -- Both headers show the same quirks.
-  quirks-alike : (q : QuirkSet) → shownQuirks t q ≡ shownQuirks u q
-  unfolding shownQuirks headerQuirks
+  quirks-alike : (q : QuirkSet) → quirksOfHeaders t q ≡ quirksOfHeaders u q
+  unfolding quirksOfHeaders headerQuirks
   quirks-alike q = rw (a .control, a .sequence, a .acknowledgment, a .urgentPointer)
 
   -- The walks over the options end alike.
@@ -32,11 +32,11 @@ module _ (f : IpFacts) (t u : List ℕ) (peer : Mss) (a : AlikeTcp t u) where
   unfolding observationOf payloadClass
   rest-alike w peer = rw (a .window, a .dataOffset, a .sameLength)
 
-  observed-alike : (syn : Bool) (peer : Mss) → observed f t syn peer ≡ observed f u syn peer
-  unfolding observed
+  observed-alike : (syn : Bool) (peer : Mss) → observationFrom f t syn peer ≡ observationFrom f u syn peer
+  unfolding observationFrom
   observed-alike syn peer =
-      rw (quirks-alike (f .quirks), options-alike syn (shownQuirks u (f .quirks)))
-      (rest-alike (walkOf false syn (shownQuirks u (f .quirks)) (tcp.options u)) peer)
+      rw (quirks-alike (f .quirks), options-alike syn (quirksOfHeaders u (f .quirks)))
+      (rest-alike (walkOf false syn (quirksOfHeaders u (f .quirks)) (tcp.options u)) peer)
 
   read-tcp-alike : readTcp f t peer ≡ readTcp f u peer
   unfolding readTcp

@@ -50,11 +50,11 @@ pub record BundleAnswer : Type 0 where
   pub check : BundleCheck
   pub answers : List PacketAnswer
 
-abbrev pub afterCheck : BundleCheck → List ℕ → BundleAnswer
-afterCheck check.Good b = record { check = check.Good; answers = answersFrom b (packetsOffset b) (packetCount b) }
-afterCheck check.DoesNotFit b = record { check = check.DoesNotFit; answers = [] }
-afterCheck check.ListDoesNotFit b = record { check = check.ListDoesNotFit; answers = [] }
-afterCheck (check.BadRecord i) b = record { check = check.BadRecord i; answers = [] }
+abbrev pub afterBundleCheck : BundleCheck → List ℕ → BundleAnswer
+afterBundleCheck check.Good b = record { check = check.Good; answers = answersFrom b (packetsOffset b) (packetCount b) }
+afterBundleCheck check.DoesNotFit b = record { check = check.DoesNotFit; answers = [] }
+afterBundleCheck check.ListDoesNotFit b = record { check = check.ListDoesNotFit; answers = [] }
+afterBundleCheck (check.BadRecord i) b = record { check = check.BadRecord i; answers = [] }
 
 unfoldable pub bundleAnswer : List ℕ → BundleAnswer
-bundleAnswer b = afterCheck (checkBundle b) b
+bundleAnswer b = afterBundleCheck (checkBundle b) b

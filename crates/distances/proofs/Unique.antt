@@ -11,7 +11,7 @@ use Rattle.distances.specs.declared.SigPayload.{SigPayload}
 use Rattle.distances.specs.declared.SigVersion.{SigVersion}
 use Rattle.distances.specs.declared.TtlFit.{TtlFit}
 use Rattle.distances.specs.declared.WindowSize.{WindowSize}
-use Rattle.distances.specs.Gates.{versionMatches, windowMatches, payloadMatches}
+use Rattle.distances.specs.DistanceGates.{versionMatches, windowMatches, payloadMatches}
 use Rattle.distances.specs.Distances.{ttlFit, reportedHops}
 use Rattle.distances.proofs.ip_version_matches.Reads as ip-version-matches'
 use Rattle.distances.proofs.payload_size_matches.Reads as payload-size-matches'

@@ -1,6 +1,6 @@
 // distances.rs: how far an observation is from a signature, by version, TTL, window and payload.
 ghost use mathlib.Core.Path.{_≡_};
-ghost use Rattle.distances.specs.Gates.{versionMatches, multipleMatches, windowMatches, payloadMatches};
+ghost use Rattle.distances.specs.DistanceGates.{versionMatches, multipleMatches, windowMatches, payloadMatches};
 ghost use Rattle.distances.specs.Distances.{initialTtl, isBad, ttlFit, reportedHops};
 use tcp::IpVersion;
 use tcp::PayloadSize;

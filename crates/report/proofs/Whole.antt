@@ -10,7 +10,7 @@ use borrow.Author.Tests.{le-leb, leb-true}
 use Rattle.bundle.specs.declared.BundleCheck.{BundleCheck}
 use Rattle.bundle.specs.declared.BundleCheck.the-variants as check
 use Rattle.bundle.specs.Bundle.{packetCount, packetsOffset, packetEnd, checkBundle}
-use Rattle.bundle.specs.Answers.{answerAt, packetLies, answersFrom, afterCheck, bundleAnswer}
+use Rattle.bundle.specs.Answers.{answerAt, packetLies, answersFrom, afterBundleCheck, bundleAnswer}
 use Rattle.report.specs.Text.{packetsWord, refusedWord, lineOf, headLine, refusedLine}
 use Rattle.report.proofs.Writing.{line-length, numbered-length}
 use Rattle.report.specs.Pages.{Page, pageFrom, linesOf, textOf, outputOf, outputOfInput, firstOf, firstPage, nextPage, laterPages, allPages}
@@ -79,7 +79,7 @@ unfolding firstPage outputOfInput outputOf bundleAnswer answersFrom linesOf
 first-and-rest b true size large = rw (le-leb 19 size large) (append-nil (refusedLine 12))
 first-and-rest b false size large = rw (le-leb 19 size large) (by-check (checkBundle b))
   where
-    by-check : (c : BundleCheck) → firstOf c b size .text ++ rest b (firstOf c b size) ≡ textOf (afterCheck c b .check) (packetCount b) (afterCheck c b .answers)
+    by-check : (c : BundleCheck) → firstOf c b size .text ++ rest b (firstOf c b size) ≡ textOf (afterBundleCheck c b .check) (packetCount b) (afterBundleCheck c b .answers)
     by-check check.Good =
         append-assoc (headLine (packetCount b)) _ _
         ∙ ap (λ (t : List ℕ). headLine (packetCount b) ++ t) (page-and-rest b size (length (headLine (packetCount b))) (packetsOffset b) (packetCount b))

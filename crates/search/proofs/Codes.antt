@@ -7,7 +7,7 @@ use lib.Dec.{eqb}
 use borrow.Author.Tests.{ne-eqb}
 use Rattle.tcp.specs.declared.PayloadSize.the-variants as payload
 use Rattle.tcp.specs.declared.IpVersion.the-variants as version
-use Rattle.distances.specs.Gates.{payloadMatches, versionMatches}
+use Rattle.distances.specs.DistanceGates.{payloadMatches, versionMatches}
 use Rattle.sigrecord.specs.Record.{payloadOf, versionOf}
 
 pub empty-passes : (code : ℕ) → not (eqb code 1) ≡ payloadMatches payload.Zero (payloadOf code)

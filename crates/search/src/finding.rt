@@ -3,7 +3,7 @@ ghost use mathlib.Core.Path.{_≡_};
 ghost use mathlib.Core.Bool.{true, _&&_};
 ghost use lib.Dec.{eqb, leb};
 ghost use Rattle.matching.specs.Fit.{scalarGates};
-ghost use Rattle.distances.specs.Gates.{versionMatches, windowMatches, payloadMatches};
+ghost use Rattle.distances.specs.DistanceGates.{versionMatches, windowMatches, payloadMatches};
 ghost use Rattle.gates.specs.Gates.{mssMatches, scaleMatches, layoutMatches};
 ghost use Prim.Native.Nat.{ℕ, _+_, _*_, _-_, _≤_, _<_};
 ghost use mathlib.Core.List.{List};
@@ -20,7 +20,7 @@ use distances::WindowSize;
 use distances::window_size_matches;
 use found::Found;
 use found::is_exact;
-use found::is_nothing;
+use found::is_none;
 use found::keep_fit;
 use gates::mss_matches;
 use gates::olayout_matches;
@@ -175,11 +175,11 @@ pub(crate) fn fit_at(
     let end_of_record = at + RECORD;
     let raw = &list[at..end_of_record];
     let fit = tolerance(observed, signature_of(raw));
-    if is_nothing(fit) {
-        return SignatureFit::Nothing;
+    if is_none(fit) {
+        return SignatureFit::None;
     }
     if !holds_at(observed.count, kinds, bytes, list, areas, i) {
-        return SignatureFit::Nothing;
+        return SignatureFit::None;
     }
     fit
 }
@@ -208,7 +208,7 @@ pub(crate) fn search_step(
     ensures { λ r. ⌜ r ≡ keep held (labelOf (recordAt (now (list .entry)) i)) (fitAt observed (now (kinds .entry)) (now (bytes .entry)) (now (list .entry)) i) ⌝ }
 {
     let fit = fit_at(observed, kinds, bytes, list, areas, i);
-    if is_nothing(fit) {
+    if is_none(fit) {
         return held;
     }
     keep_fit(held, label_at(list, areas, i), fit)
@@ -241,10 +241,10 @@ pub(crate) fn search_records(
     areas: Areas,
 ) -> Found
     requires { ⌜ AreasFit (now list) areas ⌝ }
-    ensures { λ r. ⌜ r ≡ searchFrom Found.Nothing observed (now (kinds .entry)) (now (bytes .entry)) (now (list .entry)) (numbersFrom 0 (areas .records)) ⌝ }
+    ensures { λ r. ⌜ r ≡ searchFrom Found.None observed (now (kinds .entry)) (now (bytes .entry)) (now (list .entry)) (numbersFrom 0 (areas .records)) ⌝ }
 {
     let count = areas.records;
-    let mut held = Found::Nothing;
+    let mut held = Found::None;
     let mut i = 0;
     while i < count {
         i = next_candidate(observed, list, areas, i);

@@ -1,5 +1,5 @@
 -- `distances::ip_version_matches` meets its contract.
-use Rattle.distances.specs.Gates.{versionMatches}
+use Rattle.distances.specs.DistanceGates.{versionMatches}
 use borrow.Author.Needs.{needs}
 use Rattle.distances.proofs.ip_version_matches.Statement.{statement}
 use Rattle.distances.proofs.ip_version_matches.Tie as tie

@@ -1,5 +1,5 @@
 -- `distances::payload_size_matches` meets its contract.
-use Rattle.distances.specs.Gates.{payloadMatches}
+use Rattle.distances.specs.DistanceGates.{payloadMatches}
 use borrow.Author.Needs.{needs}
 use Rattle.distances.proofs.payload_size_matches.Statement.{statement}
 use Rattle.distances.proofs.payload_size_matches.Tie as tie

@@ -1,8 +1,8 @@
 -- A packet is refused by the first row of document 01's table that holds, and by none where none does; a refusal gives nothing beside.
 use mathlib.Core.Path.{_≡_, refl, _∙_, ap}
 use mathlib.Core.Bool.{Bool, true, false, cond, not, _&&_, _||_}
-use mathlib.Core.List.{List}
-use Prim.Native.Nat.{ℕ}
+use mathlib.Core.List.{List, [], _∷_}
+use Prim.Native.Nat.{ℕ, suc}
 use lib.Dec.{eqb, ltb}
 use lib.ListN.{length}
 use Rattle.basis.specs.Bytes.{part}
@@ -20,8 +20,38 @@ use Rattle.flow.specs.Flags.{flagsInvalid, isSynType, isSynAckType}
 use Rattle.ip.specs.Ip.{ipv4Facts, readIpv4, ipv6Facts, readIpv6, readIp}
 use Rattle.flow.specs.Tcp.{readTcp}
 use Rattle.ip.specs.Numbers.{number}
-use Rattle.flow.specs.Reading.{afterIp, readPacket}
-use Rattle.flow.specs.Refusals.{isV4, isV6, rows, firstRow, refusalOf}
+use Rattle.flow.specs.Reading.{afterIp, readPacket, refusalOf}
+
+-- ---- the table's rows, as tests
+
+abbrev ofVersion4 : List ℕ → Bool
+ofVersion4 p = eqb (v4.version p) 4
+
+abbrev ofVersion6 : List ℕ → Bool
+ofVersion6 p = eqb (v4.version p) 6
+
+-- The TCP part by its places, of either version.
+abbrev partOf : List ℕ → List ℕ
+partOf p = cond (ofVersion4 p) (part (v4.dataStart p) (v4.dataEnd p) p) (v6.payload p)
+
+-- Rows 1 to 7, which acceptance/specs/Refusals.antt states as facts.
+unfoldable pub rows : List ℕ → List Bool
+rows p =
+    (eqb (length p) 0 || not (ofVersion4 p || ofVersion6 p))
+    ∷ cond (ofVersion4 p) (ltb (length p) 20) (ltb (length p) 40)
+    ∷ (ofVersion4 p && ltb (v4.ihl p) 5)
+    ∷ not (eqb (cond (ofVersion4 p) (v4.protocol p) (v6.nextHeader p)) 6)
+    ∷ (ofVersion4 p && (ltb 0 (v4.fragmentOffset p) || eqb (v4.moreFragments p) 1))
+    ∷ ltb (length (partOf p)) 20
+    ∷ flagsInvalid (control (partOf p))
+    ∷ []
+
+-- The number of the first row that holds, counted from one given; 0 if none does.
+unfoldable pub firstRow : ℕ → List Bool → ℕ
+firstRow n [] = 0
+firstRow n (row ∷ rest) = cond row n (firstRow (suc n) rest)
+
+-- ---- the number is that of the first
 
 either
     : (t : Bool) (a b : Reading) (m n : ℕ)
@@ -92,8 +122,8 @@ module _ (p : List ℕ) (peer : Mss) where
   pub by-first-row : refusalOf (readPacket p peer .answer) ≡ firstRow 1 (rows p)
   unfolding readPacket readIp rows firstRow number
   by-first-row =
-      over (eqb (length p) 0) (refused refusal.Version) (over (isV4 p) of-v4 (over (isV6 p) of-v6 (refused refusal.Version))) .says
-      ∙ by-version (eqb (length p) 0) (isV4 p) (isV6 p)
+      over (eqb (length p) 0) (refused refusal.Version) (over (ofVersion4 p) of-v4 (over (ofVersion6 p) of-v6 (refused refusal.Version))) .says
+      ∙ by-version (eqb (length p) 0) (ofVersion4 p) (ofVersion6 p)
     where
       by-version
           : (none four six : Bool)

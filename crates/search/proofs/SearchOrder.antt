@@ -10,10 +10,10 @@ use Rattle.siglist.specs.declared.ListAnswer.the-variants as list
 use Rattle.siglist.specs.List.{checkList, listRefusal}
 use Rattle.search.specs.declared.SearchAnswer.{SearchAnswer}
 use Rattle.search.specs.declared.SearchAnswer.the-variants as answer
-use Rattle.search.specs.Search.{afterCheck, searchList, searchRefusal}
+use Rattle.search.specs.Search.{afterListCheck, searchList, searchRefusal}
 
 -- A search is refused by 11 where the layout is too long, else as its list is.
-by-list : (a : ListAnswer) (o : TcpObservation) (l : List ℕ) → searchRefusal (afterCheck a o l) ≡ listRefusal a
+by-list : (a : ListAnswer) (o : TcpObservation) (l : List ℕ) → searchRefusal (afterListCheck a o l) ≡ listRefusal a
 unfolding searchRefusal listRefusal
 by-list list.Good o l = refl
 by-list list.DoesNotFit o l = refl
@@ -27,7 +27,7 @@ search-order o l = by-count (ltb 40 (o .olayout .count))
   where
     by-count
         : (t : Bool)
-        → searchRefusal (cond {A = SearchAnswer} t answer.LayoutTooLong (afterCheck (checkList l) o l))
+        → searchRefusal (cond {A = SearchAnswer} t answer.LayoutTooLong (afterListCheck (checkList l) o l))
         ≡ cond t 11 (listRefusal (checkList l))
     by-count true = refl
     by-count false = by-list (checkList l) o l
