@@ -1,4 +1,3 @@
-pub mod Codes
 pub mod Fits
 pub mod Order
 pub mod SearchOrder

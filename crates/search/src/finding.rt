@@ -13,10 +13,14 @@ ghost use Rattle.siglist.specs.List.{recordAt, entriesOf, AreasFit, recordGood}
 ghost use Rattle.found.specs.Keep.{keep};
 ghost use Rattle.search.specs.Search.{fitAt, searchFrom, numbersFrom};
 use crate::raw::mss_of;
+use crate::raw::payload_of;
 use crate::raw::scale_of;
 use crate::raw::signature_of;
+use crate::raw::version_of;
 use crate::raw::window_of;
 use distances::WindowSize;
+use distances::ip_version_matches;
+use distances::payload_size_matches;
 use distances::window_size_matches;
 use found::Found;
 use found::is_exact;
@@ -44,19 +48,13 @@ use window_size::Multiplier;
 pub(crate) fn payload_gate(observed: PayloadSize, code: u8) -> bool
     ensures { λ r. ⌜ r ≡ payloadMatches observed (payloadOf code) ⌝ }
 {
-    match observed {
-        PayloadSize::Zero => code != 1,
-        PayloadSize::NonZero => code != 0,
-    }
+    payload_size_matches(observed, payload_of(code))
 }
 
 pub(crate) fn version_gate(observed: IpVersion, code: u8) -> bool
     ensures { λ r. ⌜ r ≡ versionMatches observed (versionOf code) ⌝ }
 {
-    match observed {
-        IpVersion::V4 => code != 6,
-        IpVersion::V6 => code != 4,
-    }
+    ip_version_matches(observed, version_of(code))
 }
 
 pub(crate) fn mss_gate(observed: Mss, present: u8, high: u8, low: u8) -> bool
