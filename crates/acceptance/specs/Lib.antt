@@ -1,9 +1,15 @@
 pub mod Acceptance
+pub mod Answers
 pub mod Demand1
 pub mod Demand2
 pub mod Demand3
+pub mod Fitting
+pub mod Given
 pub mod Honesty
+pub mod Leaves
+pub mod Lent
 pub mod NotFree
 pub mod Overlap
+pub mod Reader
 pub mod Refusals
 pub mod Values
