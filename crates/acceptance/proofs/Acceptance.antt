@@ -5,6 +5,15 @@ use Rattle.acceptance.proofs.Demand2.{demand2}
 use Rattle.acceptance.proofs.Demand3.{demand3}
 use Rattle.acceptance.proofs.Honesty.{honesty}
 use Rattle.acceptance.proofs.Refusals.{refusals}
+use Rattle.acceptance.proofs.Unchecked.{unchecked}
 
 pub acceptance : Acceptance
-acceptance = record { honesty = honesty; demand1 = demand1; refusals = refusals; demand2 = demand2; demand3 = demand3 }
+acceptance =
+    record {
+      honesty = honesty;
+      demand1 = demand1;
+      refusals = refusals;
+      unchecked = unchecked;
+      demand2 = demand2;
+      demand3 = demand3;
+    }

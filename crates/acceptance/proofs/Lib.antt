@@ -14,4 +14,5 @@ pub mod Overlap
 pub mod PacketGives
 pub mod PacketRefusals
 pub mod Refusals
+pub mod Unchecked
 pub mod Values

@@ -32,7 +32,11 @@ use Rattle.bundle.specs.Bundle.{packetEnd, packetFits, packetsFit, listLies, bu
 use Rattle.bundle.specs.Answers.{answerAt, packetLies, answersFrom, bundleAnswer}
 use Rattle.report.specs.Text.{width, decimal, foundText, answerText, lineOf, headLine, refusedLine}
 use Rattle.report.specs.Pages.{linesOf, outputOf}
-use Rattle.acceptance.specs.Values.{TtlValues, WindowValues, OptionValues, PacketValues, FitValues, ThreeAnswers, WholeExample, Values}
+use Rattle.acceptance.specs.Values.{QuirkValues, TtlValues, WindowValues, OptionValues, PacketValues, FitValues, ThreeAnswers, WholeExample, Values}
+
+quirk-values : QuirkValues
+unfolding seventeen fromQuirks displayOrder with bitOf placeOf
+quirk-values = record { seventeen-quirks = refl; union = refl }
 
 ttl-values : TtlValues
 unfolding readingOf guessOf initialOf
@@ -108,6 +112,7 @@ whole-example = record { lines = refl }
 pub values : Values
 values =
     record {
+      quirks = quirk-values;
       ttl = ttl-values;
       window = window-values;
       options = option-values;

@@ -12,4 +12,5 @@ pub mod NotFree
 pub mod Overlap
 pub mod Reader
 pub mod Refusals
+pub mod Unchecked
 pub mod Values

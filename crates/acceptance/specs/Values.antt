@@ -3,11 +3,11 @@ use mathlib.Core.Path.{_≡_}
 use mathlib.Core.Bool.{true, false}
 use mathlib.Core.List.{List, [], _∷_, _++_}
 use Prim.Native.Nat.{ℕ}
-use lib.ListN.{replicate, set}
+use lib.ListN.{length, replicate, set}
 use Rattle.basis.specs.Bytes.{byteAt}
 use Rattle.quirks.specs.declared.Quirk.the-variants as quirk
-use Rattle.quirks.specs.Quirks.{setOf, contains}
-use Rattle.quirks.specs.Named.{empty}
+use Rattle.quirks.specs.Quirks.{setOf, bitsOf, contains}
+use Rattle.quirks.specs.Named.{displayOrder, empty, seventeen}
 use Rattle.tcp.specs.declared.PayloadSize.the-variants as payload
 use Rattle.tcp.specs.declared.Wscale.the-variants as wscale
 use Rattle.syn_options.specs.declared.OptionsAnswer.the-variants as options
@@ -32,6 +32,11 @@ use Rattle.ttl.specs.Ttl.{readingOf}
 use Rattle.window_size.specs.declared.Multiplier.the-variants as multiplier
 use Rattle.window_size.specs.Multiplier.{multiplierOf}
 use Rattle.report.specs.Pages.{outputOf}
+
+-- Module 1: "Seventeen bits as listed there; their union is 0x1F03F03F."
+pub record QuirkValues : Type 0 where
+  pub seventeen-quirks : length displayOrder ≡ 17
+  pub union : bitsOf seventeen ≡ 0x1F03F03F
 
 -- "TTL 0 Bad(0); 1, 33, 65, 97, 224 Value; 2, 34, 98, 225 Distance 30."
 pub record TtlValues : Type 0 where
@@ -161,6 +166,7 @@ pub record WholeExample : Type 0 where
   pub lines : outputOf exampleBundle ≡ exampleLines
 
 pub record Values : Type 0 where
+  pub quirks : QuirkValues
   pub ttl : TtlValues
   pub window : WindowValues
   pub options : OptionValues

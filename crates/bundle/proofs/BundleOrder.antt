@@ -55,7 +55,7 @@ past-of b (suc n) i inside fails = by-first (packetFits b (startOf b i)) refl (p
         wider (omega arith) (later (end-within b (startOf b i) e) (sym (ap (λ (t : Bool). t && packetsFit b (packetEnd b (startOf b i)) n) e) ∙ fails))
 
 -- Each of the packets that all fit ends within the bundle.
-each-within : (b : List ℕ) (n i j : ℕ) → packetsFit b (startOf b i) n ≡ true → i ≤ j → j < i + n → packetFits b (startOf b j) ≡ true
+pub each-within : (b : List ℕ) (n i j : ℕ) → packetsFit b (startOf b i) n ≡ true → i ≤ j → j < i + n → packetFits b (startOf b j) ≡ true
 unfolding packetsFit startOf
 each-within b zero i j fit low high = absurd (omega arith)
 each-within b (suc n) i j fit low high = by-place (ℕ-discrete i j) (each-within b n (suc i) j)

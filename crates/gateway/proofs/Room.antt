@@ -1,5 +1,5 @@
 -- The numbers of an answer fit the bytes that a code has for them.
-use Prim.Native.Nat.{ℕ, _<_}
+use Prim.Native.Nat.{_<_}
 use Rattle.quirks.specs.Quirks.{bitsOf}
 use Rattle.ip.specs.declared.Refusal.{Refusal}
 use Rattle.ip.specs.declared.Refusal.the-variants as refusal
