@@ -118,11 +118,9 @@ of-flow =
 of-distances : Distances
 of-distances =
     record {
-      ip-version-matches = λ o s. let u = distances.ip-version-matches-one o s in record { asks-nothing = tt; one = u; is = u .meets; only-reads = refl };
       ttl-fit = λ o s. let u = distances.ttl-fit-one o s in record { asks-nothing = tt; one = u; is = u .meets; only-reads = refl };
       report-hop-distance = λ o s. let u = distances.report-hop-distance-one o s in record { asks-nothing = tt; one = u; is = u .meets; only-reads = refl };
       window-size-matches = λ o s m. let u = distances.window-size-matches-one o s m in record { asks-nothing = tt; one = u; is = u .meets; only-reads = refl };
-      payload-size-matches = λ o s. let u = distances.payload-size-matches-one o s in record { asks-nothing = tt; one = u; is = u .meets; only-reads = refl };
     }
 
 of-matching : Matching
@@ -142,6 +140,8 @@ of-siglist : Siglist
 of-siglist =
     record {
       read-header = λ κs l. let u = siglist.read-header-one κs l in record { asks-nothing = tt; one = u; is = u .meets; only-reads = refl };
+      ip-version-matches = λ o s. let u = sigrecord.ip-version-matches-one o s in record { asks-nothing = tt; one = u; is = u .meets; only-reads = refl };
+      payload-size-matches = λ o s. let u = sigrecord.payload-size-matches-one o s in record { asks-nothing = tt; one = u; is = u .meets; only-reads = refl };
       scalars-well-formed = λ κs r. let u = sigrecord.scalars-well-formed-one κs r in record { asks-nothing = tt; one = u; is = u .meets; only-reads = refl };
       check-list = λ κs l. let u = siglist.check-list-one κs l in record { asks-nothing = tt; one = u; is = u .meets; only-reads = refl };
     }

@@ -12,16 +12,12 @@ use Rattle.quirks.specs.declared.QuirkSet.{QuirkSet}
 use Rattle.ttl.specs.declared.Ttl.{Ttl}
 use Rattle.window_size.specs.declared.Multiplier.{Multiplier}
 use Rattle.observable.specs.declared.TcpObservation.{TcpObservation}
-use Rattle.distances.specs.declared.SigPayload.{SigPayload}
-use Rattle.distances.specs.declared.SigVersion.{SigVersion}
 use Rattle.distances.specs.declared.WindowSize.{WindowSize}
 use Rattle.distances.specs.DistanceGates.{versionMatches, windowMatches, payloadMatches}
 use Rattle.distances.specs.Distances.{ttlFit, reportedHops}
-use Rattle.distances.proofs.ip_version_matches as ip-version-matches'
 use Rattle.distances.proofs.ttl_fit as ttl-fit'
 use Rattle.distances.proofs.report_hop_distance as report-hop-distance'
 use Rattle.distances.proofs.window_size_matches as window-size-matches'
-use Rattle.distances.proofs.payload_size_matches as payload-size-matches'
 use Rattle.matching.specs.declared.Features.{Features}
 use Rattle.matching.specs.declared.Signature.{Signature}
 use Rattle.gates.specs.Gates.{olenMatches, mssMatches, scaleMatches, entryGood, entriesGood, layoutMatches}
@@ -36,8 +32,10 @@ use Rattle.gates.proofs.olayout_matches as olayout-matches'
 use Rattle.matching.proofs.features_of as features-of'
 use Rattle.matching.proofs.tolerance as tolerance'
 use Rattle.siglist.specs.List.{headerOf, checkList}
-use Rattle.sigrecord.specs.Record.{scalarsWellFormed}
+use Rattle.sigrecord.specs.Record.{versionOf, payloadOf, scalarsWellFormed}
 use Rattle.siglist.proofs.read_header as read-header'
+use Rattle.sigrecord.proofs.ip_version_matches as ip-version-matches'
+use Rattle.sigrecord.proofs.payload_size_matches as payload-size-matches'
 use Rattle.sigrecord.proofs.scalars_well_formed as scalars-well-formed'
 use Rattle.siglist.proofs.check_list as check-list'
 use Rattle.matching.specs.declared.SignatureFit.{SignatureFit}
@@ -52,10 +50,6 @@ use Rattle.search.proofs.search as search'
 use Rattle.acceptance.specs.Answers.{Answers}
 
 pub record Distances : Type 0 where
-  pub ip-version-matches
-      : (o : IpVersion) (s : SigVersion)
-      → Answers ip-version-matches'.signature tt (ip-version-matches'.Reads.Pre tt) (ip-version-matches'.Reads.Post tt)
-      (o, (s, tt)) (versionMatches o s)
   pub ttl-fit
       : (o : ℕ) (s : Ttl)
       → Answers ttl-fit'.signature tt (ttl-fit'.Reads.Pre tt) (ttl-fit'.Reads.Post tt)
@@ -68,10 +62,6 @@ pub record Distances : Type 0 where
       : (o : ℕ) (s : WindowSize) (m : Multiplier)
       → Answers window-size-matches'.signature tt (window-size-matches'.Reads.Pre tt) (window-size-matches'.Reads.Post tt)
       (o, (s, (m, tt))) (windowMatches o s m)
-  pub payload-size-matches
-      : (o : PayloadSize) (s : SigPayload)
-      → Answers payload-size-matches'.signature tt (payload-size-matches'.Reads.Pre tt) (payload-size-matches'.Reads.Post tt)
-      (o, (s, tt)) (payloadMatches o s)
 
 pub record Matching : Type 0 where
   pub olen-matches
@@ -113,6 +103,14 @@ pub record Siglist : Type 0 where
       : (κs : Lfts 1) (list : RefT (List ℕ))
       → Answers read-header'.signature κs (read-header'.Reads.Pre κs) (read-header'.Reads.Post κs)
       (list, tt) (headerOf (now list))
+  pub ip-version-matches
+      : (o : IpVersion) (code : ℕ)
+      → Answers ip-version-matches'.signature tt (ip-version-matches'.Reads.Pre tt) (ip-version-matches'.Reads.Post tt)
+      (o, (code, tt)) (versionMatches o (versionOf code))
+  pub payload-size-matches
+      : (o : PayloadSize) (code : ℕ)
+      → Answers payload-size-matches'.signature tt (payload-size-matches'.Reads.Pre tt) (payload-size-matches'.Reads.Post tt)
+      (o, (code, tt)) (payloadMatches o (payloadOf code))
   pub scalars-well-formed
       : (κs : Lfts 1) (raw : RefT (List ℕ))
       → Answers scalars-well-formed'.signature κs (scalars-well-formed'.Reads.Pre κs) (scalars-well-formed'.Reads.Post κs)

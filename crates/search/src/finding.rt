@@ -3,24 +3,20 @@ ghost use mathlib.Core.Path.{_≡_};
 ghost use mathlib.Core.Bool.{true, _&&_};
 ghost use lib.Dec.{eqb, leb};
 ghost use Rattle.matching.specs.Fit.{scalarGates};
-ghost use Rattle.distances.specs.DistanceGates.{versionMatches, windowMatches, payloadMatches};
+ghost use Rattle.distances.specs.DistanceGates.{windowMatches};
 ghost use Rattle.gates.specs.Gates.{mssMatches, scaleMatches, layoutMatches};
 ghost use Prim.Native.Nat.{ℕ, _+_, _*_, _-_, _≤_, _<_};
 ghost use mathlib.Core.List.{List};
 ghost use lib.ListN.{length};
-ghost use Rattle.sigrecord.specs.Record.{entryCount, labelOf, versionOf, mssOf, scaleOf, windowOf, payloadOf, signatureOf};
+ghost use Rattle.sigrecord.specs.Record.{entryCount, labelOf, mssOf, scaleOf, windowOf, signatureOf};
 ghost use Rattle.siglist.specs.List.{recordAt, entriesOf, AreasFit, recordGood};
 ghost use Rattle.found.specs.Keep.{keep};
 ghost use Rattle.search.specs.Search.{fitAt, searchFrom, numbersFrom};
 use crate::raw::mss_of;
-use crate::raw::payload_of;
 use crate::raw::scale_of;
 use crate::raw::signature_of;
-use crate::raw::version_of;
 use crate::raw::window_of;
 use distances::WindowSize;
-use distances::ip_version_matches;
-use distances::payload_size_matches;
 use distances::window_size_matches;
 use found::Found;
 use found::is_exact;
@@ -37,26 +33,14 @@ use numbers::be16;
 use numbers::wide;
 use siglist::Areas;
 use sigrecord::RECORD;
+use sigrecord::ip_version_matches;
+use sigrecord::payload_size_matches;
 use sigrecord::scalars_well_formed;
-use tcp::IpVersion;
 use tcp::Mss;
-use tcp::PayloadSize;
 use tcp::Wscale;
 use window_size::Multiplier;
 
-// The gates of a record, each read off its bytes.
-pub(crate) fn payload_gate(observed: PayloadSize, code: u8) -> bool
-    ensures { λ r. ⌜ r ≡ payloadMatches observed (payloadOf code) ⌝ }
-{
-    payload_size_matches(observed, payload_of(code))
-}
-
-pub(crate) fn version_gate(observed: IpVersion, code: u8) -> bool
-    ensures { λ r. ⌜ r ≡ versionMatches observed (versionOf code) ⌝ }
-{
-    ip_version_matches(observed, version_of(code))
-}
-
+// Gates of a record, each read off its bytes.
 pub(crate) fn mss_gate(observed: Mss, present: u8, high: u8, low: u8) -> bool
     ensures { λ r. ⌜ r ≡ mssMatches observed (mssOf present (high * 256 + low)) ⌝ }
 {
@@ -105,11 +89,11 @@ pub(crate) fn gates_at(observed: Features, raw: &[u8]) -> bool
         return false;
     }
     let pclass = observed.pclass;
-    if !payload_gate(pclass, raw[13]) {
+    if !payload_size_matches(pclass, raw[13]) {
         return false;
     }
     let version = observed.version;
-    if !version_gate(version, raw[0]) {
+    if !ip_version_matches(version, raw[0]) {
         return false;
     }
     let multiplier = observed.multiplier;
