@@ -159,10 +159,11 @@ fn send(bundle: &[u8], longer: bool, taken: usize, text: &[u8]) -> bool
             return true;
         }
         let sent = write_some(bundle, longer, taken + from, &text[from..]);
+        let count = sent.taken;
         if sent.cut {
             return false;
         }
-        from += sent.taken;
+        from += count;
         turn += 1;
     }
     false
