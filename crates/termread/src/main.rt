@@ -13,13 +13,13 @@ use report::Progress;
 use report::first_page;
 use report::next_page;
 
-// More pages than any output has: a page holds a line, and a bundle at most 65,535 packets.
+// More pages than any output has: each but the last holds a line, and a bundle at most 65,535 packets.
 const PAGES: usize = 65536;
 
-// How often a call is tried that has nothing to do yet.
+// How often a call is tried before the program gives up: twelve days at a million tries a second.
 const PATIENCE: usize = 1099511627776;
 
-// Whether a call that failed may be tried again: it was interrupted, or it would have had to wait. It lets others run first.
+// Whether a call that failed may be tried again: it was interrupted, or it would have had to wait. Other programs run first.
 fn goes_on() -> bool {
     let error = os::errno();
     if error == libc::EINTR {
@@ -192,12 +192,14 @@ fn write_output(bundle: &[u8], longer: bool) -> bool
     false
 }
 
+// A message, on standard error.
+fn say(text: &[u8]) {
+    io::write_all(STDERR_FILENO, text);
+}
+
 fn tell(whole: bool) {
     if !whole {
-        io::write_all(
-            STDERR_FILENO,
-            b"termread: standard output could not be written, and ends early\n",
-        );
+        say(b"termread: standard output could not be written, and ends early\n");
     }
 }
 
@@ -209,11 +211,6 @@ fn main() {
     match ending {
         Ending::Whole => tell(write_output(&buffer[0..count], false)),
         Ending::Longer => tell(write_output(&buffer[0..count], true)),
-        Ending::Failed => {
-            io::write_all(
-                STDERR_FILENO,
-                b"termread: standard input could not be read\n",
-            );
-        }
+        Ending::Failed => say(b"termread: standard input could not be read\n"),
     }
 }
