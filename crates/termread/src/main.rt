@@ -9,6 +9,7 @@ ghost use Rattle.termread.specs.Sending.{Follows};
 use libc::STDERR_FILENO;
 use libc::STDIN_FILENO;
 use libc::STDOUT_FILENO;
+use libc::types::timespec;
 use report::Progress;
 use report::first_page;
 use report::next_page;
@@ -16,17 +17,30 @@ use report::next_page;
 // More pages than any output has: each but the last holds a line, and a bundle at most 65,535 packets.
 const PAGES: usize = 65536;
 
-// How often a call is tried before the program gives up: twelve days at a million tries a second.
+// How often a call is tried before the program gives up: a loop has to end. As many pauses take 34 years.
 const PATIENCE: usize = 1099511627776;
 
-// Whether a call that failed may be tried again: it was interrupted, or it would have had to wait. Other programs run first.
+// Waits for a millisecond, or until a signal comes.
+fn pause() {
+    let asked = timespec {
+        tv_sec: 0,
+        tv_nsec: 1000000,
+    };
+    let mut left = timespec {
+        tv_sec: 0,
+        tv_nsec: 0,
+    };
+    libc::nanosleep(&asked, &mut left);
+}
+
+// Whether a call that failed may be tried again: it was interrupted, or it would have had to wait, which is done here.
 fn goes_on() -> bool {
     let error = os::errno();
     if error == libc::EINTR {
         return true;
     }
     if error == libc::EAGAIN {
-        libc::sched_yield();
+        pause();
         return true;
     }
     false
