@@ -119,8 +119,8 @@ fn read_input(buffer: &mut [u8]) -> Input
     }
 }
 
-// One write, the program's only one to standard output. It is handed the output from the first byte on that no write took, and its answer is
-// `write`'s: how far the output is then taken.
+// One write, the program's only one to standard output. It is handed the output from the first byte on that no write took, and what it
+// answers, which is `write`'s answer, says how far the output is then taken.
 fn write_once(bundle: &[u8], longer: bool, taken: usize, text: &[u8]) -> isize
     requires { ⌜ Reached taken ⌝ }
     requires { ⌜ Follows (outputOfInput (now bundle) longer) taken (now text) ⌝ }
@@ -159,7 +159,8 @@ fn write_some(bundle: &[u8], longer: bool, taken: usize, text: &[u8]) -> Sent
     }
 }
 
-// Writes until all of the text is taken or the output is cut. Whether all of it was taken.
+// Writes until all of the text is taken or the output is cut. Whether all of it was taken. (The bound is one page more than PAGES: no sum
+// wraps.)
 fn send(bundle: &[u8], longer: bool, taken: usize, text: &[u8]) -> bool
     requires { ⌜ Reached taken ⌝ }
     requires { ⌜ Follows (outputOfInput (now bundle) longer) taken (now text) ⌝ }
