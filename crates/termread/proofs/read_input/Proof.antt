@@ -23,8 +23,8 @@ part-rest-start c = search needs
 part-rest-end : tie.Need-part-rest-end Inv-loop μ-loop
 part-rest-end c = search needs
 
-read-requires : tie.Need-read-requires Inv-loop μ-loop
-read-requires c κs = search needs
+read-some-requires : tie.Need-read-some-requires Inv-loop μ-loop
+read-some-requires c κs = search needs
 
 same-length : tie.Need-same-length Inv-loop μ-loop
 same-length c = search needs
@@ -69,7 +69,7 @@ read-input-spec =
     sub-rest
     part-rest-start
     part-rest-end
-    read-requires
+    read-some-requires
     same-length
     returns
     count-requires
