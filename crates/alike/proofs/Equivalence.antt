@@ -84,7 +84,7 @@ tcp-refl t =
       acknowledgment = refl;
       dataOffset = refl;
       control = refl;
-      window = refl;
+      window = λ i l h. refl;
       urgentPointer = refl;
       options = row-refl (optionsOf (options t));
     }
@@ -97,7 +97,7 @@ tcp-sym a =
       acknowledgment = sym (a .acknowledgment);
       dataOffset = sym (a .dataOffset);
       control = sym (a .control);
-      window = sym (a .window);
+      window = λ i l h. sym (a .window i l h);
       urgentPointer = sym (a .urgentPointer);
       options = row-sym (a .options);
     }
@@ -110,7 +110,7 @@ tcp-trans a b =
       acknowledgment = a .acknowledgment ∙ b .acknowledgment;
       dataOffset = a .dataOffset ∙ b .dataOffset;
       control = a .control ∙ b .control;
-      window = a .window ∙ b .window;
+      window = λ i l h. a .window i l h ∙ b .window i l h;
       urgentPointer = a .urgentPointer ∙ b .urgentPointer;
       options = row-trans (a .options) (b .options);
     }

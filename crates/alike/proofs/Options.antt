@@ -83,8 +83,3 @@ walk-like stop syn w none = refl
 walk-like stop syn w (same {o} {os} {ps} r) = rw (walk-like stop syn (putOption syn w o) r)
 walk-like stop syn w (stamps {s} {t} {os} {ps} a r) =
     rw (past-alike s t a, put-alike s t a syn w, walk-like stop syn (putOption syn w (opt 8 t)) r)
-
--- Alike rows are walked alike.
-pub walk-alike
-    : {os ps : List Opt} → AlikeRow os ps → (stop syn : Bool) (w : Walked) → walkFrom stop syn w os ≡ walkFrom stop syn w ps
-walk-alike r stop syn w = walk-like stop syn w (like-row r)

@@ -17,10 +17,14 @@ use Rattle.flow.specs.Reading.{tcpPart}
 use Rattle.alike.specs.Options.{ZeroAlike}
 use Rattle.alike.specs.Ip.{headerEnd4, lengthEnd4, headerEnd6, lengthEnd6}
 
--- Two strings of one length that differ at most at the places from the first up to the second.
-pub record Only (from to : ℕ) (p q : List ℕ) : Type 0 where
+-- A place lies in an item.
+pub data Within (Item : ℕ → ℕ → Type 0) (i : ℕ) : Type 0 where
+  lies : {from to : ℕ} → Item from to → from ≤ i → i < to → Within Item i
+
+-- "two packets of equal length differ only in the free bytes": every place where they differ lies in an item.
+pub record DifferOnly (Item : ℕ → ℕ → Type 0) (p q : List ℕ) : Type 0 where
   pub sameLength : length p ≡ length q
-  pub elsewhere : (i : ℕ) → (from ≤ i → i < to → ⊥) → byteAt p i ≡ byteAt q i
+  pub free : (i : ℕ) → (byteAt p i ≡ byteAt q i → ⊥) → Within Item i
 
 -- The walk reaches an option at this place of the string.
 pub data Reached : ℕ → List ℕ → Type 0 where

@@ -4,8 +4,8 @@ use mathlib.Core.Path.{_≡_}
 use mathlib.Core.List.{List}
 use Prim.Native.Nat.{ℕ}
 use lib.ListN.{length}
-use Rattle.rfc.specs.Rfc9293.{sequence, acknowledgment, dataOffset, control, window, urgentPointer, options}
-use Rattle.alike.specs.Options.{ZeroAlike, AlikeOptions}
+use Rattle.rfc.specs.Rfc9293.{sequence, acknowledgment, dataOffset, control, urgentPointer, options}
+use Rattle.alike.specs.Options.{ZeroAlike, Agree, AlikeOptions}
 
 pub record AlikeTcp (t u : List ℕ) : Type 0 where
   pub sameLength : length t ≡ length u
@@ -13,6 +13,7 @@ pub record AlikeTcp (t u : List ℕ) : Type 0 where
   pub acknowledgment : ZeroAlike (acknowledgment t) (acknowledgment u)
   pub dataOffset : dataOffset t ≡ dataOffset u
   pub control : control t ≡ control u
-  pub window : window t ≡ window u
+  -- the window
+  pub window : Agree 14 16 t u
   pub urgentPointer : ZeroAlike (urgentPointer t) (urgentPointer u)
   pub options : AlikeOptions (options t) (options u)
