@@ -128,8 +128,8 @@ module _ (p q : List ℕ) (h l : ℕ) (same : length p ≡ length q)
       → AlikeBody p q h l x
   body-alike-by (ip.Refused r) e ends =
       elim (decLe 20 (length (part h l p))) [
-        | yes long ↦ AlikeBody.unread long (part-only h l (omega arith) (omega arith) in-part)
-        | no short ↦ AlikeBody.no-tcp (agree short)
+        | yes long ↦ AlikeBody.unread (omega arith) (part-only h l (omega arith) (omega arith) in-part)
+        | no short ↦ AlikeBody.no-tcp (λ i l u. agree short i (omega arith) (omega arith))
       ]
     where
       in-part : (i : ℕ) → Inner p q h l (h + i) → Within (FreeTcp (part h l p) (part h l q)) i
@@ -184,11 +184,13 @@ module _ (p q : List ℕ) (h l : ℕ) where
       → i < length p
       → (byteAt p i ≡ byteAt q i → ⊥)
       → Inner p q h l i
-  body-differ (ip.Refused r) e ends (AlikeBody.no-tcp agree) i after before inside differ = absurd (differ (agree i after before))
-  body-differ (ip.Refused r) e ends (AlikeBody.unread long a) i after before inside differ = by (part-place h l a i after before differ)
+  body-differ (ip.Refused r) e ends (AlikeBody.no-tcp agree) i after before inside differ =
+      absurd (differ (agree i (omega arith) (omega arith)))
+  body-differ (ip.Refused r) e ends (AlikeBody.unread long a) i after before inside differ =
+      by (part-place h l a i after before differ)
     where
       by : Within (FreeTcp (part h l p) (part h l q)) (i - h) → Inner p q h l i
-      by (Within.lies x lo hi) = Inner.unread e long x (omega arith) (omega arith)
+      by (Within.lies x lo hi) = Inner.unread e (omega arith) x (omega arith) (omega arith)
   body-differ (ip.Facts f) e ends (AlikeBody.tcp a) i after before inside differ =
       let s = ends f e .0 in
       let t = ends f e .1 in

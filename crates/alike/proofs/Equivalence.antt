@@ -10,20 +10,12 @@ use Rattle.rfc.specs.Rfc9293.{options}
 use Rattle.one_option.specs.Options.{Opt, optionsOf}
 use Rattle.ip.specs.declared.IpRead.{IpRead}
 use Rattle.ip.specs.Ip.{readIp}
-use Rattle.alike.specs.Options.{Agree, AlikeStamps, AlikeOption, AlikeRow}
+use Rattle.alike.specs.Options.{AlikeStamps, AlikeOption, AlikeRow}
 use Rattle.alike.specs.Tcp.{AlikeTcp}
 use Rattle.alike.specs.Ip.{AlikeIpv4, AlikeIpv6, headerEnd4, lengthEnd4, headerEnd6, lengthEnd6}
 use Rattle.alike.specs.Packets.{AlikeBody, Alike}
 use Rattle.alike.proofs.Places.{part-same}
 use Rattle.alike.proofs.Ip.{byte0, total-length-alike, payload-length-alike, ip-alike-v4, ip-alike-v6}
-
--- ---- places
-
-pub agree-sym : (from to : ℕ) (s t : List ℕ) → Agree from to s t → Agree from to t s
-agree-sym from to s t a i h k = sym (a i h k)
-
-pub agree-trans : (from to : ℕ) (s t u : List ℕ) → Agree from to s t → Agree from to t u → Agree from to s u
-agree-trans from to s t u a b i h k = a i h k ∙ b i h k
 
 -- ---- options
 
@@ -32,7 +24,7 @@ stamps-sym a =
     let size = a .sameLength in
     record {
       sameLength = sym (a .sameLength);
-      lengthByte = sym (a .lengthByte);
+      lengthByte = λ i l u. sym (a .lengthByte i l u);
       ownStamp = λ h. sym (a .ownStamp (omega arith));
       ownCut = λ h i l u. sym (a .ownCut (omega arith) i l u);
       peerStamp = λ h. sym (a .peerStamp (omega arith));
@@ -45,7 +37,7 @@ stamps-trans a b =
     let size = a .sameLength in
     record {
       sameLength = a .sameLength ∙ b .sameLength;
-      lengthByte = a .lengthByte ∙ b .lengthByte;
+      lengthByte = λ i l u. a .lengthByte i l u ∙ b .lengthByte i l u;
       ownStamp = λ h. a .ownStamp h ∙ b .ownStamp (omega arith);
       ownCut = λ h i l u. a .ownCut h i l u ∙ b .ownCut (omega arith) i l u;
       peerStamp = λ h. a .peerStamp h ∙ b .peerStamp (omega arith);
@@ -83,7 +75,7 @@ tcp-refl t =
       sequence = refl;
       acknowledgment = refl;
       dataOffset = refl;
-      control = refl;
+      control = λ i l h. refl;
       window = λ i l h. refl;
       urgentPointer = refl;
       options = row-refl (optionsOf (options t));
@@ -96,7 +88,7 @@ tcp-sym a =
       sequence = sym (a .sequence);
       acknowledgment = sym (a .acknowledgment);
       dataOffset = sym (a .dataOffset);
-      control = sym (a .control);
+      control = λ i l h. sym (a .control i l h);
       window = λ i l h. sym (a .window i l h);
       urgentPointer = sym (a .urgentPointer);
       options = row-sym (a .options);
@@ -109,7 +101,7 @@ tcp-trans a b =
       sequence = a .sequence ∙ b .sequence;
       acknowledgment = a .acknowledgment ∙ b .acknowledgment;
       dataOffset = a .dataOffset ∙ b .dataOffset;
-      control = a .control ∙ b .control;
+      control = λ i l h. a .control i l h ∙ b .control i l h;
       window = λ i l h. a .window i l h ∙ b .window i l h;
       urgentPointer = a .urgentPointer ∙ b .urgentPointer;
       options = row-trans (a .options) (b .options);
@@ -121,18 +113,18 @@ pub ipv4-sym : {p q : List ℕ} → AlikeIpv4 p q → AlikeIpv4 q p
 ipv4-sym {p} {q} a =
     record {
       sameLength = sym (a .sameLength);
-      first = agree-sym 0 4 p q (a .first);
+      first = λ i l u. sym (a .first i l u);
       identification = sym (a .identification);
-      second = agree-sym 6 10 p q (a .second);
+      second = λ i l u. sym (a .second i l u);
     }
 
 pub ipv4-trans : {p q r : List ℕ} → AlikeIpv4 p q → AlikeIpv4 q r → AlikeIpv4 p r
 ipv4-trans {p} {q} {r} a b =
     record {
       sameLength = a .sameLength ∙ b .sameLength;
-      first = agree-trans 0 4 p q r (a .first) (b .first);
+      first = λ i l u. a .first i l u ∙ b .first i l u;
       identification = a .identification ∙ b .identification;
-      second = agree-trans 6 10 p q r (a .second) (b .second);
+      second = λ i l u. a .second i l u ∙ b .second i l u;
     }
 
 pub ipv6-sym : {p q : List ℕ} → AlikeIpv6 p q → AlikeIpv6 q p
@@ -142,7 +134,7 @@ ipv6-sym {p} {q} a =
       first = sym (a .first);
       second = sym (a .second);
       flowLabel = sym (a .flowLabel);
-      third = agree-sym 4 8 p q (a .third);
+      third = λ i l u. sym (a .third i l u);
     }
 
 pub ipv6-trans : {p q r : List ℕ} → AlikeIpv6 p q → AlikeIpv6 q r → AlikeIpv6 p r
@@ -152,13 +144,13 @@ ipv6-trans {p} {q} {r} a b =
       first = a .first ∙ b .first;
       second = a .second ∙ b .second;
       flowLabel = a .flowLabel ∙ b .flowLabel;
-      third = agree-trans 4 8 p q r (a .third) (b .third);
+      third = λ i l u. a .third i l u ∙ b .third i l u;
     }
 
 -- ---- packets
 
 body-sym : (p q : List ℕ) (from to : ℕ) {r : IpRead} → AlikeBody p q from to r → AlikeBody q p from to r
-body-sym p q from to (AlikeBody.no-tcp a) = AlikeBody.no-tcp (agree-sym from to p q a)
+body-sym p q from to (AlikeBody.no-tcp a) = AlikeBody.no-tcp (λ i l u. sym (a i l u))
 body-sym p q from to (AlikeBody.unread long a) = let size = a .sameLength in AlikeBody.unread (omega arith) (tcp-sym a)
 body-sym p q from to (AlikeBody.tcp a) = AlikeBody.tcp (tcp-sym a)
 
@@ -169,12 +161,12 @@ body-trans
     → AlikeBody p q from to x
     → AlikeBody q r from to x
     → AlikeBody p r from to x
-body-trans p q r from to s s' (AlikeBody.no-tcp a) (AlikeBody.no-tcp b) = AlikeBody.no-tcp (agree-trans from to p q r a b)
+body-trans p q r from to s s' (AlikeBody.no-tcp a) (AlikeBody.no-tcp b) = AlikeBody.no-tcp (λ i l u. a i l u ∙ b i l u)
 body-trans p q r from to s s' (AlikeBody.no-tcp a) (AlikeBody.unread long b) =
-    let e = part-same from to p q s a in
+    let e = part-same from to p q s (λ i l u. a i (omega arith) (omega arith)) in
     AlikeBody.unread (rw e long) (rw e b)
 body-trans p q r from to s s' (AlikeBody.unread long a) (AlikeBody.no-tcp b) =
-    AlikeBody.unread long (rw (← part-same from to q r s' b) a)
+    AlikeBody.unread long (rw (← part-same from to q r s' (λ i l u. b i (omega arith) (omega arith))) a)
 body-trans p q r from to s s' (AlikeBody.unread long a) (AlikeBody.unread long' b) = AlikeBody.unread long (tcp-trans a b)
 body-trans p q r from to s s' (AlikeBody.tcp a) (AlikeBody.tcp b) = AlikeBody.tcp (tcp-trans a b)
 

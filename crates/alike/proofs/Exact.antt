@@ -60,9 +60,9 @@ view p q i (Within.lies (Free.in-tcp {f} e x) after before) = by (part-lies p f 
     by (Lies.between (Ends.four v) s t) = four v (Free4.in-part (omega arith) (Inner.read e x after before))
     by (Lies.between (Ends.six v) s t) = six v (Free6.in-part (omega arith) (Inner.read e x after before))
 view p q i (Within.lies (Free.in-unread4 v e long x) after before) =
-    four v (Free4.in-part (omega arith) (Inner.unread e long x after before))
+    four v (Free4.in-part (omega arith) (Inner.unread e (omega arith) x after before))
 view p q i (Within.lies (Free.in-unread6 v e long x) after before) =
-    six v (Free6.in-part (omega arith) (Inner.unread e long x after before))
+    six v (Free6.in-part (omega arith) (Inner.unread e (omega arith) x after before))
 
 -- ---- from places to fields: version 4
 
@@ -214,7 +214,7 @@ module _ (p q : List ℕ) (same : length p ≡ length q) (i : ℕ) (differ : byt
     where
       outer : Inner p q (headerEnd4 p) (lengthEnd4 p) i → Within (Free p q) i
       outer (Inner.read e x after before) = Within.lies (Free.in-tcp e x) after before
-      outer (Inner.unread e long x after before) = Within.lies (Free.in-unread4 v e long x) after before
+      outer (Inner.unread e long x after before) = Within.lies (Free.in-unread4 v e (omega arith) x) after before
 
   place6
       : v4.version p ≡ 6
@@ -243,7 +243,7 @@ module _ (p q : List ℕ) (same : length p ≡ length q) (i : ℕ) (differ : byt
     where
       outer : Inner p q (headerEnd6 p) (lengthEnd6 p) i → Within (Free p q) i
       outer (Inner.read e x after before) = Within.lies (Free.in-tcp e x) after before
-      outer (Inner.unread e long x after before) = Within.lies (Free.in-unread6 v e long x) after before
+      outer (Inner.unread e long x after before) = Within.lies (Free.in-unread6 v e (omega arith) x) after before
 
 differ-only : (p q : List ℕ) → Alike p q → DifferOnly (Free p q) p q
 differ-only p q (Alike.same e) = record { sameLength = ap length e; free = λ i differ. absurd (differ (rw e)) }

@@ -32,7 +32,7 @@ pub data LikeRow : List Opt → List Opt → Type 0 where
 -- Alike in the sense of the statement is alike in this sense.
 pub like-stamps : {s t : List ℕ} → AlikeStamps s t → LikeStamps s t
 like-stamps a =
-    record { sameLength = a .sameLength; lengthByte = a .lengthByte; ownStamp = a .ownStamp; peerStamp = a .peerStamp }
+    record { sameLength = a .sameLength; lengthByte = a .lengthByte 0 (omega arith) (omega arith); ownStamp = a .ownStamp; peerStamp = a .peerStamp }
 
 pub like-row : {os ps : List Opt} → AlikeRow os ps → LikeRow os ps
 like-row AlikeRow.none = none

@@ -70,10 +70,10 @@ module _ (b c : ℕ) (s t : List ℕ) (d : DifferOnly (FreeStamp (b ∷ s) (c �
     where
       clash : Within (FreeStamp (b ∷ s) (c ∷ t)) (suc i) → ⊥
       clash (Within.lies (FreeStamp.own Reached.first k w l z) after before) =
-          own k w (omega arith) (rw (be32-behind b 1 s, be32-behind c 1 t) at z) (omega arith) (omega arith)
+          own k (omega arith) (omega arith) (rw (be32-behind b 1 s, be32-behind c 1 t) at z) (omega arith) (omega arith)
       clash (Within.lies (FreeStamp.own (Reached.next r) k w l z) after before) = omega arith
       clash (Within.lies (FreeStamp.peer Reached.first k w l z) after before) =
-          peer k w (omega arith) (rw (be32-behind b 5 s, be32-behind c 5 t) at z) (omega arith) (omega arith)
+          peer k (omega arith) (omega arith) (rw (be32-behind b 5 s, be32-behind c 5 t) at z) (omega arith) (omega arith)
       clash (Within.lies (FreeStamp.peer (Reached.next r) k w l z) after before) = omega arith
 
   -- The own bytes of an option that is no timestamps option.
@@ -88,7 +88,8 @@ module _ (b c : ℕ) (s t : List ℕ) (d : DifferOnly (FreeStamp (b ∷ s) (c �
       let cut = length-take (asked b s) s in
       record {
         sameLength = take-alike (asked b s) s t size;
-        lengthByte = take-byte (asked b s) s t 0 (λ h. length-byte);
+        lengthByte = λ i l u.
+            take-byte (asked b s) s t i (λ v. own-place i v (λ k w r z x y. omega arith) (λ k w r z x y. omega arith));
         ownStamp = λ h.
             rw (be32-take (asked b s) 1 s (omega arith), be32-take (asked b s) 1 t (omega arith))
             (zero-alike (be32 s 1) (be32 t 1) (λ other. be32-agree 1 s t (λ i l u.
@@ -152,7 +153,11 @@ module _ (b c : ℕ) (s t : List ℕ) (d : DifferOnly (FreeStamp (b ∷ s) (c �
 
   first-too : AlikeOptions (drop (asked b s) s) (drop (asked b s) t) → AlikeOptions (b ∷ s) (c ∷ t)
   first-too rest =
-      rw (← kind) (elim (ℕ-discrete b 8) [ yes e ↦ one-more (stamps e) rest | no other ↦ one-more (rw (own-same other) AlikeOption.same) rest ])
+      rw (← kind)
+      (elim (ℕ-discrete b 8) [
+        | yes e ↦ one-more (stamps e) rest
+        | no other ↦ one-more (rw (own-same other) AlikeOption.same) rest
+      ])
     where
       stamps : b ≡ 8 → AlikeOption (record { kind = b; own = take (asked b s) s }) (record { kind = b; own = take (asked b s) t })
       stamps e = let a = stamps-alike e in rw e (AlikeOption.stamps (rw e at a))

@@ -83,15 +83,15 @@ module _ (b c : ℕ) (s t : List ℕ) (size : length s ≡ length t) (first : Ca
       → Within (FreeStamp (b ∷ s) (c ∷ t)) (suc i)
   stamps-place e a i h inside differ =
       elim (decLe i 0) [
-        | yes zeroth ↦ (let z : i ≡ 0 = omega arith in absurd (differ (rw z (a .lengthByte))))
+        | yes zeroth ↦ absurd (differ (a .lengthByte i (omega arith) (omega arith)))
         | no pos ↦ elim (decLe i 4) [
           | yes four ↦ elim (decLe (length (take (asked b s) s)) 4) [
-            | yes cut ↦ absurd (differ (a .ownCut cut i (omega arith) (omega arith)))
+            | yes cut ↦ absurd (differ (a .ownCut (omega arith) i (omega arith) (omega arith)))
             | no whole ↦ own-free (omega arith) (omega arith) (omega arith)
           ]
           | no over ↦ elim (decLe i 8) [
             | yes eight ↦ elim (decLe (length (take (asked b s) s)) 8) [
-              | yes cut ↦ absurd (differ (a .peerCut cut i (omega arith) (omega arith)))
+              | yes cut ↦ absurd (differ (a .peerCut (omega arith) i (omega arith) (omega arith)))
               | no whole ↦ peer-free (omega arith) (omega arith) (omega arith)
             ]
             | no past ↦ absurd (differ (a .beyond i (omega arith) (omega (arith, length-take (asked b s) s))))
@@ -111,7 +111,7 @@ module _ (b c : ℕ) (s t : List ℕ) (size : length s ≡ length t) (first : Ca
           Within.lies
           (FreeStamp.own {at = 0} Reached.first e (omega arith) (omega arith)
           (rw (be32-behind b 1 s, be32-behind c 1 t)
-          (rw (be32-take (asked b s) 1 s (omega arith), be32-take (asked c t) 1 t (omega arith)) at (a .ownStamp whole))))
+          (rw (be32-take (asked b s) 1 s (omega arith), be32-take (asked c t) 1 t (omega arith)) at (a .ownStamp (omega arith)))))
           (omega arith) (omega arith)
 
       peer-free : 8 < length (take (asked b s) s) → 5 ≤ i → i < 9 → Within (FreeStamp (b ∷ s) (c ∷ t)) (suc i)
@@ -123,7 +123,7 @@ module _ (b c : ℕ) (s t : List ℕ) (size : length s ≡ length t) (first : Ca
           Within.lies
           (FreeStamp.peer {at = 0} Reached.first e (omega arith) (omega arith)
           (rw (be32-behind b 5 s, be32-behind c 5 t)
-          (rw (be32-take (asked b s) 5 s (omega arith), be32-take (asked c t) 5 t (omega arith)) at (a .peerStamp whole))))
+          (rw (be32-take (asked b s) 5 s (omega arith), be32-take (asked c t) 5 t (omega arith)) at (a .peerStamp (omega arith)))))
           (omega arith) (omega arith)
 
   -- The own bytes differ only in free halves.
@@ -215,7 +215,8 @@ one-longer n shorter (b ∷ s) (c ∷ t) h size row (suc i) differ =
         (before b c s t same (first-of row) (i - asked b s)
         (shorter (drop (asked b s) s) (drop (asked b s) t) (rw length-drop (omega arith)) (drop-alike (asked b s) s t same)
         (rest-row b c s t same (first-of row) (omega arith) (later-of row)) (i - asked b s)
-        (λ same-byte. differ (rw (getD-drop (asked b s) s (i - asked b s) 0, getD-drop (asked b s) t (i - asked b s) 0, e) at same-byte))))
+        (λ same-byte.
+        differ (rw (getD-drop (asked b s) s (i - asked b s) 0, getD-drop (asked b s) t (i - asked b s) 0, e) at same-byte))))
 
 bounded : (n : ℕ) (s t : List ℕ) → length s < n → length s ≡ length t → AlikeOptions s t → Differs s t
 bounded zero s t h size row = absurd (omega arith)

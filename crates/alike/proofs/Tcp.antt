@@ -3,6 +3,7 @@ use mathlib.Core.Path.{_≡_}
 use mathlib.Core.Bool.{Bool, true, false}
 use mathlib.Core.List.{List}
 use Prim.Native.Nat.{ℕ}
+use native.Mathlib.Omega.{arith}
 use Rattle.quirks.specs.declared.QuirkSet.{QuirkSet}
 use Rattle.rfc.specs.Rfc9293 as tcp
 use Rattle.tcp.specs.declared.Mss.{Mss}
@@ -19,7 +20,7 @@ module _ (f : IpFacts) (t u : List ℕ) (peer : Mss) (a : AlikeTcp t u) where
   -- Both headers show the same quirks.
   quirks-alike : (q : QuirkSet) → shownQuirks t q ≡ shownQuirks u q
   unfolding shownQuirks headerQuirks
-  quirks-alike q = rw (a .control, a .sequence, a .acknowledgment, a .urgentPointer)
+  quirks-alike q = rw (a .control 13 (omega arith) (omega arith), a .sequence, a .acknowledgment, a .urgentPointer)
 
   -- Window, header size and payload class are the same.
   rest-alike : (w : Walked) (peer : Mss) → observationOf f t w peer ≡ observationOf f u w peer
@@ -34,7 +35,7 @@ module _ (f : IpFacts) (t u : List ℕ) (peer : Mss) (a : AlikeTcp t u) where
 
   read-tcp-alike : readTcp f t peer ≡ readTcp f u peer
   unfolding readTcp
-  read-tcp-alike = rw (a .control, observed-alike true mss.Absent, observed-alike false (knownPeer peer))
+  read-tcp-alike = rw (a .control 13 (omega arith) (omega arith), observed-alike true mss.Absent, observed-alike false (knownPeer peer))
 
 -- Two alike TCP parts give one reading, for every byte string, whatever its bytes.
 pub tcp-alike : (f : IpFacts) (t u : List ℕ) (peer : Mss) → AlikeTcp t u → readTcp f t peer ≡ readTcp f u peer

@@ -95,8 +95,8 @@ module _ (t u : List ℕ) (d : DifferOnly (FreeTcp t u) t u) where
             field i (omega arith) (omega arith) (λ z a. omega arith) (λ z a b. other z) (λ e a. omega arith) (λ a b. omega arith)
             (λ z a. omega arith)));
         dataOffset = same-offset;
-        control = plain 13 (omega arith) (omega arith);
-        window = λ i l h. plain i (omega arith) h;
+        control = λ i l h. plain i (omega arith) (omega arith);
+        window = λ i l h. plain i (omega arith) (omega arith);
         urgentPointer = zero-alike (urgentPointer t) (urgentPointer u) (λ other. be16-agree 18 t u (λ i l h.
             field i (omega arith) (omega arith) (λ z a. omega arith) (λ z a b. omega arith) (λ e a. omega arith) (λ a b. omega arith)
             (λ z a. other z)));
@@ -141,7 +141,7 @@ module _ (t u : List ℕ) (a : AlikeTcp t u) where
             | no h11 ↦ elim (decLe i 12) [
               | yes h ↦ Within.lies (FreeTcp.below-offset (a .dataOffset)) (omega arith) (omega arith)
               | no h12 ↦ elim (decLe i 13) [
-                | yes h ↦ (let e : i ≡ 13 = omega arith in absurd (differ (rw e (a .control))))
+                | yes h ↦ absurd (differ (a .control i (omega arith) (omega arith)))
                 | no h13 ↦ elim (decLe i 15) [
                   | yes h ↦ absurd (differ (a .window i (omega arith) (omega arith)))
                   | no h15 ↦ elim (decLe i 17) [

@@ -20,7 +20,7 @@ Agree from to s t = (i : ℕ) → from ≤ i → i < to → byteAt s i ≡ byteA
 -- A half that is not wholly present agrees byte by byte, and so does what lies past both.
 pub record AlikeStamps (s t : List ℕ) : Type 0 where
   pub sameLength : length s ≡ length t
-  pub lengthByte : byteAt s 0 ≡ byteAt t 0
+  pub lengthByte : Agree 0 1 s t
   pub ownStamp : 4 < length s → ZeroAlike (be32 s 1) (be32 t 1)
   pub ownCut : length s ≤ 4 → Agree 1 5 s t
   pub peerStamp : 8 < length s → ZeroAlike (be32 s 5) (be32 t 5)
