@@ -37,6 +37,7 @@ use Rattle.alike.proofs.Ip.{ip-alike-v4, ip-alike-v6}
 use Rattle.alike.proofs.Tcp.{tcp-alike}
 use Rattle.alike.proofs.Packets.{read-alike}
 use Rattle.acceptance.specs.Demand3.{TheRelation, Run, SameAnswer, AlikeFrom, AlikeBundles, Demand3, GatewaySame}
+use Rattle.acceptance.proofs.Corners.{corners}
 use Rattle.acceptance.proofs.NotFree.{not-free}
 
 -- ---- the relation
@@ -67,6 +68,7 @@ the-relation =
       exactly-options = exact-options;
       free-byte = free-byte;
       not-free = not-free;
+      corners = corners;
     }
 
 -- ---- the same answer

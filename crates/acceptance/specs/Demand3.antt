@@ -36,6 +36,7 @@ use Rattle.alike.specs.Ip.{AlikeIpv4, AlikeIpv6}
 use Rattle.alike.specs.Tcp.{AlikeTcp}
 use Rattle.alike.specs.Packets.{Alike}
 use Rattle.alike.specs.Free.{DifferOnly, Free, FreeTcp, FreeStamp}
+use Rattle.acceptance.specs.Corners.{Corners}
 use Rattle.acceptance.specs.NotFree.{NotFree}
 use Rattle.acceptance.specs.Overlap.{Overlap}
 
@@ -62,6 +63,8 @@ pub record TheRelation : Type 0 where
       : (p : List ℕ) (i v : ℕ) {from to : ℕ} → Free p (set p i v) from to → from ≤ i → i < to → Alike p (set p i v)
   -- Of what is not free, examples that change the answer.
   pub not-free : NotFree
+  -- Of what is free, corners.
+  pub corners : Corners
 
 -- ---- alike packets get the same answer
 

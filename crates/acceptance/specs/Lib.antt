@@ -1,4 +1,5 @@
 pub mod Acceptance
+pub mod Corners
 pub mod Demand1
 pub mod Demand2
 pub mod Demand3
