@@ -4,7 +4,6 @@ use mathlib.Core.Bool.{Bool}
 use mathlib.Core.List.{List}
 use Prim.Native.Nat.{ℕ, zero, suc}
 use denote.Ref.{RefT, now}
-use lib.ListN.{length}
 use Rattle.tcp.specs.declared.Mss.{Mss}
 use Rattle.flow.specs.declared.Reading.{Reading}
 use Rattle.flow.specs.Reading.{readPacket}

@@ -1,5 +1,5 @@
--- Corners of demand 3, each by its smallest input: what follows from document 01's list of free bytes where a reader may expect something
--- else (docs/DECISIONS.md, 12). `Corners` is the statement.
+-- Corners of demand 3, each by its smallest input: what document 01's list of free bytes says where a reader may expect something else
+-- (docs/DECISIONS.md, 12). `Corners` is the statement.
 use mathlib.Core.Path.{_≡_}
 use mathlib.Core.List.{List, [], _∷_}
 use Prim.Native.Nat.{ℕ}

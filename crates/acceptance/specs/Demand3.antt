@@ -1,8 +1,8 @@
 -- Demand 3: "Let two packets of equal length differ only in the free bytes that document 01 lists .. With the same peer MSS and the
--- same signature list, both get the same answer, refusals included." Which bytes are free is written in the crate `alike`, specs/Free.antt,
--- item by item and by their places; by `TheRelation.exactly` no more need be read of it. The relation itself, layer by layer and field by
--- field, stands in specs/Packets.antt, Ip.antt, Tcp.antt and Options.antt. "Demand 3 alone admits a constant, so it is stated over demand
--- 2's definitions": `readPacket` and `searchList`, of which Demand2.antt says that they are none. `Demand3` is the statement.
+-- same signature list, both get the same answer, refusals included." Which bytes are free is written in the crate `alike`, in
+-- specs/Free.antt, item by item and by their places; by `TheRelation.exactly` no more need be read of the relation. It stands field by
+-- field and layer by layer in specs/Packets.antt, Ip.antt, Tcp.antt and Options.antt. "Demand 3 alone admits a constant, so it is stated
+-- over demand 2's definitions": `readPacket` and `searchList`, of which Demand2.antt says that they are none. `Demand3` is the statement.
 use mathlib.Core.Path.{_≡_}
 use mathlib.Core.Bool.{Bool}
 use mathlib.Core.List.{List}
@@ -149,7 +149,7 @@ pub record BundleSame : Type 0 where
       → answerAt b at ≡ answerAt c to
   -- the whole output, byte by byte, refusals 12, 9 and 10 included; `longer`: the input goes on past the buffer
   pub whole : (b c : List ℕ) (longer : Bool) → AlikeBundles b c → outputOfInput b longer ≡ outputOfInput c longer
-  -- The same list must be asked for: two bundles that differ in a free byte of a packet need not agree, since that byte may be the list's.
+  -- Two bundles that differ in a free byte of a packet need not agree: that byte may be the list's.
   pub not-whole : Overlap
 
 pub record Demand3 : Type 0 where

@@ -1,5 +1,5 @@
 -- What lies between the header's end and the end of the IP length is alike exactly if it differs only in free items of a TCP part.
-use mathlib.Core.Path.{_≡_, refl, sym, _∙_, ap}
+use mathlib.Core.Path.{_≡_, refl, ap}
 use mathlib.Core.Bool.{Bool, true, false, cond, not, _||_}
 use mathlib.Core.List.{List}
 use Prim.Native.Nat.{ℕ, _+_, _-_, _<_, _≤_, min}
@@ -19,9 +19,8 @@ use Rattle.ip.specs.Ip.{ipv4Facts, readIpv4, ipv6Facts, readIpv6, readIp}
 use Rattle.flow.specs.Reading.{tcpPart}
 use Rattle.alike.specs.Options.{Agree}
 use Rattle.alike.specs.Tcp.{AlikeTcp}
-use Rattle.alike.specs.Ip.{headerEnd4, lengthEnd4, headerEnd6, lengthEnd6}
 use Rattle.alike.specs.Packets.{AlikeBody}
-use Rattle.alike.specs.Free.{Within, FreeTcp}
+use Rattle.alike.specs.Free.{headerEnd4, lengthEnd4, headerEnd6, lengthEnd6, Within, FreeTcp}
 use Rattle.alike.proofs.Places.{part-alike, part-byte, part-within, part-differ}
 use Rattle.alike.proofs.TcpExact.{tcp-alike-by, tcp-differ}
 

@@ -10,9 +10,10 @@ use Rattle.rfc.specs.Rfc9293.{options}
 use Rattle.one_option.specs.Options.{Opt, optionsOf}
 use Rattle.ip.specs.declared.IpRead.{IpRead}
 use Rattle.ip.specs.Ip.{readIp}
+use Rattle.alike.specs.Free.{headerEnd4, lengthEnd4, headerEnd6, lengthEnd6}
 use Rattle.alike.specs.Options.{AlikeStamps, AlikeOption, AlikeRow}
 use Rattle.alike.specs.Tcp.{AlikeTcp}
-use Rattle.alike.specs.Ip.{AlikeIpv4, AlikeIpv6, headerEnd4, lengthEnd4, headerEnd6, lengthEnd6}
+use Rattle.alike.specs.Ip.{AlikeIpv4, AlikeIpv6}
 use Rattle.alike.specs.Packets.{AlikeBody, Alike}
 use Rattle.alike.proofs.Places.{part-same}
 use Rattle.alike.proofs.Ip.{byte0, total-length-alike, payload-length-alike, ip-alike-v4, ip-alike-v6}

@@ -10,14 +10,10 @@ use lib.Seq.{ext-getD, getD-set-other}
 use Rattle.basis.specs.Bytes.{byteAt, be16}
 use Rattle.rfc.specs.Rfc791 as v4
 use Rattle.rfc.specs.Rfc8200 as v6
-use Rattle.ip.specs.declared.IpFacts.{IpFacts}
-use Rattle.ip.specs.declared.IpRead.the-variants as ip
 use Rattle.ip.specs.Ip.{readIp}
-use Rattle.flow.specs.Reading.{tcpPart}
-use Rattle.alike.specs.Options.{ZeroAlike}
-use Rattle.alike.specs.Ip.{AlikeIpv4, AlikeIpv6, headerEnd4, lengthEnd4, headerEnd6, lengthEnd6}
+use Rattle.alike.specs.Ip.{AlikeIpv4, AlikeIpv6}
 use Rattle.alike.specs.Packets.{AlikeBody, Alike}
-use Rattle.alike.specs.Free.{Within, DifferOnly, FreeTcp, Free}
+use Rattle.alike.specs.Free.{ZeroAlike, headerEnd4, lengthEnd4, headerEnd6, lengthEnd6, Within, DifferOnly, Free}
 use Rattle.alike.proofs.Places.{agrees, past-both, be16-agree, zero-alike}
 use Rattle.alike.proofs.BodyExact.{Ends, Lies, Inner, part-lies, at-ends, body-alike-by, body-differ}
 

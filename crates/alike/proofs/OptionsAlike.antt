@@ -9,8 +9,8 @@ use lib.Seq.{getD-drop}
 use Rattle.basis.specs.Bytes.{byteAt, be32}
 use Rattle.one_option.specs.Options.{asked, optionsAfter}
 use Rattle.syn_options.proofs.Walk.{skipped}
-use Rattle.alike.specs.Options.{ZeroAlike, AlikeStamps, AlikeOption, AlikeRow, AlikeOptions}
-use Rattle.alike.specs.Free.{Within, DifferOnly, Reached, FreeStamp}
+use Rattle.alike.specs.Options.{AlikeStamps, AlikeOption, AlikeRow, AlikeOptions}
+use Rattle.alike.specs.Free.{ZeroAlike, Within, DifferOnly, Reached, FreeStamp}
 use Rattle.alike.proofs.Places.{agrees, be32-agree, be32-take, be32-drop, zero-alike, take-alike, drop-alike, take-byte, drop-byte, take-same}
 
 -- ---- what an option asks for, and places behind it

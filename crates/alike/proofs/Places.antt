@@ -10,8 +10,8 @@ use lib.Dec.{eqb}
 use lib.ListN.{length, take, drop, length-take, length-drop, List·getD-eq-default}
 use lib.Seq.{getD-take, getD-drop, ext-getD}
 use Rattle.basis.specs.Bytes.{byteAt, be16, be32, part}
-use Rattle.alike.specs.Options.{ZeroAlike, Agree}
-use Rattle.alike.specs.Free.{Within, DifferOnly}
+use Rattle.alike.specs.Options.{Agree}
+use Rattle.alike.specs.Free.{ZeroAlike, Within, DifferOnly}
 
 -- ---- bytes
 

@@ -8,9 +8,9 @@ use native.Mathlib.Decide.{decLe, ℕ-discrete}
 use lib.ListN.{length}
 use Rattle.basis.specs.Bytes.{byteAt, part}
 use Rattle.rfc.specs.Rfc9293.{sequence, acknowledgment, dataOffset, urgentPointer, optionsEnd, options}
-use Rattle.alike.specs.Options.{ZeroAlike, AlikeOptions}
+use Rattle.alike.specs.Options.{AlikeOptions}
 use Rattle.alike.specs.Tcp.{AlikeTcp}
-use Rattle.alike.specs.Free.{Within, DifferOnly, FreeStamp, FreeTcp}
+use Rattle.alike.specs.Free.{ZeroAlike, Within, DifferOnly, FreeStamp, FreeTcp}
 use Rattle.alike.proofs.Places.{agrees, past-both, be16-agree, be32-agree, zero-alike, part-alike, part-byte, part-within, part-differ}
 use Rattle.alike.proofs.OptionsAlike.{options-alike-by}
 use Rattle.alike.proofs.OptionsDiffer.{options-differ}

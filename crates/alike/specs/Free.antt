@@ -3,6 +3,7 @@
 use mathlib.Core.Path.{_≡_}
 use mathlib.Core.List.{List, _∷_}
 use Prim.Native.Nat.{ℕ, suc, _+_, _*_, _/_, _<_, _≤_, max}
+use lib.Dec.{eqb}
 use lib.ListN.{length, drop}
 use Rattle.basis.specs.Bytes.{byteAt, be32, part}
 use Rattle.rfc.specs.Rfc791 as v4
@@ -14,8 +15,6 @@ use Rattle.ip.specs.declared.IpRead.the-variants as ip
 use Rattle.ip.specs.declared.Refusal.{Refusal}
 use Rattle.ip.specs.Ip.{readIp}
 use Rattle.flow.specs.Reading.{tcpPart}
-use Rattle.alike.specs.Options.{ZeroAlike}
-use Rattle.alike.specs.Ip.{headerEnd4, lengthEnd4, headerEnd6, lengthEnd6}
 
 -- A place lies in an item.
 pub data Within (Item : ℕ → ℕ → Type 0) (i : ℕ) : Type 0 where
@@ -26,10 +25,31 @@ pub record DifferOnly (Item : ℕ → ℕ → Type 0) (p q : List ℕ) : Type 0 
   pub sameLength : length p ≡ length q
   pub free : (i : ℕ) → (byteAt p i ≡ byteAt q i → ⊥) → Within Item i
 
+-- ---- the words of the list
+
+-- "stays zero or stays nonzero"
+abbrev pub ZeroAlike : ℕ → ℕ → Type 0
+ZeroAlike m n = eqb m 0 ≡ eqb n 0
+
+-- Where the header ends, "counted as 20 bytes where its length says fewer", and where the IP length ends: bytes past both are free.
+abbrev pub headerEnd4 : List ℕ → ℕ
+headerEnd4 p = max 20 (4 * v4.ihl p)
+
+abbrev pub headerEnd6 : List ℕ → ℕ
+headerEnd6 p = 40
+
+abbrev pub lengthEnd4 : List ℕ → ℕ
+lengthEnd4 p = v4.totalLength p
+
+abbrev pub lengthEnd6 : List ℕ → ℕ
+lengthEnd6 p = 40 + v6.payloadLength p
+
 -- The walk reaches an option at this place of the string.
 pub data Reached : ℕ → List ℕ → Type 0 where
   first : {b : ℕ} {rest : List ℕ} → Reached 0 (b ∷ rest)
   next : {b n : ℕ} {rest : List ℕ} → Reached n (drop (asked b rest) rest) → Reached (suc (asked b rest + n)) (b ∷ rest)
+
+-- ---- the items
 
 -- "either four-byte half, wholly present, of a timestamps option that the walk reaches", which stays zero or stays nonzero:
 -- the option's length byte and the string both have room for it.

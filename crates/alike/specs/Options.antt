@@ -3,14 +3,10 @@
 use mathlib.Core.Path.{_≡_}
 use mathlib.Core.List.{List, [], _∷_}
 use Prim.Native.Nat.{ℕ, _<_, _≤_}
-use lib.Dec.{eqb}
 use lib.ListN.{length}
 use Rattle.basis.specs.Bytes.{byteAt, be32}
 use Rattle.one_option.specs.Options.{Opt, optionsOf}
-
--- Both are zero, or both are nonzero.
-abbrev pub ZeroAlike : ℕ → ℕ → Type 0
-ZeroAlike m n = eqb m 0 ≡ eqb n 0
+use Rattle.alike.specs.Free.{ZeroAlike}
 
 -- Two strings agree at the places from the first up to the second, which is not among them.
 abbrev pub Agree : ℕ → ℕ → List ℕ → List ℕ → Type 0

@@ -11,8 +11,9 @@ use Rattle.ip.specs.declared.IpRead.the-variants as ip
 use Rattle.ip.specs.declared.Refusal.{Refusal}
 use Rattle.ip.specs.Ip.{readIp}
 use Rattle.flow.specs.Reading.{tcpPart}
+use Rattle.alike.specs.Free.{headerEnd4, lengthEnd4, headerEnd6, lengthEnd6}
 use Rattle.alike.specs.Options.{Agree}
-use Rattle.alike.specs.Ip.{AlikeIpv4, AlikeIpv6, headerEnd4, lengthEnd4, headerEnd6, lengthEnd6}
+use Rattle.alike.specs.Ip.{AlikeIpv4, AlikeIpv6}
 use Rattle.alike.specs.Tcp.{AlikeTcp}
 
 -- What lies between the header's end and the end of the IP length. "If no TCP part of 20 bytes exists, only the IP-level

@@ -5,7 +5,8 @@ use mathlib.Core.List.{List}
 use Prim.Native.Nat.{ℕ}
 use lib.ListN.{length}
 use Rattle.rfc.specs.Rfc9293.{sequence, acknowledgment, dataOffset, urgentPointer, options}
-use Rattle.alike.specs.Options.{ZeroAlike, Agree, AlikeOptions}
+use Rattle.alike.specs.Free.{ZeroAlike}
+use Rattle.alike.specs.Options.{Agree, AlikeOptions}
 
 pub record AlikeTcp (t u : List ℕ) : Type 0 where
   pub sameLength : length t ≡ length u
