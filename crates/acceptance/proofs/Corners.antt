@@ -30,7 +30,7 @@ unfolding readIp readIpv4 readIpv6 ipv6ExtensionLength be16 be32
 corners =
     record {
       leaf =
-          free-byte extensionHeader 41 1 (Free.in-unread6 refl refl (omega arith) FreeTcp.ports) (omega arith) (omega arith);
+          free-byte extensionHeader 41 1 (Free.in-tcp6 refl (omega arith) FreeTcp.ports) (omega arith) (omega arith);
       leaf-refused = refl;
       leaf-one = refl;
       leaf-other = refl;
@@ -43,7 +43,7 @@ corners =
       header-0 = refl;
       header-0-version = refl;
       header-0-port =
-          free-byte noHeaderAndPart 20 1 (Free.in-unread4 refl refl (omega arith) FreeTcp.ports) (omega arith) (omega arith);
+          free-byte noHeaderAndPart 20 1 (Free.in-tcp4 refl (omega arith) FreeTcp.ports) (omega arith) (omega arith);
       cut-identification = free-byte cutIdentification 4 2 (Free.identification4 refl refl) (omega arith) (omega arith);
       cut-identification-zero = cut-identification-zero;
       cut-flow-label = free-byte cutFlowLabel 1 2 (Free.flowLabel6 refl refl refl) (omega arith) (omega arith);

@@ -8,15 +8,13 @@ use Rattle.basis.specs.Bytes.{byteAt}
 use Rattle.rfc.specs.Rfc791.{version}
 use Rattle.rfc.specs.Rfc9293.{options}
 use Rattle.one_option.specs.Options.{Opt, optionsOf}
-use Rattle.ip.specs.declared.IpRead.{IpRead}
-use Rattle.ip.specs.Ip.{readIp}
 use Rattle.alike.specs.Free.{headerEnd4, lengthEnd4, headerEnd6, lengthEnd6}
 use Rattle.alike.specs.Options.{AlikeStamps, AlikeOption, AlikeRow}
 use Rattle.alike.specs.Tcp.{AlikeTcp}
 use Rattle.alike.specs.Ip.{AlikeIpv4, AlikeIpv6}
 use Rattle.alike.specs.Packets.{AlikeBody, Alike}
-use Rattle.alike.proofs.Places.{part-same}
-use Rattle.alike.proofs.Ip.{byte0, total-length-alike, payload-length-alike, ip-alike-v4, ip-alike-v6}
+use Rattle.alike.proofs.Places.{part-alike}
+use Rattle.alike.proofs.Ip.{byte0, total-length-alike, payload-length-alike}
 
 -- ---- options
 
@@ -150,42 +148,35 @@ ipv6-trans {p} {q} {r} a b =
 
 -- ---- packets
 
-body-sym : (p q : List ℕ) (from to : ℕ) {r : IpRead} → AlikeBody p q from to r → AlikeBody q p from to r
-body-sym p q from to (AlikeBody.no-tcp a) = AlikeBody.no-tcp (λ i l u. sym (a i l u))
-body-sym p q from to (AlikeBody.unread long a) = let size = a .sameLength in AlikeBody.unread (omega arith) (tcp-sym a)
-body-sym p q from to (AlikeBody.tcp a) = AlikeBody.tcp (tcp-sym a)
+body-sym : (p q : List ℕ) (from to : ℕ) → length p ≡ length q → AlikeBody p q from to → AlikeBody q p from to
+body-sym p q from to same (AlikeBody.no-tcp short a) =
+    let size = part-alike from to p q same in
+    AlikeBody.no-tcp (omega arith) (λ i l u. sym (a i l u))
+body-sym p q from to same (AlikeBody.tcp long a) = let size = a .sameLength in AlikeBody.tcp (omega arith) (tcp-sym a)
 
 body-trans
-    : (p q r : List ℕ) (from to : ℕ) {x : IpRead}
+    : (p q r : List ℕ) (from to : ℕ)
     → length p ≡ length q
-    → length q ≡ length r
-    → AlikeBody p q from to x
-    → AlikeBody q r from to x
-    → AlikeBody p r from to x
-body-trans p q r from to s s' (AlikeBody.no-tcp a) (AlikeBody.no-tcp b) = AlikeBody.no-tcp (λ i l u. a i l u ∙ b i l u)
-body-trans p q r from to s s' (AlikeBody.no-tcp a) (AlikeBody.unread long b) =
-    let e = part-same from to p q s (λ i l u. a i (omega arith) (omega arith)) in
-    AlikeBody.unread (rw e long) (rw e b)
-body-trans p q r from to s s' (AlikeBody.unread long a) (AlikeBody.no-tcp b) =
-    AlikeBody.unread long (rw (← part-same from to q r s' (λ i l u. b i (omega arith) (omega arith))) a)
-body-trans p q r from to s s' (AlikeBody.unread long a) (AlikeBody.unread long' b) = AlikeBody.unread long (tcp-trans a b)
-body-trans p q r from to s s' (AlikeBody.tcp a) (AlikeBody.tcp b) = AlikeBody.tcp (tcp-trans a b)
+    → AlikeBody p q from to
+    → AlikeBody q r from to
+    → AlikeBody p r from to
+body-trans p q r from to same (AlikeBody.no-tcp short a) (AlikeBody.no-tcp short' b) =
+    AlikeBody.no-tcp short (λ i l u. a i l u ∙ b i l u)
+body-trans p q r from to same (AlikeBody.no-tcp short a) (AlikeBody.tcp long b) =
+    let size = part-alike from to p q same in
+    absurd (omega arith)
+body-trans p q r from to same (AlikeBody.tcp long a) (AlikeBody.no-tcp short b) =
+    let size = part-alike from to p q same in
+    absurd (omega arith)
+body-trans p q r from to same (AlikeBody.tcp long a) (AlikeBody.tcp long' b) = AlikeBody.tcp long (tcp-trans a b)
 
--- The body of one packet has the ends and the IP answer of an alike one.
+-- The body of one packet has the ends of an alike one.
 module _ (p q x y : List ℕ) where
-  moved4
-      : version p ≡ 4
-      → AlikeIpv4 p q
-      → AlikeBody x y (headerEnd4 q) (lengthEnd4 q) (readIp q)
-      → AlikeBody x y (headerEnd4 p) (lengthEnd4 p) (readIp p)
-  moved4 four a body = rw (ip-alike-v4 p q a four, byte0 p q a, total-length-alike p q a) body
+  moved4 : AlikeIpv4 p q → AlikeBody x y (headerEnd4 q) (lengthEnd4 q) → AlikeBody x y (headerEnd4 p) (lengthEnd4 p)
+  moved4 a body = rw (byte0 p q a, total-length-alike p q a) body
 
-  moved6
-      : version p ≡ 6
-      → AlikeIpv6 p q
-      → AlikeBody x y (headerEnd6 q) (lengthEnd6 q) (readIp q)
-      → AlikeBody x y (headerEnd6 p) (lengthEnd6 p) (readIp p)
-  moved6 six a body = rw (ip-alike-v6 p q a six, payload-length-alike p q a) body
+  moved6 : AlikeIpv6 p q → AlikeBody x y (headerEnd6 q) (lengthEnd6 q) → AlikeBody x y (headerEnd6 p) (lengthEnd6 p)
+  moved6 a body = rw (payload-length-alike p q a) body
 
 version-alike : (p q : List ℕ) (n : ℕ) → byteAt p 0 ≡ byteAt q 0 → version p ≡ n → version q ≡ n
 version-alike p q n e v = ap (λ (b : ℕ). b / 16) (sym e) ∙ v
@@ -197,22 +188,22 @@ pub alike-sym : (p q : List ℕ) → Alike p q → Alike q p
 alike-sym p q (Alike.same e) = Alike.same (sym e)
 alike-sym p q (Alike.v4 four a body) =
     let four' = version-alike p q 4 (byte0 p q a) four in
-    Alike.v4 four' (ipv4-sym a) (moved4 q p q p four' (ipv4-sym a) (body-sym p q _ _ body))
+    Alike.v4 four' (ipv4-sym a) (moved4 q p q p (ipv4-sym a) (body-sym p q _ _ (a .sameLength) body))
 alike-sym p q (Alike.v6 six a body) =
     let six' = version-alike p q 6 (a .first) six in
-    Alike.v6 six' (ipv6-sym a) (moved6 q p q p six' (ipv6-sym a) (body-sym p q _ _ body))
+    Alike.v6 six' (ipv6-sym a) (moved6 q p q p (ipv6-sym a) (body-sym p q _ _ (a .sameLength) body))
 
 pub alike-trans : (p q r : List ℕ) → Alike p q → Alike q r → Alike p r
 alike-trans p q r (Alike.same e) b = rw e b
 alike-trans p q r (Alike.v4 four a x) (Alike.same e) = rw (← e) (Alike.v4 four a x)
 alike-trans p q r (Alike.v4 four a x) (Alike.v4 four' b y) =
-    Alike.v4 four (ipv4-trans a b) (body-trans p q r _ _ (a .sameLength) (b .sameLength) x (moved4 p q q r four a y))
+    Alike.v4 four (ipv4-trans a b) (body-trans p q r _ _ (a .sameLength) x (moved4 p q q r a y))
 alike-trans p q r (Alike.v4 four a x) (Alike.v6 six b y) =
     let four' = version-alike p q 4 (byte0 p q a) four in
     absurd (omega arith)
 alike-trans p q r (Alike.v6 six a x) (Alike.same e) = rw (← e) (Alike.v6 six a x)
 alike-trans p q r (Alike.v6 six a x) (Alike.v6 six' b y) =
-    Alike.v6 six (ipv6-trans a b) (body-trans p q r _ _ (a .sameLength) (b .sameLength) x (moved6 p q q r six a y))
+    Alike.v6 six (ipv6-trans a b) (body-trans p q r _ _ (a .sameLength) x (moved6 p q q r a y))
 alike-trans p q r (Alike.v6 six a x) (Alike.v4 four b y) =
     let six' = version-alike p q 6 (a .first) six in
     absurd (omega arith)

@@ -1,5 +1,5 @@
 -- Packets are alike exactly if they have one length and every place where they differ lies in a free item of document 01.
-use mathlib.Core.Path.{_≡_, refl, sym, ap}
+use mathlib.Core.Path.{_≡_, sym, ap}
 use mathlib.Core.List.{List}
 use mathlib.Core.Logic.{_↔_}
 use Prim.Native.Nat.{ℕ, _*_, _/_, _<_, _≤_}
@@ -10,12 +10,11 @@ use lib.Seq.{ext-getD, getD-set-other}
 use Rattle.basis.specs.Bytes.{byteAt, be16}
 use Rattle.rfc.specs.Rfc791 as v4
 use Rattle.rfc.specs.Rfc8200 as v6
-use Rattle.ip.specs.Ip.{readIp}
 use Rattle.alike.specs.Ip.{AlikeIpv4, AlikeIpv6}
 use Rattle.alike.specs.Packets.{AlikeBody, Alike}
 use Rattle.alike.specs.Free.{ZeroAlike, headerEnd4, lengthEnd4, headerEnd6, lengthEnd6, Within, DifferOnly, Free}
 use Rattle.alike.proofs.Places.{agrees, past-both, be16-agree, zero-alike}
-use Rattle.alike.proofs.BodyExact.{Ends, Lies, Inner, part-lies, at-ends, body-alike-by, body-differ}
+use Rattle.alike.proofs.BodyExact.{Inner, body-alike-by, body-differ}
 
 -- ---- the free places of each version
 
@@ -50,15 +49,10 @@ view p q i (Within.lies (Free.past4 v) after before) = four v (Free4.past-ends (
 view p q i (Within.lies (Free.flowLabel6 v c z) after before) = six v (Free6.in-label c z after before)
 view p q i (Within.lies (Free.addresses6 v) after before) = six v (Free6.in-header (omega arith) (omega arith))
 view p q i (Within.lies (Free.past6 v) after before) = six v (Free6.past-ends (omega arith) (omega arith))
-view p q i (Within.lies (Free.in-tcp {f} e x) after before) = by (part-lies p f e)
-  where
-    by : Lies p f → View p q i
-    by (Lies.between (Ends.four v) s t) = four v (Free4.in-part (omega arith) (Inner.read e x after before))
-    by (Lies.between (Ends.six v) s t) = six v (Free6.in-part (omega arith) (Inner.read e x after before))
-view p q i (Within.lies (Free.in-unread4 v e long x) after before) =
-    four v (Free4.in-part (omega arith) (Inner.unread e (omega arith) x after before))
-view p q i (Within.lies (Free.in-unread6 v e long x) after before) =
-    six v (Free6.in-part (omega arith) (Inner.unread e (omega arith) x after before))
+view p q i (Within.lies (Free.in-tcp4 v long x) after before) =
+    four v (Free4.in-part (omega arith) (Inner.inner (omega arith) x after before))
+view p q i (Within.lies (Free.in-tcp6 v long x) after before) =
+    six v (Free6.in-part (omega arith) (Inner.inner (omega arith) x after before))
 
 -- ---- from places to fields: version 4
 
@@ -95,8 +89,7 @@ module _ (p q : List ℕ) (v : v4.version p ≡ 4) (d : DifferOnly (Free p q) p 
   alike4 =
       Alike.v4 v header4
       (body-alike-by p q (headerEnd4 p) (lengthEnd4 p) (d .sameLength)
-      (λ i after before differ. inner4 i after before (view p q i (d .free i differ)))
-      (readIp p) refl (λ f e. at-ends p f (Ends.four v) (part-lies p f e)))
+      (λ i after before differ. inner4 i after before (view p q i (d .free i differ))))
 
 -- ---- version 6
 
@@ -152,8 +145,7 @@ module _ (p q : List ℕ) (v : v4.version p ≡ 6) (d : DifferOnly (Free p q) p 
   alike6 =
       Alike.v6 v header6
       (body-alike-by p q (headerEnd6 p) (lengthEnd6 p) (d .sameLength)
-      (λ i after before differ. inner6 i after before (view p q i (d .free i differ)))
-      (readIp p) refl (λ f e. at-ends p f (Ends.six v) (part-lies p f e)))
+      (λ i after before differ. inner6 i after before (view p q i (d .free i differ))))
 
 -- Packets of one length that differ only in free bytes, however many items at once, are alike.
 alike-by : (p q : List ℕ) → DifferOnly (Free p q) p q → Alike p q
@@ -180,7 +172,7 @@ module _ (p q : List ℕ) (same : length p ≡ length q) (i : ℕ) (differ : byt
   place4
       : v4.version p ≡ 4
       → AlikeIpv4 p q
-      → AlikeBody p q (headerEnd4 p) (lengthEnd4 p) (readIp p)
+      → AlikeBody p q (headerEnd4 p) (lengthEnd4 p)
       → Within (Free p q) i
   place4 v a body =
       let here = inside in
@@ -198,8 +190,7 @@ module _ (p q : List ℕ) (same : length p ≡ length q) (i : ℕ) (differ : byt
                   | no options ↦ Within.lies (Free.options4 v) (omega arith) (omega arith)
                   | yes h ↦ elim (decLe (lengthEnd4 p) i) [
                     | yes past ↦ Within.lies (Free.past4 v) (omega arith) (omega arith)
-                    | no within ↦ outer (body-differ p q (headerEnd4 p) (lengthEnd4 p) (readIp p) refl
-                        (λ f e. at-ends p f (Ends.four v) (part-lies p f e)) body i (omega arith) (omega arith) here differ)
+                    | no within ↦ outer (body-differ p q (headerEnd4 p) (lengthEnd4 p) body i (omega arith) (omega arith) differ)
                   ]
                 ]
               ]
@@ -209,13 +200,12 @@ module _ (p q : List ℕ) (same : length p ≡ length q) (i : ℕ) (differ : byt
       ]
     where
       outer : Inner p q (headerEnd4 p) (lengthEnd4 p) i → Within (Free p q) i
-      outer (Inner.read e x after before) = Within.lies (Free.in-tcp e x) after before
-      outer (Inner.unread e long x after before) = Within.lies (Free.in-unread4 v e (omega arith) x) after before
+      outer (Inner.inner long x after before) = Within.lies (Free.in-tcp4 v (omega arith) x) after before
 
   place6
       : v4.version p ≡ 6
       → AlikeIpv6 p q
-      → AlikeBody p q (headerEnd6 p) (lengthEnd6 p) (readIp p)
+      → AlikeBody p q (headerEnd6 p) (lengthEnd6 p)
       → Within (Free p q) i
   place6 v a body =
       let here = inside in
@@ -229,8 +219,7 @@ module _ (p q : List ℕ) (same : length p ≡ length q) (i : ℕ) (differ : byt
               | yes h ↦ Within.lies (Free.addresses6 v) (omega arith) (omega arith)
               | no h39 ↦ elim (decLe (lengthEnd6 p) i) [
                 | yes past ↦ Within.lies (Free.past6 v) (omega arith) (omega arith)
-                | no within ↦ outer (body-differ p q (headerEnd6 p) (lengthEnd6 p) (readIp p) refl
-                    (λ f e. at-ends p f (Ends.six v) (part-lies p f e)) body i (omega arith) (omega arith) here differ)
+                | no within ↦ outer (body-differ p q (headerEnd6 p) (lengthEnd6 p) body i (omega arith) (omega arith) differ)
               ]
             ]
           ]
@@ -238,8 +227,7 @@ module _ (p q : List ℕ) (same : length p ≡ length q) (i : ℕ) (differ : byt
       ]
     where
       outer : Inner p q (headerEnd6 p) (lengthEnd6 p) i → Within (Free p q) i
-      outer (Inner.read e x after before) = Within.lies (Free.in-tcp e x) after before
-      outer (Inner.unread e long x after before) = Within.lies (Free.in-unread6 v e (omega arith) x) after before
+      outer (Inner.inner long x after before) = Within.lies (Free.in-tcp6 v (omega arith) x) after before
 
 differ-only : (p q : List ℕ) → Alike p q → DifferOnly (Free p q) p q
 differ-only p q (Alike.same e) = record { sameLength = ap length e; free = λ i differ. absurd (differ (rw e)) }

@@ -8,6 +8,7 @@ pub mod Options
 pub mod OptionsAlike
 pub mod OptionsDiffer
 pub mod Packets
+pub mod Part
 pub mod Places
 pub mod Tcp
 pub mod TcpExact
