@@ -18,12 +18,14 @@ use Rattle.alike.proofs.BodyExact.{Inner, body-alike-by, body-differ}
 
 -- ---- the free places of each version
 
+-- In an IPv4 packet: in the identification, elsewhere in the header, past both ends, or in a TCP part.
 data Free4 (p q : List ℕ) (i : ℕ) : Type 0 where
   in-identification : ZeroAlike (v4.identification p) (v4.identification q) → 4 ≤ i → i < 6 → Free4 p q i
   in-header : 10 ≤ i → i < headerEnd4 p → Free4 p q i
   past-ends : headerEnd4 p ≤ i → lengthEnd4 p ≤ i → Free4 p q i
   in-part : headerEnd4 p ≤ i → Inner p q (headerEnd4 p) (lengthEnd4 p) i → Free4 p q i
 
+-- In an IPv6 packet: in the flow label, elsewhere in the header, past both ends, or in a TCP part.
 data Free6 (p q : List ℕ) (i : ℕ) : Type 0 where
   in-label
       : byteAt p 1 / 16 ≡ byteAt q 1 / 16
