@@ -17,9 +17,9 @@ use Rattle.packet_answer.specs.Packet.{peerOf, answerOf, afterReading}
 use Rattle.bundle.specs.declared.BundleCheck.{BundleCheck}
 use Rattle.bundle.specs.declared.BundleCheck.the-variants as check
 use Rattle.bundle.specs.Bundle.{packetCount, packetsOffset, listOf, packetBytes, packetPeer, packetEnd, packetFits, packetsFit, listLies, bundleFits, checkBundle}
-use Rattle.bundle.specs.Answers.{answerAt, packetLies, answersFrom, afterCheck, bundleAnswer}
+use Rattle.bundle.specs.Answers.{answerAt, packetLies, answersFrom, bundleAnswer}
 use Rattle.report.specs.Text.{lineOf}
-use Rattle.report.specs.Pages.{textOf, outputOf, outputOfInput}
+use Rattle.report.specs.Pages.{outputOf, outputOfInput}
 use Rattle.gateway.specs.declared.GatewayAnswer.{GatewayAnswer}
 use Rattle.gateway.specs.declared.GatewayAnswer.the-variants as gateway
 use Rattle.gateway.specs.Code.{packetFields, fieldsOf, codeOf, afterList, gatewayAnswer}
@@ -168,22 +168,16 @@ module _ (b c : List ℕ) (a : AlikeBundles b c) where
       answers-alike (packetCount b) (packetsOffset b) (a .packets)
       ∙ ap₂ (λ (x y : ℕ). answersFrom c x y) (a .offset) (a .count)
 
-  texts-alike : outputOf b ≡ outputOf c
+  by-check : (x : BundleCheck) → checkBundle c ≡ x → outputOf b ≡ outputOf c
   unfolding outputOf bundleAnswer
-  texts-alike = rw (check-alike, a .count) (by-check (checkBundle c))
-    where
-      by-check
-          : (x : BundleCheck)
-          → textOf (afterCheck x b .check) (packetCount c) (afterCheck x b .answers)
-          ≡ textOf (afterCheck x c .check) (packetCount c) (afterCheck x c .answers)
-      by-check check.Good = rw same-answers
-      by-check check.DoesNotFit = refl
-      by-check check.ListDoesNotFit = refl
-      by-check (check.BadRecord i) = refl
+  by-check check.Good e = rw (check-alike, e, same-answers, a .count)
+  by-check check.DoesNotFit e = rw (check-alike, e)
+  by-check check.ListDoesNotFit e = rw (check-alike, e)
+  by-check (check.BadRecord i) e = rw (check-alike, e)
 
 output-alike : (b c : List ℕ) (longer : Bool) → AlikeBundles b c → outputOfInput b longer ≡ outputOfInput c longer
 unfolding outputOfInput
-output-alike b c longer a = rw (texts-alike b c a)
+output-alike b c longer a = rw (by-check b c a (checkBundle c) refl)
 
 pub demand3 : Demand3
 demand3 =
