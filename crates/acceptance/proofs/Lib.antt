@@ -1,6 +1,7 @@
 pub mod Acceptance
 pub mod BadRecord
 pub mod BundleRefusals
+pub mod Corners
 pub mod Demand1
 pub mod Demand2
 pub mod Demand3

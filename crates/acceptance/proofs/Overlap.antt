@@ -34,7 +34,7 @@ use Rattle.bundle.specs.Answers.{answerAt, packetLies, answersFrom, bundleAnswe
 use Rattle.report.specs.Text.{width, decimal, foundText, answerText, lineOf, headLine, refusedLine}
 use Rattle.report.specs.Pages.{linesOf, outputOf}
 use Rattle.alike.specs.Free.{Free}
-use Rattle.alike.proofs.Free.{free-byte}
+use Rattle.alike.proofs.Exact.{free-byte}
 use Rattle.acceptance.specs.Values.{packetA}
 use Rattle.acceptance.specs.Overlap.{Overlap}
 

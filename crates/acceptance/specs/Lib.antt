@@ -1,5 +1,6 @@
 pub mod Acceptance
 pub mod Answers
+pub mod Corners
 pub mod Demand1
 pub mod Demand2
 pub mod Demand3
