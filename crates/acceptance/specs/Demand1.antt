@@ -137,8 +137,7 @@ use Rattle.bundle.proofs.packet_at.Reads as packet-at'
 use Rattle.bundle.proofs.answer_at.Reads as answer-at'
 -- report
 use Rattle.report.specs.declared.Progress.{Progress}
-use Rattle.report.specs.Pages.{written, Page, progressOf, firstPage, nextPage, allPages, outputOfInput}
-use Rattle.report.proofs.Unique.{left-with}
+use Rattle.report.specs.Pages.{written, Page, pageSize, progressOf, firstPage, nextPage, allPages, outputOfInput, left-with}
 use Rattle.report.proofs.first_page.Reads as first-page'
 use Rattle.report.proofs.next_page.Reads as next-page'
 -- gateway
@@ -310,14 +309,14 @@ pub record PageAnswers {A E : Type 0} (pre : A → Type 0) (post : A → Progres
 pub record Report : Type 0 where
   pub first-page
       : (κs : Lfts 2) (bundle page : RefT (List ℕ)) (longer : Bool)
-      → PageAnswers (first-page'.Pre κs) (first-page'.Post κs) (bundle, (longer, (page, tt))) (λ bytes. (bundle, (longer, (left-with page bytes, tt)))) (now page) (firstPage (now bundle) longer (length (now page)))
+      → PageAnswers (first-page'.Pre κs) (first-page'.Post κs) (bundle, (longer, (page, tt))) (λ bytes. (bundle, (longer, (left-with page bytes, tt)))) (now page) (firstPage (now bundle) longer)
   pub next-page
       : (κs : Lfts 2) (bundle page : RefT (List ℕ)) (progress : Progress)
-      → PageAnswers (next-page'.Pre κs) (next-page'.Post κs) (bundle, (progress, (page, tt))) (λ bytes. (bundle, (progress, (left-with page bytes, tt)))) (now page) (nextPage (now bundle) (length (now page)) (progress .left) (progress .at))
+      → PageAnswers (next-page'.Pre κs) (next-page'.Post κs) (bundle, (progress, (page, tt))) (λ bytes. (bundle, (progress, (left-with page bytes, tt)))) (now page) (nextPage (now bundle) (progress .left) (progress .at))
   -- The pages, one after the other, are the output: nothing is lost, doubled or moved, and each fits its page.
-  pub whole : (b : List ℕ) (longer : Bool) (size : ℕ) → 19 ≤ size → allPages b longer size ≡ outputOfInput b longer
-  pub first-fits : (b : List ℕ) (longer : Bool) (size : ℕ) → length (firstPage b longer size .text) ≤ size
-  pub next-fits : (b : List ℕ) (size left at : ℕ) → length (nextPage b size left at .text) ≤ size
+  pub whole : (b : List ℕ) (longer : Bool) → allPages b longer ≡ outputOfInput b longer
+  pub first-fits : (b : List ℕ) (longer : Bool) → length (firstPage b longer .text) ≤ pageSize
+  pub next-fits : (b : List ℕ) (left at : ℕ) → length (nextPage b left at .text) ≤ pageSize
 
 pub record Gateway : Type 0 where
   pub check-list
