@@ -8,6 +8,7 @@ pub mod Fails
 pub mod First
 pub mod Fit
 pub mod Honesty
+pub mod Lines
 pub mod NotFree
 pub mod Observation
 pub mod Overlap

@@ -4,11 +4,13 @@ use Rattle.acceptance.specs.Demand1.{Demand1}
 use Rattle.acceptance.specs.Demand2.{Demand2}
 use Rattle.acceptance.specs.Demand3.{Demand3}
 use Rattle.acceptance.specs.Honesty.{Honesty}
+use Rattle.acceptance.specs.Lines.{Lines}
 use Rattle.acceptance.specs.Refusals.{Refusals}
 
 pub record Acceptance : Type 0 where
   -- B: "Exact, fuzzy and none stay three answers."
   pub honesty : Honesty
+  pub lines : Lines
   -- C1: every input gets exactly one answer; "Bad input is refused by the number and in the order of document 01".
   pub demand1 : Demand1
   pub refusals : Refusals

@@ -3,6 +3,7 @@ pub mod Demand1
 pub mod Demand2
 pub mod Demand3
 pub mod Honesty
+pub mod Lines
 pub mod NotFree
 pub mod Overlap
 pub mod Refusals
