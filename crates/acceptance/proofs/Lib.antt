@@ -11,8 +11,11 @@ pub mod Honesty
 pub mod Lines
 pub mod NotFree
 pub mod Observation
+pub mod OnPaper
 pub mod Overlap
 pub mod PacketGives
 pub mod PacketRefusals
+pub mod PaperRows
+pub mod PaperTold
 pub mod Refusals
 pub mod Values

@@ -5,6 +5,7 @@ use Rattle.acceptance.specs.Demand2.{Demand2}
 use Rattle.acceptance.specs.Demand3.{Demand3}
 use Rattle.acceptance.specs.Honesty.{Honesty}
 use Rattle.acceptance.specs.Lines.{Lines}
+use Rattle.acceptance.specs.OnPaper.{OnPaper}
 use Rattle.acceptance.specs.Refusals.{Refusals}
 
 pub record Acceptance : Type 0 where
@@ -14,6 +15,7 @@ pub record Acceptance : Type 0 where
   -- C1: every input gets exactly one answer; "Bad input is refused by the number and in the order of document 01".
   pub demand1 : Demand1
   pub refusals : Refusals
+  pub onPaper : OnPaper
   -- C2: the definitions' values, the multiplier, the single fit.
   pub demand2 : Demand2
   -- C3: packets that differ only in free bytes get the same answer.

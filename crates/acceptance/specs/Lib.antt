@@ -5,6 +5,7 @@ pub mod Demand3
 pub mod Honesty
 pub mod Lines
 pub mod NotFree
+pub mod OnPaper
 pub mod Overlap
 pub mod Refusals
 pub mod Values
