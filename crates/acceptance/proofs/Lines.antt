@@ -249,7 +249,9 @@ lines =
       counts = λ m n hm hn e. sym (head-read m hm) ∙ ap behind e ∙ head-read n hn;
       no-packets-line = no-packets-line;
       no-count = no-count;
-      bundles = λ c d e. sym (refused-read (bundleRefusal c) (bundle-small c)) ∙ ap behind e ∙ refused-read (bundleRefusal d) (bundle-small d);
+      bundles =
+          λ c d e.
+          sym (refused-read (bundleRefusal c) (bundle-small c)) ∙ ap behind e ∙ refused-read (bundleRefusal d) (bundle-small d);
       packet-or-bundle = packet-or-bundle;
       words = all-words;
     }

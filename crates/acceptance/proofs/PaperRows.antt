@@ -188,6 +188,9 @@ module _ (p l : List ℕ) where
   Under8 [] = Unit {0}
   Under8 (k ∷ rest) = (k < 8) × Under8 rest
 
+  under-8 : Under8 packetOrder
+  under-8 = (omega arith, (omega arith, (omega arith, (omega arith, (omega arith, (omega arith, (omega arith, tt)))))))
+
   as-gateway : {n : ℕ} (order : List ℕ) → Under8 order → First (PacketRow p) order n → First (GatewayRow p l) order n
   as-gateway [] few First.none = First.none
   as-gateway (k ∷ rest) few (First.here r) = First.here (GatewayRow.of-packet r)
@@ -227,8 +230,7 @@ module _ (p l : List ℕ) where
           → IsRow (GatewayRow p l) (9 ∷ 10 ∷ packetOrder) p l (gatewayPaper (afterList a p (peerOf peer) l))
       by-list list.Good e f =
           let row = packet-answer-row (peerOf peer) in
-          let few : Under8 packetOrder = (omega arith, (omega arith, (omega arith, (omega arith, (omega arith, (omega arith, (omega arith, tt))))))) in
-          record { first = behind-list f refl (as-gateway packetOrder few (row .first)); also = row .also }
+          record { first = behind-list f refl (as-gateway packetOrder under-8 (row .first)); also = row .also }
       by-list list.DoesNotFit e f = record { first = in-list f (omega arith); also = list-also p l list.DoesNotFit e }
       by-list (list.BadRecord i) e f = record { first = in-list f (omega arith); also = list-also p l (list.BadRecord i) e }
 
@@ -251,10 +253,13 @@ rows =
       packet = λ p peer. record { first = packet-row p peer; also = packet-also p [] peer };
       options =
           λ s.
-          record { first = refusals .options s _ .0 (options-same (parseOptionsRaw s .answer)); also = options-also (parseOptionsRaw s .answer) };
+          let a = parseOptionsRaw s .answer in
+          record { first = refusals .options s _ .0 (options-same a); also = options-also a };
       list = λ l. record { first = list-row l; also = list-also [] l (checkList l) refl };
       search =
-          λ o l. record { first = refusals .search o l _ .0 (search-same (searchList o l)); also = search-also [] l o (searchList o l) refl };
+          λ o l.
+          let a = searchList o l in
+          record { first = refusals .search o l _ .0 (search-same a); also = search-also [] l o a refl };
       bundle = λ b. record { first = refusals .bundle b _ .0 (bundle-same (checkBundle b)); also = bundle-also b (checkBundle b) refl };
       packet-answer = λ p peer l. packet-answer-row p l peer;
       gateway = λ p peer l. gateway-row p l peer;

@@ -169,7 +169,11 @@ pub record Codes : Type 0 where
       : (p : List ℕ) (peer : ℕ) (l : List ℕ)
       → 0 < packetPaper (checkedAnswer p peer l) .number
       → checkedCode p peer l ≡ refusedCode (packetPaper (checkedAnswer p peer l))
-  pub list : (l : List ℕ) → AllBytes l → 0 < listPaper (checkList l) .number → listCode (checkList l) ≡ refusedCode (listPaper (checkList l))
+  pub list
+      : (l : List ℕ)
+      → AllBytes l
+      → 0 < listPaper (checkList l) .number
+      → listCode (checkList l) ≡ refusedCode (listPaper (checkList l))
 
 -- Nothing of a refusal is lost on paper.
 abbrev pub ToldApart : {A : Type 0} → (A → Paper) → Type 0
