@@ -1,4 +1,4 @@
--- Every line is read back, so lines that show different things differ; and every word has its letters.
+-- Every line is read back, so lines that print different things differ; and every word has its letters.
 use mathlib.Core.Path.{_≡_, refl, sym, _∙_, ap}
 use mathlib.Core.Bool.{Bool, true, false, cond}
 use mathlib.Core.List.{List, [], _∷_, _++_}
@@ -13,7 +13,6 @@ use Rattle.tcp.specs.declared.Mss.{Mss}
 use Rattle.ip.specs.declared.Refusal.{Refusal}
 use Rattle.ip.specs.declared.Refusal.the-variants as refusal
 use Rattle.ip.specs.Numbers.{number}
-use Rattle.quirks.specs.Named.{empty}
 use Rattle.found.specs.declared.Found.{Found}
 use Rattle.found.specs.declared.Found.the-variants as found
 use Rattle.packet_answer.specs.declared.PacketAnswer.{PacketAnswer}
@@ -26,7 +25,7 @@ use Rattle.gateway.specs.Decode.{AllBytes}
 use Rattle.gateway.proofs.Room.{FoundFits, PacketFits}
 use Rattle.gateway.proofs.Fits.{packet-fits}
 use Rattle.report.specs.Text.{width, decimal, newline, packetsWord, refusedWord, nothingWord, synWord, synackWord, noneWord, exactWord, fuzzyWord, foundText, answerText, lineOf, headLine, refusedLine}
-use Rattle.acceptance.specs.Lines.{ShownFound, Shown, shownFound, shown, TwoBytes, LabelFits, Words, Lines}
+use Rattle.acceptance.specs.Lines.{PrintedFound, Printed, printedFound, printed, TwoBytes, LabelFits, Words, Lines}
 
 -- ---- a number, read back from its digits up to the end of the line
 
@@ -92,16 +91,16 @@ module _ (n : ℕ) where
 
 -- ---- a line, read back
 
-readFound : List ℕ → ShownFound
+readFound : List ℕ → PrintedFound
 readFound s =
-    cond (eqb (byteAt s 0) 101) (ShownFound.exact (digitsRead 0 (drop 6 s)))
-    (cond (eqb (byteAt s 0) 102) (ShownFound.fuzzy (digitsRead 0 (drop 6 s))) ShownFound.none)
+    cond (eqb (byteAt s 0) 101) (PrintedFound.exact (digitsRead 0 (drop 6 s)))
+    (cond (eqb (byteAt s 0) 102) (PrintedFound.fuzzy (digitsRead 0 (drop 6 s))) PrintedFound.none)
 
-readLine : List ℕ → Shown
+readLine : List ℕ → Printed
 readLine s =
-    cond (eqb (byteAt s 3) 32) (Shown.syn (readFound (drop 4 s)))
-    (cond (eqb (byteAt s 3) 97) (Shown.synack (readFound (drop 7 s)))
-    (cond (eqb (byteAt s 3) 104) Shown.nothing (Shown.refused (digitsRead 0 (drop 8 s)))))
+    cond (eqb (byteAt s 3) 32) (Printed.syn (readFound (drop 4 s)))
+    (cond (eqb (byteAt s 3) 97) (Printed.synack (readFound (drop 7 s)))
+    (cond (eqb (byteAt s 3) 104) Printed.nothing (Printed.refused (digitsRead 0 (drop 8 s)))))
 
 number-small : (r : Refusal) → number r ≤ 7
 unfolding number
@@ -113,45 +112,45 @@ number-small refusal.Fragment = omega arith
 number-small refusal.TcpTooShort = omega arith
 number-small (refusal.InvalidTcpFlags flags) = omega arith
 
-read-line : (a : PacketAnswer) → LabelFits a → readLine (lineOf a) ≡ shown a
+read-line : (a : PacketAnswer) → LabelFits a → readLine (lineOf a) ≡ printed a
 unfolding lineOf answerText foundText readLine readFound
-read-line (packet.Syn (found.Exact label)) h = ap (λ (n : ℕ). Shown.syn (ShownFound.exact n)) (read-decimal label h)
-read-line (packet.Syn (found.Fuzzy label reason)) h = ap (λ (n : ℕ). Shown.syn (ShownFound.fuzzy n)) (read-decimal label h)
+read-line (packet.Syn (found.Exact label)) h = ap (λ (n : ℕ). Printed.syn (PrintedFound.exact n)) (read-decimal label h)
+read-line (packet.Syn (found.Fuzzy label reason)) h = ap (λ (n : ℕ). Printed.syn (PrintedFound.fuzzy n)) (read-decimal label h)
 read-line (packet.Syn found.None) h = refl
-read-line (packet.SynAck (found.Exact label)) h = ap (λ (n : ℕ). Shown.synack (ShownFound.exact n)) (read-decimal label h)
-read-line (packet.SynAck (found.Fuzzy label reason)) h = ap (λ (n : ℕ). Shown.synack (ShownFound.fuzzy n)) (read-decimal label h)
+read-line (packet.SynAck (found.Exact label)) h = ap (λ (n : ℕ). Printed.synack (PrintedFound.exact n)) (read-decimal label h)
+read-line (packet.SynAck (found.Fuzzy label reason)) h = ap (λ (n : ℕ). Printed.synack (PrintedFound.fuzzy n)) (read-decimal label h)
 read-line (packet.SynAck found.None) h = refl
 read-line packet.Nothing h = refl
-read-line (packet.Refused r) h = ap Shown.refused (read-decimal (number r) (let few = number-small r in omega arith))
+read-line (packet.Refused r) h = ap Printed.refused (read-decimal (number r) (let few = number-small r in omega arith))
 
--- ---- the line of what is shown
+-- ---- the line of what is printed
 
-foundShown : ShownFound → List ℕ
-foundShown (ShownFound.exact n) = exactWord ++ decimal n
-foundShown (ShownFound.fuzzy n) = fuzzyWord ++ decimal n
-foundShown ShownFound.none = noneWord
+foundPrinted : PrintedFound → List ℕ
+foundPrinted (PrintedFound.exact n) = exactWord ++ decimal n
+foundPrinted (PrintedFound.fuzzy n) = fuzzyWord ++ decimal n
+foundPrinted PrintedFound.none = noneWord
 
-lineShown : Shown → List ℕ
-lineShown (Shown.syn f) = synWord ++ foundShown f ++ newline
-lineShown (Shown.synack f) = synackWord ++ foundShown f ++ newline
-lineShown Shown.nothing = nothingWord ++ newline
-lineShown (Shown.refused n) = refusedWord ++ decimal n ++ newline
+linePrinted : Printed → List ℕ
+linePrinted (Printed.syn f) = synWord ++ foundPrinted f ++ newline
+linePrinted (Printed.synack f) = synackWord ++ foundPrinted f ++ newline
+linePrinted Printed.nothing = nothingWord ++ newline
+linePrinted (Printed.refused n) = refusedWord ++ decimal n ++ newline
 
-line-shown : (a : PacketAnswer) → lineOf a ≡ lineShown (shown a)
-unfolding lineOf answerText foundText lineShown foundShown
-line-shown (packet.Syn (found.Exact label)) = refl
-line-shown (packet.Syn (found.Fuzzy label reason)) = refl
-line-shown (packet.Syn found.None) = refl
-line-shown (packet.SynAck (found.Exact label)) = refl
-line-shown (packet.SynAck (found.Fuzzy label reason)) = refl
-line-shown (packet.SynAck found.None) = refl
-line-shown packet.Nothing = refl
-line-shown (packet.Refused r) = refl
+line-printed : (a : PacketAnswer) → lineOf a ≡ linePrinted (printed a)
+unfolding lineOf answerText foundText linePrinted foundPrinted
+line-printed (packet.Syn (found.Exact label)) = refl
+line-printed (packet.Syn (found.Fuzzy label reason)) = refl
+line-printed (packet.Syn found.None) = refl
+line-printed (packet.SynAck (found.Exact label)) = refl
+line-printed (packet.SynAck (found.Fuzzy label reason)) = refl
+line-printed (packet.SynAck found.None) = refl
+line-printed packet.Nothing = refl
+line-printed (packet.Refused r) = refl
 
-told : (a b : PacketAnswer) → LabelFits a → LabelFits b → (lineOf a ≡ lineOf b) ↔ (shown a ≡ shown b)
+told : (a b : PacketAnswer) → LabelFits a → LabelFits b → (lineOf a ≡ lineOf b) ↔ (printed a ≡ printed b)
 told a b ha hb = (
   λ e. sym (read-line a ha) ∙ ap readLine e ∙ read-line b hb,
-  λ e. line-shown a ∙ ap lineShown e ∙ sym (line-shown b),
+  λ e. line-printed a ∙ ap linePrinted e ∙ sym (line-printed b),
 )
 
 -- The labels of what fits a code fit.
@@ -220,19 +219,24 @@ packet-or-bundle (packet.Refused r) c h e =
     omega arith
 
 all-words : Words
-unfolding lineOf answerText foundText headLine refusedLine decimal width number empty
+unfolding lineOf answerText foundText headLine refusedLine decimal width number
 all-words =
     record {
       packets-0 = refl;
       packets-16383 = refl;
       syn-exact = refl;
-      syn-fuzzy = refl;
+      syn-fuzzy = λ reason. refl;
       syn-none = refl;
       synack-exact = refl;
-      synack-fuzzy = refl;
+      synack-fuzzy = λ reason. refl;
       synack-none = refl;
       nothing = refl;
       refused-1 = refl;
+      refused-2 = refl;
+      refused-3 = refl;
+      refused-4 = refl;
+      refused-5 = refl;
+      refused-6 = refl;
       refused-7 = λ flags. refl;
       refused-9 = refl;
       refused-10 = refl;

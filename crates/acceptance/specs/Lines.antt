@@ -1,4 +1,4 @@
--- "Exact, fuzzy and none stay three answers", for who reads the output: what a line shows of an answer, that lines which show different
+-- "Exact, fuzzy and none stay three answers", for who reads the output: what a line prints of an answer, that lines which print different
 -- things differ, and every word of the output. `Lines` is the statement.
 use mathlib.Core.Path.{_≡_}
 use mathlib.Core.List.{List, [], _∷_}
@@ -9,8 +9,6 @@ use Prim.Native.String.{String, [] as end, _∷_ as _then_}
 use Rattle.tcp.specs.declared.Mss.{Mss}
 use Rattle.ip.specs.declared.Refusal.the-variants as refusal
 use Rattle.ip.specs.Numbers.{number}
-use Rattle.quirks.specs.Named.{empty}
-use Rattle.matching.specs.declared.Hops.the-variants as hops
 use Rattle.matching.specs.declared.FuzzyReason.{FuzzyReason}
 use Rattle.found.specs.declared.Found.{Found}
 use Rattle.found.specs.declared.Found.the-variants as found
@@ -22,31 +20,33 @@ use Rattle.bundle.specs.Bundle.{bundleRefusal}
 use Rattle.gateway.specs.Decode.{AllBytes}
 use Rattle.report.specs.Text.{lineOf, headLine, refusedLine}
 
--- ---- what a line shows
+-- ---- what a line prints
 
-pub data ShownFound : Type 0 where
-  exact : ℕ → ShownFound
-  fuzzy : ℕ → ShownFound
-  none : ShownFound
+-- "syn exact 7", "syn fuzzy 7", "syn none": the endings of a line.
+pub data PrintedFound : Type 0 where
+  exact : ℕ → PrintedFound
+  fuzzy : ℕ → PrintedFound
+  none : PrintedFound
 
-pub data Shown : Type 0 where
-  syn : ShownFound → Shown
-  synack : ShownFound → Shown
-  nothing : Shown
-  refused : ℕ → Shown
+-- "`syn none`, `synack` with the same endings, `nothing`, `refused 1` to `refused 7`": the lines.
+pub data Printed : Type 0 where
+  syn : PrintedFound → Printed
+  synack : PrintedFound → Printed
+  nothing : Printed
+  refused : ℕ → Printed
 
 -- Exact, fuzzy or none, with the label; the reason of a fuzzy answer is not printed.
-abbrev pub shownFound : Found → ShownFound
-shownFound (found.Exact label) = ShownFound.exact label
-shownFound (found.Fuzzy label reason) = ShownFound.fuzzy label
-shownFound found.None = ShownFound.none
+abbrev pub printedFound : Found → PrintedFound
+printedFound (found.Exact label) = PrintedFound.exact label
+printedFound (found.Fuzzy label reason) = PrintedFound.fuzzy label
+printedFound found.None = PrintedFound.none
 
 -- SYN or SYN+ACK with what was found, nothing, or a refusal by its number; the flags byte of refusal 7 is not printed.
-abbrev pub shown : PacketAnswer → Shown
-shown (packet.Syn f) = Shown.syn (shownFound f)
-shown (packet.SynAck f) = Shown.synack (shownFound f)
-shown packet.Nothing = Shown.nothing
-shown (packet.Refused r) = Shown.refused (number r)
+abbrev pub printed : PacketAnswer → Printed
+printed (packet.Syn f) = Printed.syn (printedFound f)
+printed (packet.SynAck f) = Printed.synack (printedFound f)
+printed packet.Nothing = Printed.nothing
+printed (packet.Refused r) = Printed.refused (number r)
 
 -- "22 label (two)": a label is a number of two bytes.
 abbrev pub TwoBytes : Found → Type 0
@@ -67,23 +67,24 @@ abbrev pub ascii : String → List ℕ
 ascii end = []
 ascii (c then rest) = code c ∷ ascii rest
 
--- A fuzzy answer whose reason is that nothing was added and nothing is missing: no line shows it.
-abbrev pub someReason : FuzzyReason
-someReason = record { hops = hops.InRange; added = empty; missing = empty }
-
 -- "`packets N`, then a line each", "`refused N`", "`syn none`, `synack` with the same endings, `nothing`, `refused 1` to `refused 7`":
--- every word, with the least and the greatest numbers.
+-- every word, with numbers of one digit to five.
 pub record Words : Type 0 where
   pub packets-0 : headLine 0 ≡ ascii "packets 0\n"
   pub packets-16383 : headLine 16383 ≡ ascii "packets 16383\n"
   pub syn-exact : lineOf (packet.Syn (found.Exact 7)) ≡ ascii "syn exact 7\n"
-  pub syn-fuzzy : lineOf (packet.Syn (found.Fuzzy 10254 someReason)) ≡ ascii "syn fuzzy 10254\n"
+  pub syn-fuzzy : (reason : FuzzyReason) → lineOf (packet.Syn (found.Fuzzy 10254 reason)) ≡ ascii "syn fuzzy 10254\n"
   pub syn-none : lineOf (packet.Syn found.None) ≡ ascii "syn none\n"
   pub synack-exact : lineOf (packet.SynAck (found.Exact 0)) ≡ ascii "synack exact 0\n"
-  pub synack-fuzzy : lineOf (packet.SynAck (found.Fuzzy 65535 someReason)) ≡ ascii "synack fuzzy 65535\n"
+  pub synack-fuzzy : (reason : FuzzyReason) → lineOf (packet.SynAck (found.Fuzzy 65535 reason)) ≡ ascii "synack fuzzy 65535\n"
   pub synack-none : lineOf (packet.SynAck found.None) ≡ ascii "synack none\n"
   pub nothing : lineOf packet.Nothing ≡ ascii "nothing\n"
   pub refused-1 : lineOf (packet.Refused refusal.Version) ≡ ascii "refused 1\n"
+  pub refused-2 : lineOf (packet.Refused refusal.TooShort) ≡ ascii "refused 2\n"
+  pub refused-3 : lineOf (packet.Refused refusal.HeaderLength) ≡ ascii "refused 3\n"
+  pub refused-4 : lineOf (packet.Refused refusal.UnsupportedProtocol) ≡ ascii "refused 4\n"
+  pub refused-5 : lineOf (packet.Refused refusal.Fragment) ≡ ascii "refused 5\n"
+  pub refused-6 : lineOf (packet.Refused refusal.TcpTooShort) ≡ ascii "refused 6\n"
   pub refused-7 : (flags : ℕ) → lineOf (packet.Refused (refusal.InvalidTcpFlags flags)) ≡ ascii "refused 7\n"
   pub refused-9 : refusedLine 9 ≡ ascii "refused 9\n"
   pub refused-10 : refusedLine 10 ≡ ascii "refused 10\n"
@@ -92,8 +93,8 @@ pub record Words : Type 0 where
 -- ---- the statement
 
 pub record Lines : Type 0 where
-  -- The line of a packet tells exactly what it shows: lines are the same where that is the same, and nowhere else.
-  pub lines : (a b : PacketAnswer) → LabelFits a → LabelFits b → (lineOf a ≡ lineOf b) ↔ (shown a ≡ shown b)
+  -- Two packets have the same line exactly when the same is printed of both.
+  pub lines : (a b : PacketAnswer) → LabelFits a → LabelFits b → (lineOf a ≡ lineOf b) ↔ (printed a ≡ printed b)
   -- So of any two packets, each with its peer and list: the answers of byte strings have labels of two bytes.
   pub answers
       : (p q : List ℕ) (m n : Mss) (l k : List ℕ)
@@ -101,7 +102,7 @@ pub record Lines : Type 0 where
       → AllBytes q
       → AllBytes l
       → AllBytes k
-      → (lineOf (answerOf p m l) ≡ lineOf (answerOf q n k)) ↔ (shown (answerOf p m l) ≡ shown (answerOf q n k))
+      → (lineOf (answerOf p m l) ≡ lineOf (answerOf q n k)) ↔ (printed (answerOf p m l) ≡ printed (answerOf q n k))
   -- The first line tells the count; it is no packet's line, and no refusal of a bundle or a list.
   pub counts : (m n : ℕ) → m < 65536 → n < 65536 → headLine m ≡ headLine n → m ≡ n
   pub no-packets-line : (a : PacketAnswer) (n : ℕ) → lineOf a ≡ headLine n → ⊥
