@@ -9,11 +9,15 @@ pub mod Fails
 pub mod First
 pub mod Fit
 pub mod Honesty
+pub mod Lines
 pub mod NotFree
 pub mod Observation
+pub mod OnPaper
 pub mod Overlap
 pub mod PacketGives
 pub mod PacketRefusals
+pub mod PaperRows
+pub mod PaperTold
 pub mod Refusals
 pub mod Unchecked
 pub mod Values

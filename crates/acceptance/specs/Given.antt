@@ -18,8 +18,7 @@ use Rattle.bundle.proofs.check_bundle as check-bundle'
 use Rattle.bundle.proofs.bundle_refusal as bundle-refusal'
 use Rattle.bundle.proofs.packet_at as packet-at'
 use Rattle.report.specs.declared.Progress.{Progress}
-use Rattle.report.specs.Pages.{firstPage, nextPage, allPages, outputOfInput}
-use Rattle.report.proofs.Unique.{left-with}
+use Rattle.report.specs.Pages.{pageSize, firstPage, nextPage, allPages, outputOfInput, left-with}
 use Rattle.report.proofs.first_page as first-page'
 use Rattle.report.proofs.next_page as next-page'
 use Rattle.gateway.specs.Code.{packetFields, fieldsOf, codeOf, gatewayAnswer, listCode}
@@ -54,16 +53,16 @@ pub record Report : Type 0 where
       : (κs : Lfts 2) (bundle page : RefT (List ℕ)) (longer : Bool)
       → PageAnswers first-page'.signature κs (first-page'.Reads.Pre κs) (first-page'.Reads.Post κs)
       (bundle, (longer, (page, tt))) (λ bytes. (bundle, (longer, (left-with page bytes, tt)))) (now page)
-      (firstPage (now bundle) longer (length (now page)))
+      (firstPage (now bundle) longer)
   pub next-page
       : (κs : Lfts 2) (bundle page : RefT (List ℕ)) (progress : Progress)
       → PageAnswers next-page'.signature κs (next-page'.Reads.Pre κs) (next-page'.Reads.Post κs)
       (bundle, (progress, (page, tt))) (λ bytes. (bundle, (progress, (left-with page bytes, tt)))) (now page)
-      (nextPage (now bundle) (length (now page)) (progress .left) (progress .at))
+      (nextPage (now bundle) (progress .left) (progress .at))
   -- The pages, one after the other, are the output: nothing is lost, doubled or moved, and each fits its page.
-  pub whole : (b : List ℕ) (longer : Bool) (size : ℕ) → 19 ≤ size → allPages b longer size ≡ outputOfInput b longer
-  pub first-fits : (b : List ℕ) (longer : Bool) (size : ℕ) → length (firstPage b longer size .text) ≤ size
-  pub next-fits : (b : List ℕ) (size left at : ℕ) → length (nextPage b size left at .text) ≤ size
+  pub whole : (b : List ℕ) (longer : Bool) → allPages b longer ≡ outputOfInput b longer
+  pub first-fits : (b : List ℕ) (longer : Bool) → length (firstPage b longer .text) ≤ pageSize
+  pub next-fits : (b : List ℕ) (left at : ℕ) → length (nextPage b left at .text) ≤ pageSize
 
 pub record Gateway : Type 0 where
   pub check-list

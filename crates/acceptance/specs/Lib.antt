@@ -9,7 +9,9 @@ pub mod Given
 pub mod Honesty
 pub mod Leaves
 pub mod Lent
+pub mod Lines
 pub mod NotFree
+pub mod OnPaper
 pub mod Overlap
 pub mod Reader
 pub mod Refusals

@@ -8,7 +8,7 @@ use native.Mathlib.Nat.{sub-zero}
 use lib.ListN.{length, take, drop, take-append-drop, length-drop, length-append}
 use lib.Seq.{length-take-le, take-all, take-append-seam, drop-append-seam, drop-append-le, drop-drop}
 use Rattle.bundle.specs.Answers.{answersFrom}
-use Rattle.report.specs.Pages.{Paged, pageFrom, linesOf, written, firstPage, nextPage, allPages, outputOfInput}
+use Rattle.report.specs.Pages.{Paged, pageSize, pageFrom, linesOf, written, firstPage, nextPage, allPages, outputOfInput}
 use Rattle.report.specs.declared.Progress.{Progress}
 use Rattle.report.proofs.Whole.{page-and-rest, later-pages, all-pages, first-page-within, next-page-within}
 use Rattle.termread.specs.Reached.{Reached, ReachedIf}
@@ -73,28 +73,27 @@ begins : (page text : List ℕ) → take (length text) (written page 0 text) ≡
 unfolding written
 begins page text = take-append-seam text (drop (0 + length text) page)
 
-pub begun : (b : List ℕ) (longer : Bool) (page page' : List ℕ) (r : Progress) → 19 ≤ length page → Paged page (firstPage b longer (length page)) r page' → Left b longer 0 page' r
+pub begun : (b : List ℕ) (longer : Bool) (page page' : List ℕ) (r : Progress) → Paged page (firstPage b longer) r page' → Left b longer 0 page' r
 unfolding allPages
-begun b longer page page' r large paged =
-    let p = firstPage b longer (length page) in
-    let all = sym (all-pages b longer (length page) large)
-    ∙ ap (λ (t : List ℕ). p .text ++ t) (later-pages b (length page) large (p .left) (p .left) (p .at) (omega arith)) in
+begun b longer page page' r paged =
+    let p = firstPage b longer in
+    let all = sym (all-pages b longer) ∙ ap (λ (t : List ℕ). p .text ++ t) (later-pages b (p .left) (p .left) (p .at) (omega arith)) in
     (omega arith, rw (paged .0, paged .1, begins page (p .text)) all)
 
-pub begun-fits : (b : List ℕ) (longer : Bool) (page page' : List ℕ) (r : Progress) → Paged page (firstPage b longer (length page)) r page' → r .filled ≤ length page
-begun-fits b longer page page' r paged = rw (paged .0) (first-page-within b longer (length page))
+pub begun-fits : (b : List ℕ) (longer : Bool) (page page' : List ℕ) (r : Progress) → Paged page (firstPage b longer) r page' → r .filled ≤ pageSize
+begun-fits b longer page page' r paged = rw (paged .0) (first-page-within b longer)
 
 -- The next page, when all of a page was taken.
-pub turned : (b : List ℕ) (longer : Bool) (taken : ℕ) (page page' : List ℕ) (p r : Progress) → p .filled ≤ length page → Left b longer taken page p → Paged page (nextPage b (length page) (p .left) (p .at)) r page' → Left b longer (taken + p .filled) page' r
+pub turned : (b : List ℕ) (longer : Bool) (taken : ℕ) (page page' : List ℕ) (p r : Progress) → p .filled ≤ length page → Left b longer taken page p → Paged page (nextPage b (p .left) (p .at)) r page' → Left b longer (taken + p .filled) page' r
 turned b longer taken page page' p r fits h paged =
-    let next = nextPage b (length page) (p .left) (p .at) in
+    let next = nextPage b (p .left) (p .at) in
     let output = outputOfInput b longer in
     let rest = linesOf (answersFrom b (p .at) (p .left)) in
     let after = subst (λ (n : ℕ). ToCome output (taken + n) rest) (length-take-le (p .filled) page fits) (come-next output taken (take (p .filled) page) rest h) in
-    (after .0, after .1 ∙ rw (paged .0, paged .1, begins page (next .text)) (sym (page-and-rest b (length page) 0 (p .at) (p .left))))
+    (after .0, after .1 ∙ rw (paged .0, paged .1, begins page (next .text)) (sym (page-and-rest b 0 (p .at) (p .left))))
 
-pub turned-fits : (b : List ℕ) (page page' : List ℕ) (p r : Progress) → Paged page (nextPage b (length page) (p .left) (p .at)) r page' → r .filled ≤ length page
-turned-fits b page page' p r paged = rw (paged .0) (next-page-within b (length page) (p .left) (p .at))
+pub turned-fits : (b : List ℕ) (page page' : List ℕ) (p r : Progress) → Paged page (nextPage b (p .left) (p .at)) r page' → r .filled ≤ pageSize
+turned-fits b page page' p r paged = rw (paged .0) (next-page-within b (p .left) (p .at))
 
 -- Where no packet is left, the output ends with the page.
 pub ended : (b : List ℕ) (longer : Bool) (taken : ℕ) (page : List ℕ) (p : Progress) → p .filled ≤ length page → p .left ≡ 0 → Left b longer taken page p → taken + p .filled ≡ length (outputOfInput b longer)

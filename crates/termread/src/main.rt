@@ -10,6 +10,7 @@ use libc::STDERR_FILENO;
 use libc::STDIN_FILENO;
 use libc::STDOUT_FILENO;
 use libc::types::timespec;
+use report::PAGE;
 use report::Progress;
 use report::first_page;
 use report::next_page;
@@ -188,7 +189,7 @@ fn send(bundle: &[u8], longer: bool, taken: usize, text: &[u8]) -> bool
 fn write_output(bundle: &[u8], longer: bool) -> bool
     ensures { λ r. ⌜ ReachedIf r (length (outputOfInput (now (bundle .entry)) longer)) ⌝ }
 {
-    let mut page = [0u8; 4096];
+    let mut page = [0u8; PAGE];
     let mut progress = first_page(bundle, longer, &mut page);
     let mut taken = 0;
     let mut turn = 0;

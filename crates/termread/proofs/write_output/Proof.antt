@@ -1,11 +1,11 @@
 use lib.ListN.{length, replicate}
 use Prim.Native.Nat.{ℕ, _≤_, _-_, _*_}
-use mathlib.Core.Path.{_≡_, subst}
+use mathlib.Core.Path.{_≡_, refl, subst}
 use native.Mathlib.Omega.{arith}
 use denote.Ref.{now}
-use lib.Dec.{lit<}
 use borrow.Author.Needs.{needs}
 use borrow.Author.Tests.{not-false}
+use Rattle.report.proofs.Whole.{first-page-kept, next-page-kept}
 use Rattle.termread.specs.Reached.{Reached, none-yet}
 use Rattle.termread.proofs.Laws.{Left, page-follows, part-length, begun, begun-fits, turned, turned-fits, ended, page-reached}
 use Rattle.termread.proofs.write_output.Statement.{statement}
@@ -19,24 +19,21 @@ Inv-loop bundle longer page₀ progress₀ taken₀ turn₀ page progress taken 
 abbrev μ-loop : tie.MeasureT-loop
 μ-loop bundle longer page₀ progress₀ taken₀ turn₀ page progress taken turn = 65536 - turn
 
-slice-aggregate-first-page : tie.Need-slice-aggregate-first-page Inv-loop μ-loop
-slice-aggregate-first-page c = search needs
-
 first-page-requires : tie.Need-first-page-requires Inv-loop μ-loop
 first-page-requires c κs = search needs
 
 loop-holds : tie.Need-loop-holds Inv-loop μ-loop
 loop-holds c =
-    let call = c .before .first-page in
-    let start = c .before .before .before .before in
+    let call = c .first-page in
+    let start = c .before .before .before in
     let b = now (start .args .bundle) in
     let page = replicate {A = ℕ} 4096 0 in (
       omega arith,
-      search needs,
+      first-page-kept b page (call .last .1 .1 .0) (start .args .longer) (call .result) refl (call .ensures),
       begun-fits b (start .args .longer) page (call .last .1 .1 .0) (call .result) (call .ensures),
       omega arith,
       none-yet,
-      begun b (start .args .longer) page (call .last .1 .1 .0) (call .result) (lit< tt) (call .ensures),
+      begun b (start .args .longer) page (call .last .1 .1 .0) (call .result) (call .ensures),
     )
 
 sub-send : tie.Need-sub-send Inv-loop μ-loop
@@ -51,7 +48,7 @@ part-send-end c = search needs
 send-requires : tie.Need-send-requires Inv-loop μ-loop
 send-requires c κs =
     let at = c .before .before .before in
-    let start = at .before .before .before .before .before in
+    let start = at .before .before .before .before in
     let held = at .loop .inv in
     let p = at .loop .progress in
     let page = at .loop .page in (
@@ -70,7 +67,7 @@ returns-2 c =
     let at-if = c .before .before in
     let sent = at-if .before .send in
     let at = at-if .before .before .before .before .before in
-    let start = at .before .before .before .before .before in
+    let start = at .before .before .before .before in
     let held = at .loop .inv in
     let p = at .loop .progress in
     let page = at .loop .page in
@@ -80,9 +77,6 @@ returns-2 c =
 
 add-taken : tie.Need-add-taken Inv-loop μ-loop
 add-taken c = search needs
-
-slice-aggregate-next-page : tie.Need-slice-aggregate-next-page Inv-loop μ-loop
-slice-aggregate-next-page c = search needs
 
 next-page-requires : tie.Need-next-page-requires Inv-loop μ-loop
 next-page-requires c κs = search needs
@@ -95,11 +89,11 @@ loop-less c = search needs
 
 loop-again : tie.Need-loop-again Inv-loop μ-loop
 loop-again c =
-    let call = c .before .next-page in
-    let at-if = c .before .before .before .before .before in
+    let call = c .next-page in
+    let at-if = c .before .before .before .before in
     let sent = at-if .before .send in
     let at = at-if .before .before .before .before .before in
-    let start = at .before .before .before .before .before in
+    let start = at .before .before .before .before in
     let held = at .loop .inv in
     let p = at .loop .progress in
     let page = at .loop .page in
@@ -107,8 +101,8 @@ loop-again c =
     let fits : p .filled ≤ length page = omega (arith, held .1, held .2) in
     let b = now (start .args .bundle) in (
       search needs,
-      search needs,
-      omega (arith, held .1, turned-fits b page page' p (call .result) (call .ensures)),
+      next-page-kept b page page' (p .left) (p .at) (call .result) (held .1) (call .ensures),
+      turned-fits b page page' p (call .result) (call .ensures),
       omega (arith, held .2, held .3),
       page-reached (sent .result) (at .loop .taken) page (p .filled) fits (not-false (sent .result) (at-if .if1 .left)) (sent .ensures),
       turned b (start .args .longer) (at .loop .taken) page page' p (call .result) fits (held .5) (call .ensures),
@@ -123,7 +117,6 @@ write-output-spec =
     (tie.spec
     Inv-loop
     μ-loop
-    slice-aggregate-first-page
     first-page-requires
     loop-holds
     sub-send
@@ -133,7 +126,6 @@ write-output-spec =
     returns
     returns-2
     add-taken
-    slice-aggregate-next-page
     next-page-requires
     add-turn
     loop-less
