@@ -1,6 +1,7 @@
--- How far standard output took the output. `Reached` is shut: no other file can look into it, so a place is reached by `none-yet` and `took`
--- alone. Nothing proves these two of the machine: they are what the calls of `write` mean here. The gate asks that `took` stands in the proof of
--- the one function that calls `write` on standard output, `none-yet` in that of the one that begins, and neither anywhere else.
+-- How far standard output took the output. `Reached` is shut: no other file can look into it, so a place is reached by `none-yet` and
+-- `took` alone. Nothing proves these two of the machine: they are what the calls of `write` mean here. The gate asks that `took` stands in
+-- the proof of the one function that calls `write` on standard output, `none-yet` in that of the one that begins, and neither anywhere
+-- else. A write does not use a `Reached` up, so it does not say that nothing is written twice from one place.
 use mathlib.Core.Bool.{Bool, true, false}
 use Prim.Native.Nat.{ℕ, _+_}
 use lib.IntN.{ℤ}

@@ -75,7 +75,8 @@ small = record { fits = lit< tt }
 
 module _ {M : Type 1} (𝓤 : URA M) (H : Heap 𝓤) (A : Atoms 𝓤) (W : Given 𝓤 H A) where
   -- a time in its cell, as what a reference may be made to, and back
-  into : (t : timespec) (b : ℕ) → Is Time t (val t ∷ []) → ent 𝓤 (H .at fullShare T′.mir b 0 (val t)) (sem 𝓤 H A (partAt Time fullShare t b 0))
+  into : (t : timespec) (b : ℕ) → Is Time t (val t ∷ [])
+      → ent 𝓤 (H .at fullShare T′.mir b 0 (val t)) (sem 𝓤 H A (partAt Time fullShare t b 0))
   unfolding partOf
   into t b made =
       qed W (‵ (fat fullShare T′.mir b 0 (val t)) ∷ []) ∵
@@ -136,7 +137,8 @@ module _ {M : Type 1} (𝓤 : URA M) (H : Heap 𝓤) (A : Atoms 𝓤) (W : Given
       tt,
     )
 
-    goes : (α β : ℕ) (γ δ : GName) → ent 𝓤 (sep 𝓤 (sep 𝓤 (A .lft (α ∷ []) fullShare) (A .lft (β ∷ []) fullShare)) (sep 𝓤 (sem 𝓤 H A (own-asked α γ)) (sem 𝓤 H A (own-left β δ)))) (Nano .pre (bound α β γ δ))
+    goes : (α β : ℕ) (γ δ : GName)
+        → ent 𝓤 (sep 𝓤 (sep 𝓤 (A .lft (α ∷ []) fullShare) (A .lft (β ∷ []) fullShare)) (sep 𝓤 (sem 𝓤 H A (own-asked α γ)) (sem 𝓤 H A (own-left β δ)))) (Nano .pre (bound α β γ δ))
     goes α β γ δ =
         qed W ((‵ (flft (α ∷ []) fullShare) ⊛ ‵ (flft (β ∷ []) fullShare)) ∷ (‵ (own-asked α γ) ⊛ ‵ (own-left β δ)) ∷ []) ∵ split ! $
         move ! (2 ∷ []) $ split ! $
@@ -198,7 +200,8 @@ module _ {M : Type 1} (𝓤 : URA M) (H : Heap 𝓤) (A : Atoms 𝓤) (W : Given
         free1 ! $ move ! (5 ∷ 6 ∷ []) $ free1 ! $ move ! (3 ∷ 4 ∷ []) $ free1 ! $ free0 ! $
         keep ! [] $ by ! exits))))))))))))))
 
-  pause-walks : (C : Calls 𝓤 H) (Λ : Loops 𝓤 H) → FmC 𝓤 H (W .laws) C → Triple 𝓤 (C #libc·nanosleep) Nano → Walks 𝓤 H A pause.ended stayed (WpFn 𝓤 H C Λ code.function) (pause.clauses 𝓤 H A at-mem run)
+  pause-walks : (C : Calls 𝓤 H) (Λ : Loops 𝓤 H) → FmC 𝓤 H (W .laws) C → Triple 𝓤 (C #libc·nanosleep) Nano
+      → Walks 𝓤 H A pause.ended stayed (WpFn 𝓤 H C Λ code.function) (pause.clauses 𝓤 H A at-mem run)
   pause-walks C Λ fm known =
       walked 𝓤 H A pause.ended stayed (pause.clauses 𝓤 H A at-mem run) (WpFn 𝓤 H C Λ code.function) (λ κs. tt) (λ κs. tt)
       (λ κs qs bounds a g are. via 𝓤 (sep 𝓤 (emp 𝓤) (emp 𝓤)) (fst∗ 𝓤 _ (emp 𝓤)) (qed W (‵ ftrue ∷ ‵ ftrue ∷ []) ∵ keep ! [] $

@@ -72,7 +72,8 @@ returns-2 c =
     let p = at .loop .progress in
     let page = at .loop .page in
     let fits : p .filled ≤ length page = omega (arith, held .1, held .2) in
-    let reached = page-reached (sent .result) (at .loop .taken) page (p .filled) fits (not-false (sent .result) (at-if .if1 .left)) (sent .ensures) in
+    let all = not-false (sent .result) (at-if .if1 .left) in
+    let reached = page-reached (sent .result) (at .loop .taken) page (p .filled) fits all (sent .ensures) in
     subst Reached (ended (now (start .args .bundle)) (start .args .longer) (at .loop .taken) page p fits (c .if2 .taken) (held .5)) reached
 
 add-taken : tie.Need-add-taken Inv-loop μ-loop
