@@ -41,7 +41,11 @@ goodRecords l = goodOnes l (numbersFrom 0 (recordCount l))
 -- `search_checked`, against `search` (refusals 11, 9 and 10).
 pub record SearchUnchecked : Type 0 where
   -- What `search` does not refuse, both answer alike.
-  pub same : (o : TcpObservation) (l : List ℕ) → o .olayout .count ≤ 40 → checkList l ≡ list.Good → searchList o l ≡ answer.Found (searchAll o l)
+  pub same
+      : (o : TcpObservation) (l : List ℕ)
+      → o .olayout .count ≤ 40
+      → checkList l ≡ list.Good
+      → searchList o l ≡ answer.Found (searchAll o l)
   -- 10: the answer is that of the list without its bad records.
   pub bad-record : (o : TcpObservation) (l : List ℕ) → searchAll o l ≡ searchOver (goodRecords l) o l
   -- 9 and 11: none.
@@ -50,7 +54,10 @@ pub record SearchUnchecked : Type 0 where
 
 -- `answer_packet` and `termread_answer_checked`, against `termread_answer` (refusals 9 and 10 before a packet's own).
 pub record PacketUnchecked : Type 0 where
-  pub same : (p : List ℕ) (peer : ℕ) (l : List ℕ) → checkList l ≡ list.Good → gatewayAnswer p peer l ≡ gateway.Packet (answerOf p (peerOf peer) l)
+  pub same
+      : (p : List ℕ) (peer : ℕ) (l : List ℕ)
+      → checkList l ≡ list.Good
+      → gatewayAnswer p peer l ≡ gateway.Packet (answerOf p (peerOf peer) l)
   pub same-code : (p : List ℕ) (peer : ℕ) (l : List ℕ) → checkList l ≡ list.Good → checkedCode p peer l ≡ codeAt p peer l
   -- `termread_check_list` says 0 of a good list and of no other.
   pub checked : (l : List ℕ) → (listCode (checkList l) ≡ 0) ↔ (checkList l ≡ list.Good)
@@ -82,7 +89,10 @@ pub record BundleUnchecked : Type 0 where
 
 -- `walk_options`, against `parse_options_raw` (refusal 8).
 pub record OptionsUnchecked : Type 0 where
-  pub same : (s : List ℕ) → length s ≤ 40 → parseOptionsRaw s ≡ record { answer = options.Parsed; options = parsedOf (walkOf true false empty s) }
+  pub same
+      : (s : List ℕ)
+      → length s ≤ 40
+      → parseOptionsRaw s ≡ record { answer = options.Parsed; options = parsedOf (walkOf true false empty s) }
   -- 8: the walk of the first forty bytes.
   pub over-40 : (stop syn : Bool) (q : QuirkSet) (s : List ℕ) → walkOf stop syn q s ≡ walkOf stop syn q (take 40 s)
 
