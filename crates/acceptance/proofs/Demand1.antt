@@ -28,12 +28,12 @@ use contract.Lifetimes.{Lfts}
 use denote.Signature as kit
 use Rattle.basis.specs.Unique.{ExactlyOne}
 use Rattle.acceptance.specs.Lent.{writable}
-use Rattle.acceptance.specs.Answers.{Answers}
+use Rattle.acceptance.specs.Promised.{Answers}
 use Prim.Native.Nat.{ℕ}
 use Rattle.acceptance.specs.Leaves.{Numbers, Quirks, TtlReading, Window, IpOptions}
 use Rattle.acceptance.specs.Reader.{Observable, OneOption, Options, Ip, Flow}
 use Rattle.acceptance.specs.Fitting.{Distances, Matching, Siglist, Held, Search}
-use Rattle.acceptance.specs.Given.{PacketAnswered, Bundle, Report, Gateway}
+use Rattle.acceptance.specs.GivenOut.{PacketAnswered, Bundle, Report, Gateway}
 use Rattle.acceptance.specs.Demand1.{Demand1}
 
 -- A line, from its parts: nothing is asked, the uniqueness theorem, whose promise says which result it is, and nothing can be written.

@@ -1,12 +1,12 @@
 -- Demand 1: "Each public function, refusals included, has exactly one result that meets its promise on each input, and that
 -- uniqueness is proved" (document 01, "What acceptance reads"), and "lent input is never written". One line for each public function of
--- the product, crate by crate, over the function's own contract and signature (Answers.antt says what a line says), with the definition
+-- the product, crate by crate, over the function's own contract and signature (Promised.antt says what a line says), with the definition
 -- that the one result is: the leaves, the reader, the fit and the search, and what is given out. The order is that of crates.txt; a
 -- function that is added gets a line in its crate's record.
 use Rattle.acceptance.specs.Leaves.{Numbers, Quirks, TtlReading, Window, IpOptions}
 use Rattle.acceptance.specs.Reader.{Observable, OneOption, Options, Ip, Flow}
 use Rattle.acceptance.specs.Fitting.{Distances, Matching, Siglist, Held, Search}
-use Rattle.acceptance.specs.Given.{PacketAnswered, Bundle, Report, Gateway}
+use Rattle.acceptance.specs.GivenOut.{PacketAnswered, Bundle, Report, Gateway}
 
 pub record Demand1 : Type 0 where
   pub numbers : Numbers

@@ -47,7 +47,7 @@ use Rattle.found.proofs.keep_fit as keep-fit'
 use Rattle.search.specs.Search.{searchAll, searchList}
 use Rattle.search.proofs.search_checked as search-checked'
 use Rattle.search.proofs.search as search'
-use Rattle.acceptance.specs.Answers.{Answers}
+use Rattle.acceptance.specs.Promised.{Answers}
 
 pub record Distances : Type 0 where
   pub ttl-fit

@@ -37,7 +37,7 @@ use Rattle.ip_options.specs.IpOptions.{ipv4OptionLength, ipv6ExtensionLength}
 use Rattle.ip_options.proofs.calculate_ipv4_length as calculate-ipv4-length'
 use Rattle.ip_options.proofs.calculate_ipv6_length as calculate-ipv6-length'
 use Rattle.observable.proofs.TcpObservation.empty as empty'
-use Rattle.acceptance.specs.Answers.{Answers}
+use Rattle.acceptance.specs.Promised.{Answers}
 
 pub record Numbers : Type 0 where
   pub wide : (x : ℕ) → Answers wide'.signature tt (wide'.Reads.Pre tt) (wide'.Reads.Post tt) (x, tt) x

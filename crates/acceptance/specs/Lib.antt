@@ -1,11 +1,10 @@
 pub mod Acceptance
-pub mod Answers
 pub mod Corners
 pub mod Demand1
 pub mod Demand2
 pub mod Demand3
 pub mod Fitting
-pub mod Given
+pub mod GivenOut
 pub mod Honesty
 pub mod Leaves
 pub mod Lent
@@ -13,6 +12,7 @@ pub mod Lines
 pub mod NotFree
 pub mod OnPaper
 pub mod Overlap
+pub mod Promised
 pub mod Reader
 pub mod Refusals
 pub mod Unchecked

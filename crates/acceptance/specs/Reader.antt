@@ -28,7 +28,7 @@ use Rattle.ip.proofs.refusal_number as refusal-number'
 use Rattle.ip.proofs.read_ip as read-ip'
 use Rattle.flow.specs.Reading.{readPacket}
 use Rattle.flow.proofs.read_packet as read-packet'
-use Rattle.acceptance.specs.Answers.{Answers}
+use Rattle.acceptance.specs.Promised.{Answers}
 
 pub record Observable : Type 0 where
   pub empty : Answers empty'.signature tt (empty'.Reads.Pre tt) (empty'.Reads.Post tt) tt emptyObservation

@@ -25,7 +25,7 @@ use Rattle.gateway.specs.Code.{packetFields, fieldsOf, codeOf, gatewayAnswer, l
 use Rattle.gateway.proofs.termread_check_list as termread-check-list'
 use Rattle.gateway.proofs.termread_answer_checked as termread-answer-checked'
 use Rattle.gateway.proofs.termread_answer as termread-answer'
-use Rattle.acceptance.specs.Answers.{Answers, PageAnswers}
+use Rattle.acceptance.specs.Promised.{Answers, PageAnswers}
 
 pub record PacketAnswered : Type 0 where
   pub peer-of : (n : ℕ) → Answers peer-of'.signature tt (peer-of'.Reads.Pre tt) (peer-of'.Reads.Post tt) (n, tt) (peerOf n)
