@@ -1,3 +1,4 @@
 -- What the contracts of the program cite.
+pub mod Input
 pub mod Reached
 pub mod Sending
