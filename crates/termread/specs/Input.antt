@@ -3,7 +3,7 @@
 -- asks that `read-said` stands in the proof of the one function that calls `read`, `nothing-came` in that of the one that begins, and
 -- neither anywhere else. That the bytes in the buffer are those that were sent is not said.
 use mathlib.Core.Path.{_≡_}
-use mathlib.Core.Bool.{Bool, false}
+use mathlib.Core.Bool.{Bool, true, false}
 use Prim.Native.Nat.{ℕ, _+_, _≤_}
 use lib.IntN.{ℤ, pos, negsuc}
 use Rattle.libc.specs.Io.{Moved}
@@ -44,3 +44,9 @@ abbrev pub EndsAs : Ending → ℕ → ℕ → Type 0
 EndsAs Whole count size = ReadSaid count (pos 0)
 EndsAs Longer count size = (count ≡ size) × ReadSaid count (pos 1)
 EndsAs Failed count size = ReadSaid count (negsuc 0)
+
+-- Of so many bytes answers are given: as of the whole input only where a read answered its end behind them, as of a longer one only where
+-- there is a byte more than the 65,535 that a bundle may have.
+abbrev pub InputEnds : Bool → ℕ → Type 0
+InputEnds false count = EndsAs Whole count 65535
+InputEnds true count = EndsAs Longer count 65535

@@ -5,7 +5,7 @@ ghost use Prim.Native.Nat.{_+_, _≤_};
 ghost use lib.ListN.{length};
 ghost use Rattle.report.specs.Pages.{outputOfInput};
 ghost use Rattle.io.specs.Counts.{clamped};
-ghost use Rattle.termread.specs.Input.{Came, ReadAt, AgainAt, EndsAs};
+ghost use Rattle.termread.specs.Input.{Came, ReadAt, AgainAt, EndsAs, InputEnds};
 ghost use Rattle.termread.specs.Reached.{Reached, ReachedIf};
 ghost use Rattle.termread.specs.Sending.{Follows, CutAt};
 use libc::STDERR_FILENO;
@@ -219,6 +219,7 @@ fn send(bundle: &[u8], longer: bool, taken: usize, text: &[u8]) -> bool
 
 // The pages of the output, each behind the one before. Whether all of the output was taken.
 fn write_output(bundle: &[u8], longer: bool) -> bool
+    requires { ⌜ InputEnds longer (length (now bundle)) ⌝ }
     ensures { λ r. ⌜ ReachedIf r (length (outputOfInput (now (bundle .entry)) longer)) ⌝ }
 {
     let mut page = [0u8; PAGE];

@@ -1,8 +1,6 @@
 use lib.ListN.{length}
-use mathlib.Core.Path.{sym, subst}
 use mir.Syntax.{w64}
 use mir.Facts.{toZ-ofZ}
-use lib.IntN.{ℤ}
 use borrow.Author.Needs.{needs}
 use denote.Ref.{now}
 use Rattle.termread.specs.Input.{read-said}

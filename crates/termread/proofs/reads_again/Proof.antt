@@ -1,5 +1,5 @@
 use mathlib.Core.Bool.{true, false}
-use lib.IntN.{ℤ, pos}
+use lib.IntN.{pos}
 use lib.Signed.{leZ}
 use borrow.Author.Needs.{needs}
 use Rattle.termread.proofs.Tests.{of-bits, again-not, again-failed}
