@@ -10,7 +10,7 @@ use lib.ListN.{length, take, drop}
 abbrev pub Follows : List ℕ → ℕ → List ℕ → Type 0
 Follows output taken text = text ≡ take (length text) (drop taken output)
 
--- Whether the output is cut at what a write answered: not where it took bytes; where it took none; where it failed errno tells.
+-- Whether the output is cut at what a write of a text answered: not where bytes were taken; where none was; where it failed errno tells.
 abbrev pub CutAt : ℤ → Bool → Type 0
 CutAt (pos zero) cut = cut ≡ true
 CutAt (pos (suc k)) cut = cut ≡ false
