@@ -1,2 +1,2 @@
+pub mod AnswerTests
 pub mod Laws
-pub mod Tests

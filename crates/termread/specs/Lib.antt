@@ -1,4 +1,4 @@
 -- What the contracts of the program cite.
-pub mod Input
+pub mod Came
 pub mod Reached
 pub mod Sending

@@ -5,7 +5,7 @@ ghost use Prim.Native.Nat.{_+_, _≤_};
 ghost use lib.ListN.{length};
 ghost use Rattle.report.specs.Pages.{outputOfInput};
 ghost use Rattle.io.specs.Counts.{clamped};
-ghost use Rattle.termread.specs.Input.{Came, ReadAt, AgainAt, EndsAs, InputEnds};
+ghost use Rattle.termread.specs.Came.{Came, ReadAt, AgainAt, EndsAs, InputEnds};
 ghost use Rattle.termread.specs.Reached.{Reached, ReachedIf};
 ghost use Rattle.termread.specs.Sending.{Follows, CutAt};
 use libc::STDERR_FILENO;

@@ -4,7 +4,7 @@ use native.Mathlib.Omega.{arith}
 use lib.IntN.{ℤ, pos}
 use lib.Signed.{ltZ}
 use borrow.Author.Needs.{needs}
-use Rattle.termread.proofs.Tests.{of-bits, zero-of-bits, not-zero-of-bits, said-failed, said-none, said-one}
+use Rattle.termread.proofs.AnswerTests.{of-bits, zero-of-bits, not-zero-of-bits, said-failed, said-none, said-one}
 use Rattle.termread.proofs.after_full.Statement.{statement}
 use Rattle.termread.proofs.after_full.Tie as tie
 

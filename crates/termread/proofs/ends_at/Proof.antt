@@ -2,7 +2,7 @@ use mathlib.Core.Bool.{true, false, not}
 use lib.IntN.{pos}
 use lib.Signed.{ltZ}
 use borrow.Author.Needs.{needs}
-use Rattle.termread.proofs.Tests.{of-bits, zero-of-bits, not-zero-of-bits, cut-not, cut-none, cut-failed}
+use Rattle.termread.proofs.AnswerTests.{of-bits, zero-of-bits, not-zero-of-bits, cut-not, cut-none, cut-failed}
 use Rattle.termread.proofs.ends_at.Statement.{statement}
 use Rattle.termread.proofs.ends_at.Tie as tie
 

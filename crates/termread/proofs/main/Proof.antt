@@ -1,7 +1,7 @@
 use mathlib.Core.Path.{sym, subst}
 use mathlib.Core.Bool.{true, false}
 use borrow.Author.Needs.{needs}
-use Rattle.termread.specs.Input.{EndsAs, InputEnds}
+use Rattle.termread.specs.Came.{EndsAs, InputEnds}
 use Rattle.termread.specs.declared.Ending.{Ending}
 use Rattle.termread.proofs.Laws.{part-length}
 use Rattle.termread.proofs.main.Statement.{statement}

@@ -8,8 +8,8 @@ use mathlib.Core.List.{List}
 use native.Mathlib.Omega.{arith}
 use borrow.Author.Needs.{needs}
 use denote.Ref.{now}
-use Rattle.termread.specs.Input.{Came, EndsAs, nothing-came}
-use Rattle.termread.proofs.Tests.{of-bits, count-of-bits, said-failed, counts-none, room}
+use Rattle.termread.specs.Came.{Came, EndsAs, nothing-came}
+use Rattle.termread.proofs.AnswerTests.{of-bits, count-of-bits, said-failed, counts-none, room}
 use Rattle.termread.proofs.read_input.Statement.{statement}
 use Rattle.termread.proofs.read_input.Tie as tie
 

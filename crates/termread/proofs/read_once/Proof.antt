@@ -3,7 +3,7 @@ use mir.Syntax.{w64}
 use mir.Facts.{toZ-ofZ}
 use borrow.Author.Needs.{needs}
 use denote.Ref.{now}
-use Rattle.termread.specs.Input.{read-said}
+use Rattle.termread.specs.Came.{read-said}
 use Rattle.termread.proofs.read_once.Statement.{statement}
 use Rattle.termread.proofs.read_once.Tie as tie
 

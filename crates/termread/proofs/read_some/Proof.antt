@@ -7,8 +7,8 @@ use mir.Val.{toZ}
 use borrow.Author.Needs.{needs}
 use borrow.Author.Tests.{not-false}
 use denote.Ref.{now}
-use Rattle.termread.specs.Input.{ReadAt, AgainAt}
-use Rattle.termread.proofs.Tests.{read-of}
+use Rattle.termread.specs.Came.{ReadAt, AgainAt}
+use Rattle.termread.proofs.AnswerTests.{read-of}
 use Rattle.termread.proofs.read_some.Statement.{statement}
 use Rattle.termread.proofs.read_some.Tie as tie
 

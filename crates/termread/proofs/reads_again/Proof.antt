@@ -2,7 +2,7 @@ use mathlib.Core.Bool.{true, false}
 use lib.IntN.{pos}
 use lib.Signed.{leZ}
 use borrow.Author.Needs.{needs}
-use Rattle.termread.proofs.Tests.{of-bits, again-not, again-failed}
+use Rattle.termread.proofs.AnswerTests.{of-bits, again-not, again-failed}
 use Rattle.termread.proofs.reads_again.Statement.{statement}
 use Rattle.termread.proofs.reads_again.Tie as tie
 

@@ -13,7 +13,7 @@ use mir.Syntax.{w64}
 use mir.Val.{toZ, ofZ, SFits}
 use mir.Facts.{toZ-ofZ}
 use Rattle.io.specs.Counts.{clamped}
-use Rattle.termread.specs.Input.{ReadAt, ReadSaid, AgainAt}
+use Rattle.termread.specs.Came.{ReadAt, ReadSaid, AgainAt}
 use Rattle.termread.specs.Sending.{CutAt}
 
 -- ---- an answer is kept as bits

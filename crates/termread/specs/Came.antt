@@ -1,7 +1,8 @@
 -- How the reading of standard input went. `Came` and `ReadSaid` are shut: no other file can look into them, so they are had by
 -- `nothing-came` and `read-said` alone. Nothing proves these two of the machine: they are what the calls of `read` mean here. The gate
 -- asks that `read-said` stands in the proof of the one function that calls `read`, `nothing-came` in that of the one that begins, and
--- neither anywhere else. That the bytes in the buffer are those that were sent is not said.
+-- neither anywhere else. That the bytes in the buffer are those that were sent is not said; nor, since a read does not use a `Came` up,
+-- that no read is made twice at one place.
 use mathlib.Core.Path.{_≡_}
 use mathlib.Core.Bool.{Bool, true, false}
 use Prim.Native.Nat.{ℕ, _+_, _≤_}
