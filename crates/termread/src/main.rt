@@ -1,11 +1,13 @@
 // termread: a bundle on standard input, its answers on standard output (document 01, "The bundle program"). What is read and what is
 // written is the library's: this program only moves bytes.
+ghost use mathlib.Core.Bool.{true};
 ghost use Prim.Native.Nat.{_+_, _≤_};
 ghost use lib.ListN.{length};
 ghost use Rattle.report.specs.Pages.{outputOfInput};
 ghost use Rattle.io.specs.Counts.{clamped};
+ghost use Rattle.termread.specs.Came.{Came, ReadAt, AgainAt, EndsAs, InputEnds};
 ghost use Rattle.termread.specs.Reached.{Reached, ReachedIf};
-ghost use Rattle.termread.specs.Sending.{Follows};
+ghost use Rattle.termread.specs.Sending.{Follows, CutAt};
 use libc::STDERR_FILENO;
 use libc::STDIN_FILENO;
 use libc::STDOUT_FILENO;
@@ -62,26 +64,52 @@ struct Input {
     ending: Ending,
 }
 
-// One read, tried again as long as that may help: what it answers is libc::read's.
-fn read_some(buffer: &mut [u8]) -> isize {
-    let mut turn = 0;
+// One read, the program's only one. It is told how many bytes came before, and what the last read behind these answered (-1 if there was
+// none): only one that failed is made again. What it answers is `read`'s answer.
+fn read_once(count: usize, last: isize, buffer: &mut [u8]) -> isize
+    requires { ⌜ Came count ⌝ }
+    requires { ⌜ AgainAt last true ⌝ }
+    requires { ⌜ 1 ≤ length (now buffer) ⌝ }
+    ensures { λ r. ⌜ ReadAt count (length (now (buffer .entry))) r ⌝ }
+{
+    libc::read(STDIN_FILENO, buffer)
+}
+
+// Whether a read is made again: it failed, and another try may help.
+fn reads_again(got: isize) -> bool
+    ensures { λ r. ⌜ AgainAt got r ⌝ }
+{
+    if got >= 0 {
+        return false;
+    }
+    goes_on()
+}
+
+// A read, made again as long as that may help: what the last one answered.
+fn read_some(count: usize, buffer: &mut [u8]) -> isize
+    requires { ⌜ Came count ⌝ }
+    requires { ⌜ 1 ≤ length (now buffer) ⌝ }
+    ensures { λ r. ⌜ ReadAt count (length (now (buffer .entry))) r ⌝ }
+{
+    let mut got = read_once(count, -1, buffer);
+    let mut turn = 1;
     while turn < PATIENCE {
-        let got = libc::read(STDIN_FILENO, buffer);
-        if got >= 0 {
+        if !reads_again(got) {
             return got;
         }
-        if !goes_on() {
-            return got;
-        }
+        got = read_once(count, got, buffer);
         turn += 1;
     }
-    -1
+    got
 }
 
 // Whether the input goes on where the buffer is full: one byte more tells.
-fn after_full() -> Ending {
+fn after_full(count: usize) -> Ending
+    requires { ⌜ Came count ⌝ }
+    ensures { λ r. ⌜ EndsAs r count count ⌝ }
+{
     let mut one = [0u8; 1];
-    let got = read_some(&mut one);
+    let got = read_some(count, &mut one);
     if got < 0 {
         return Ending::Failed;
     }
@@ -94,11 +122,13 @@ fn after_full() -> Ending {
 // Reads until the buffer is full, the input ends or a read fails.
 fn read_input(buffer: &mut [u8]) -> Input
     ensures { λ r. ⌜ r .count ≤ length (now (buffer .exit)) ⌝ }
+    ensures { λ r. ⌜ Came (r .count) ⌝ }
+    ensures { λ r. ⌜ EndsAs (r .ending) (r .count) (length (now (buffer .entry))) ⌝ }
 {
     let mut count = 0;
     while count < buffer.len() {
         let rest = &mut buffer[count..];
-        let got = read_some(rest);
+        let got = read_some(count, rest);
         if got < 0 {
             return Input {
                 count,
@@ -116,7 +146,7 @@ fn read_input(buffer: &mut [u8]) -> Input
     }
     Input {
         count,
-        ending: after_full(),
+        ending: after_full(count),
     }
 }
 
@@ -131,7 +161,9 @@ fn write_once(bundle: &[u8], longer: bool, taken: usize, text: &[u8]) -> isize
 }
 
 // Whether the output ends at what a write of a text that is not empty answered: nothing was taken, and another try is of no use.
-fn ends_at(got: isize) -> bool {
+fn ends_at(got: isize) -> bool
+    ensures { λ r. ⌜ CutAt got r ⌝ }
+{
     if got > 0 {
         return false;
     }
@@ -187,6 +219,7 @@ fn send(bundle: &[u8], longer: bool, taken: usize, text: &[u8]) -> bool
 
 // The pages of the output, each behind the one before. Whether all of the output was taken.
 fn write_output(bundle: &[u8], longer: bool) -> bool
+    requires { ⌜ InputEnds longer (length (now bundle)) ⌝ }
     ensures { λ r. ⌜ ReachedIf r (length (outputOfInput (now (bundle .entry)) longer)) ⌝ }
 {
     let mut page = [0u8; PAGE];
