@@ -136,8 +136,14 @@ packet-unchecked =
       same = λ p peer l good. rw good;
       same-code = λ p peer l good. rw good;
       checked = λ l. (good-code (checkList l), λ good. rw good);
-      syn = λ p peer l e. honesty .syn-answer p peer l e ∙ ap packet.Syn (search-unchecked .bad-record (readPacket p peer .observation) l);
-      syn-ack = λ p peer l e. honesty .syn-ack-answer p peer l e ∙ ap packet.SynAck (search-unchecked .bad-record (readPacket p peer .observation) l);
+      syn = λ p peer l e.
+          honesty .syn-answer p peer l e ∙ ap packet.Syn (search-unchecked .bad-record (readPacket p peer .observation) l);
+      syn-ack = λ p peer l e.
+          honesty .syn-ack-answer p peer l e ∙ ap packet.SynAck (search-unchecked .bad-record (readPacket p peer .observation) l);
+      syn-unfit = λ p peer l e unfits.
+          honesty .syn-answer p peer l e ∙ ap packet.Syn (search-unchecked .does-not-fit (readPacket p peer .observation) l unfits);
+      syn-ack-unfit = λ p peer l e unfits.
+          honesty .syn-ack-answer p peer l e ∙ ap packet.SynAck (search-unchecked .does-not-fit (readPacket p peer .observation) l unfits);
     }
 
 good-lies : (b : List ℕ) (i : ℕ) → checkBundle b ≡ check.Good → i < packetCount b → packetLies b (startOf b i) ≡ true

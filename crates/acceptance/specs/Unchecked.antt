@@ -61,7 +61,7 @@ pub record PacketUnchecked : Type 0 where
   pub same-code : (p : List ℕ) (peer : ℕ) (l : List ℕ) → checkList l ≡ list.Good → checkedCode p peer l ≡ codeAt p peer l
   -- `termread_check_list` says 0 of a good list and of no other.
   pub checked : (l : List ℕ) → (listCode (checkList l) ≡ 0) ↔ (checkList l ≡ list.Good)
-  -- 10 and 9: that of the list without its bad records; none of a list that does not fit.
+  -- 10: that of the list without its bad records.
   pub syn
       : (p : List ℕ) (peer : Mss) (l : List ℕ)
       → readPacket p peer .answer ≡ reading.Syn
@@ -70,6 +70,17 @@ pub record PacketUnchecked : Type 0 where
       : (p : List ℕ) (peer : Mss) (l : List ℕ)
       → readPacket p peer .answer ≡ reading.SynAck
       → answerOf p peer l ≡ packet.SynAck (searchOver (goodRecords l) (readPacket p peer .observation) l)
+  -- 9: none.
+  pub syn-unfit
+      : (p : List ℕ) (peer : Mss) (l : List ℕ)
+      → readPacket p peer .answer ≡ reading.Syn
+      → checkList l ≡ list.DoesNotFit
+      → answerOf p peer l ≡ packet.Syn found.None
+  pub syn-ack-unfit
+      : (p : List ℕ) (peer : Mss) (l : List ℕ)
+      → readPacket p peer .answer ≡ reading.SynAck
+      → checkList l ≡ list.DoesNotFit
+      → answerOf p peer l ≡ packet.SynAck found.None
 
 -- `packet_at`, against `check_bundle` (refusals 12, 9 and 10).
 pub record BundleUnchecked : Type 0 where
