@@ -17,6 +17,7 @@ pub mod Overlap
 pub mod PacketGives
 pub mod PacketRefusals
 pub mod PaperRows
+pub mod PaperStages
 pub mod PaperTold
 pub mod Refusals
 pub mod Unchecked

@@ -29,25 +29,16 @@ use Rattle.gateway.specs.Code.{afterList, gatewayAnswer}
 use Rattle.acceptance.specs.Refusals.{First, PacketRow, packetOrder, Refused, Gives, Answered, ListRow}
 use Rattle.acceptance.specs.OnPaper.{alone, refusalPaper, answerPaper, packetPaper, optionsPaper, listPaper, searchPaper, bundlePaper, gatewayPaper, Also, IsRow, GatewayRow, Rows, SameNumbers}
 use Rattle.acceptance.proofs.Refusals.{refusals}
+use Rattle.acceptance.proofs.PaperStages.{same-number, ip-row, header-row}
 
 -- ---- the numbers
-
-number-same : (r : Refusal) → number r ≡ refusalPaper r .number
-unfolding number
-number-same refusal.Version = refl
-number-same refusal.TooShort = refl
-number-same refusal.HeaderLength = refl
-number-same refusal.UnsupportedProtocol = refl
-number-same refusal.Fragment = refl
-number-same refusal.TcpTooShort = refl
-number-same (refusal.InvalidTcpFlags byte) = refl
 
 packet-same : (a : Answer) → refusalOf a ≡ answerPaper a .number
 unfolding refusalOf
 packet-same answer.Syn = refl
 packet-same answer.SynAck = refl
 packet-same answer.Nothing = refl
-packet-same (answer.Refused r) = number-same r
+packet-same (answer.Refused r) = same-number r
 
 options-same : (a : OptionsAnswer) → optionsRefusal a ≡ optionsPaper a .number
 unfolding optionsRefusal
@@ -239,7 +230,7 @@ module _ (p l : List ℕ) where
 pub numbers : SameNumbers
 numbers =
     record {
-      refusal = number-same;
+      refusal = same-number;
       packet = packet-same;
       options = options-same;
       list = list-same;
@@ -250,11 +241,13 @@ numbers =
 pub rows : Rows
 rows =
     record {
+      ip = ip-row;
       packet = λ p peer. record { first = packet-row p peer; also = packet-also p [] peer };
       options =
           λ s.
           let a = parseOptionsRaw s .answer in
           record { first = refusals .options s _ .0 (options-same a); also = options-also a };
+      header = header-row;
       list = λ l. record { first = list-row l; also = list-also [] l (checkList l) refl };
       search =
           λ o l.

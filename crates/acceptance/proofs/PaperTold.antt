@@ -4,12 +4,16 @@ use mathlib.Core.Bool.{cond}
 use Prim.Native.Nat.{_<_}
 use native.Mathlib.Omega.{arith}
 use lib.Dec.{eqb}
+use Rattle.ip.specs.declared.IpRead.{IpRead}
+use Rattle.ip.specs.declared.IpRead.the-variants as ip
 use Rattle.ip.specs.declared.Refusal.{Refusal}
 use Rattle.ip.specs.declared.Refusal.the-variants as refusal
 use Rattle.flow.specs.declared.Answer.{Answer}
 use Rattle.flow.specs.declared.Answer.the-variants as answer
 use Rattle.syn_options.specs.declared.OptionsAnswer.{OptionsAnswer}
 use Rattle.syn_options.specs.declared.OptionsAnswer.the-variants as options
+use Rattle.siglist.specs.declared.Header.{Header}
+use Rattle.siglist.specs.declared.Header.the-variants as header
 use Rattle.siglist.specs.declared.ListAnswer.{ListAnswer}
 use Rattle.siglist.specs.declared.ListAnswer.the-variants as list
 use Rattle.search.specs.declared.SearchAnswer.{SearchAnswer}
@@ -21,7 +25,7 @@ use Rattle.bundle.specs.declared.BundleCheck.the-variants as bundle
 use Rattle.gateway.specs.declared.GatewayAnswer.{GatewayAnswer}
 use Rattle.gateway.specs.declared.GatewayAnswer.the-variants as gateway
 use Rattle.gateway.specs.Decode.{refusalFrom}
-use Rattle.acceptance.specs.OnPaper.{Paper, refusalPaper, answerPaper, packetPaper, optionsPaper, listPaper, searchPaper, bundlePaper, gatewayPaper, valueOf, ToldApart, Told}
+use Rattle.acceptance.specs.OnPaper.{Paper, refusalPaper, ipPaper, answerPaper, packetPaper, optionsPaper, headerPaper, listPaper, searchPaper, bundlePaper, gatewayPaper, valueOf, ToldApart, Told}
 
 by-back : {A : Type 0} (paper : A → Paper) (from : Paper → A) → ((a : A) → 0 < paper a .number → from (paper a) ≡ a) → ToldApart paper
 by-back paper from back a b h e =
@@ -38,6 +42,14 @@ refusal-back refusal.UnsupportedProtocol = refl
 refusal-back refusal.Fragment = refl
 refusal-back refusal.TcpTooShort = refl
 refusal-back (refusal.InvalidTcpFlags byte) = refl
+
+ip-back : (a : IpRead) → 0 < ipPaper a .number → ip.Refused (refusalBack (ipPaper a)) ≡ a
+ip-back (ip.Refused r) h = ap ip.Refused (refusal-back r)
+ip-back (ip.Facts f) h = absurd (omega arith)
+
+header-back : (a : Header) → 0 < headerPaper a .number → header.DoesNotFit ≡ a
+header-back (header.Fits areas) h = absurd (omega arith)
+header-back header.DoesNotFit h = refl
 
 answer-back : (a : Answer) → 0 < answerPaper a .number → answer.Refused (refusalBack (answerPaper a)) ≡ a
 answer-back answer.Syn h = absurd (omega arith)
@@ -111,8 +123,10 @@ pub told : Told
 told =
     record {
       refusal = by-back refusalPaper refusalBack (λ r h. refusal-back r);
+      ip = by-back ipPaper (λ x. ip.Refused (refusalBack x)) ip-back;
       packet = by-back answerPaper (λ x. answer.Refused (refusalBack x)) answer-back;
       options = by-back optionsPaper (λ x. options.Refused) options-back;
+      header = by-back headerPaper (λ x. header.DoesNotFit) header-back;
       list = by-back listPaper listBack list-back;
       search = by-back searchPaper searchBack search-back;
       bundle = by-back bundlePaper bundleBack bundle-back;

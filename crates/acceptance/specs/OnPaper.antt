@@ -1,13 +1,17 @@
 -- "If an answer is an enum, the promises use a definition that gives this paper's number and values for each of its cases" (document 01,
--- last paragraph): of each answer type one definition, by its cases in the table's order, and what ties it to the functions' answers.
+-- last paragraph): of each answer type that refuses one definition, by its cases in the table's order, and what ties it to the functions'
+-- answers.
 -- `OnPaper` is the statement.
 use mathlib.Core.Path.{_≡_}
 use mathlib.Core.List.{List, [], _∷_}
 use Prim.Native.Nat.{ℕ, _+_, _*_, _<_}
 use Rattle.tcp.specs.declared.Mss.{Mss}
 use Rattle.observable.specs.declared.TcpObservation.{TcpObservation}
+use Rattle.ip.specs.declared.IpRead.{IpRead}
+use Rattle.ip.specs.declared.IpRead.the-variants as ip
 use Rattle.ip.specs.declared.Refusal.{Refusal}
 use Rattle.ip.specs.declared.Refusal.the-variants as refusal
+use Rattle.ip.specs.Ip.{readIp}
 use Rattle.ip.specs.Numbers.{number}
 use Rattle.flow.specs.declared.Answer.{Answer}
 use Rattle.flow.specs.declared.Answer.the-variants as answer
@@ -15,9 +19,11 @@ use Rattle.flow.specs.Reading.{readPacket, refusalOf}
 use Rattle.syn_options.specs.declared.OptionsAnswer.{OptionsAnswer}
 use Rattle.syn_options.specs.declared.OptionsAnswer.the-variants as options
 use Rattle.syn_options.specs.Walk.{parseOptionsRaw, optionsRefusal}
+use Rattle.siglist.specs.declared.Header.{Header}
+use Rattle.siglist.specs.declared.Header.the-variants as header
 use Rattle.siglist.specs.declared.ListAnswer.{ListAnswer}
 use Rattle.siglist.specs.declared.ListAnswer.the-variants as list
-use Rattle.siglist.specs.List.{checkList, listRefusal}
+use Rattle.siglist.specs.List.{headerOf, checkList, listRefusal}
 use Rattle.search.specs.declared.SearchAnswer.{SearchAnswer}
 use Rattle.search.specs.declared.SearchAnswer.the-variants as search
 use Rattle.search.specs.Search.{searchList, searchRefusal}
@@ -65,6 +71,11 @@ refusalPaper refusal.Fragment = alone 5
 refusalPaper refusal.TcpTooShort = alone 6
 refusalPaper (refusal.InvalidTcpFlags byte) = record { number = 7; also = Returned.flags byte }
 
+-- `read_ip`'s answer.
+abbrev pub ipPaper : IpRead → Paper
+ipPaper (ip.Refused r) = refusalPaper r
+ipPaper (ip.Facts f) = noRefusal
+
 -- `read_packet`'s answer.
 abbrev pub answerPaper : Answer → Paper
 answerPaper answer.Syn = noRefusal
@@ -82,6 +93,11 @@ packetPaper (packet.Refused r) = refusalPaper r
 abbrev pub optionsPaper : OptionsAnswer → Paper
 optionsPaper options.Parsed = noRefusal
 optionsPaper options.Refused = alone 8
+
+-- `read_header`'s answer, and `check_list`'s.
+abbrev pub headerPaper : Header → Paper
+headerPaper (header.Fits areas) = noRefusal
+headerPaper header.DoesNotFit = alone 9
 
 abbrev pub listPaper : ListAnswer → Paper
 listPaper list.Good = noRefusal
@@ -139,8 +155,12 @@ refusedCode x = 5 + 256 * (x .number + 256 * valueOf (x .also))
 
 -- The answers of the functions, on any input.
 pub record Rows : Type 0 where
+  -- the IP stage: 1 to 6
+  pub ip : (p : List ℕ) → IsRow (PacketRow p) (1 ∷ 2 ∷ 3 ∷ 4 ∷ 5 ∷ 6 ∷ []) p [] (ipPaper (readIp p))
   pub packet : (p : List ℕ) (peer : Mss) → IsRow (PacketRow p) packetOrder p [] (answerPaper (readPacket p peer .answer))
   pub options : (s : List ℕ) → IsRow (OptionsRow s) (8 ∷ []) [] [] (optionsPaper (parseOptionsRaw s .answer))
+  -- a list's header: 9 alone
+  pub header : (l : List ℕ) → IsRow (ListRow l) (9 ∷ []) [] l (headerPaper (headerOf l))
   pub list : (l : List ℕ) → IsRow (ListRow l) (9 ∷ 10 ∷ []) [] l (listPaper (checkList l))
   pub search : (o : TcpObservation) (l : List ℕ) → IsRow (SearchRow o l) (11 ∷ 9 ∷ 10 ∷ []) [] l (searchPaper (searchList o l))
   pub bundle : (b : List ℕ) → IsRow (BundleRow b) (12 ∷ 9 ∷ 10 ∷ []) [] (listOf b) (bundlePaper (checkBundle b))
@@ -181,8 +201,10 @@ ToldApart {A} paper = (a b : A) → 0 < paper a .number → paper a ≡ paper b 
 
 pub record Told : Type 0 where
   pub refusal : ToldApart refusalPaper
+  pub ip : ToldApart ipPaper
   pub packet : ToldApart answerPaper
   pub options : ToldApart optionsPaper
+  pub header : ToldApart headerPaper
   pub list : ToldApart listPaper
   pub search : ToldApart searchPaper
   pub bundle : ToldApart bundlePaper

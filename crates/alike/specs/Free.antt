@@ -39,7 +39,8 @@ lengthEnd4 p = v4.totalLength p
 abbrev pub lengthEnd6 : List ℕ → ℕ
 lengthEnd6 p = 40 + v6.payloadLength p
 
--- The walk reaches an option at this place of the string.
+-- The walk reaches an option at this place of the string (in a string of more than forty bytes, which no packet has, the places past them
+-- count too).
 pub data WalkReaches : ℕ → List ℕ → Type 0 where
   first : {b : ℕ} {rest : List ℕ} → WalkReaches 0 (b ∷ rest)
   next : {b n : ℕ} {rest : List ℕ} → WalkReaches n (drop (asked b rest) rest) → WalkReaches (suc (asked b rest + n)) (b ∷ rest)

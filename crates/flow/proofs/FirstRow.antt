@@ -67,7 +67,7 @@ no-refusal false true = refl
 no-refusal false false = refl
 
 -- The TCP stage refuses by the flags alone.
-by-flags : (f : IpFacts) (t : List ℕ) (peer : Mss) → refusalOf (readTcp f t peer .answer) ≡ cond (flagsInvalid (control t)) 7 0
+pub by-flags : (f : IpFacts) (t : List ℕ) (peer : Mss) → refusalOf (readTcp f t peer .answer) ≡ cond (flagsInvalid (control t)) 7 0
 unfolding readTcp refusalOf number
 by-flags f t peer =
     either (flagsInvalid (control t)) _ _ 7 (cond (isSynType (control t)) 0 (cond (isSynAckType (control t)) 0 0)) refl

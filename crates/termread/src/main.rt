@@ -150,8 +150,8 @@ fn read_input(buffer: &mut [u8]) -> Input
     }
 }
 
-// One write, the program's only one to standard output. It is handed the output from the first byte on that no write took, and what it
-// answers, which is `write`'s answer, says how far the output is then taken.
+// One write, the program's only one to standard output. It is handed the output from a place on that the writes before it reached, and what
+// it answers, which is `write`'s answer, says how far the output is then taken.
 fn write_once(bundle: &[u8], longer: bool, taken: usize, text: &[u8]) -> isize
     requires { ⌜ Reached taken ⌝ }
     requires { ⌜ Follows (outputOfInput (now bundle) longer) taken (now text) ⌝ }
