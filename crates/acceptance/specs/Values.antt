@@ -1,4 +1,5 @@
--- Document 01, "Values to reproduce": each line marked P, as a case of the definitions; and the union of module 1. One record a subject; `Values` is the table.
+-- Document 01, "Values to reproduce": each line marked P, as a case of the definitions; and the union of module 1. One record a subject;
+-- `Values` is the table.
 use mathlib.Core.Path.{_≡_}
 use mathlib.Core.Bool.{true, false}
 use mathlib.Core.List.{List, [], _∷_, _++_}
