@@ -1,23 +1,19 @@
 -- The stages that a whole answer is made of, on paper: the IP stage meets rows 1 to 6, a list's header row 9.
 use mathlib.Core.Path.{_≡_, refl, _∙_, ap, subst}
-use mathlib.Core.Bool.{Bool, true, false, cond, not, _||_}
+use mathlib.Core.Bool.{Bool, true, false, cond, not}
 use mathlib.Core.List.{List, [], _∷_, _++_}
 use mathlib.Core.Logic.{_⊎_, inl, inr}
 use Prim.Native.Nat.{ℕ, _<_}
 use native.Mathlib.Omega.{arith}
-use lib.Dec.{eqb, ltb}
-use lib.ListN.{length}
-use Rattle.basis.specs.Bytes.{part}
 use Rattle.rfc.specs.Rfc791 as v4
 use Rattle.rfc.specs.Rfc8200 as v6
 use Rattle.rfc.specs.Rfc9293.{control}
 use Rattle.tcp.specs.declared.Mss.the-variants as mss
-use Rattle.ip.specs.declared.IpFacts.{IpFacts}
 use Rattle.ip.specs.declared.IpRead.{IpRead}
 use Rattle.ip.specs.declared.IpRead.the-variants as ip
 use Rattle.ip.specs.declared.Refusal.{Refusal}
 use Rattle.ip.specs.declared.Refusal.the-variants as refusal
-use Rattle.ip.specs.Ip.{ipv4Facts, readIpv4, ipv6Facts, readIpv6, readIp}
+use Rattle.ip.specs.Ip.{readIp}
 use Rattle.ip.specs.Numbers.{number}
 use Rattle.flow.specs.Flags.{flagsInvalid}
 use Rattle.flow.specs.Reading.{tcpPart, afterIp, readPacket, refusalOf}
@@ -28,6 +24,7 @@ use Rattle.siglist.specs.List.{recordCount, listFits, headerOf, checkList, list
 use Rattle.siglist.proofs.FirstBad.{Checked, does-not-fit, first-bad-named}
 use Rattle.acceptance.specs.Refusals.{First, PacketRow, packetOrder, ListRow}
 use Rattle.acceptance.specs.OnPaper.{alone, refusalPaper, ipPaper, headerPaper, Also, IsRow}
+use Rattle.acceptance.proofs.PacketGives.{IpGives, ip-gives}
 use Rattle.acceptance.proofs.Refusals.{refusals}
 
 -- ---- the first row of fewer rows
@@ -51,37 +48,6 @@ none-of last (m ∷ order) (First.here r) (more other others) = absurd (other re
 none-of last (m ∷ order) (First.later fails rest) (more other others) = First.later fails (none-of last order rest others)
 
 -- ---- the IP stage
-
--- It never refuses by 7.
-data Early : IpRead → Type 0 where
-  facts : {f : IpFacts} → Early (ip.Facts f)
-  early : {r : Refusal} → number r < 7 → Early (ip.Refused r)
-
-either : (t : Bool) {a b : IpRead} → Early a → Early b → Early (cond t a b)
-either true x y = x
-either false x y = y
-
-early4 : (p : List ℕ) → Early (readIpv4 p)
-unfolding readIpv4 number
-early4 p =
-    either (ltb (length p) 20) (early (omega arith))
-    (either (ltb (v4.ihl p) 5) (early (omega arith))
-    (either (not (eqb (v4.protocol p) 6)) (early (omega arith))
-    (either (ltb 0 (v4.fragmentOffset p) || eqb (v4.moreFragments p) 1) (early (omega arith))
-    (either (ltb (length (part (v4.dataStart p) (v4.dataEnd p) p)) 20) (early (omega arith)) facts))))
-
-early6 : (p : List ℕ) → Early (readIpv6 p)
-unfolding readIpv6 number
-early6 p =
-    either (ltb (length p) 40) (early (omega arith))
-    (either (not (eqb (v6.nextHeader p) 6)) (early (omega arith))
-    (either (ltb (length (v6.payload p)) 20) (early (omega arith)) facts))
-
-early-ip : (p : List ℕ) → Early (readIp p)
-unfolding readIp number
-early-ip p =
-    either (eqb (length p) 0) (early (omega arith))
-    (either (eqb (v4.version p) 4) (early4 p) (either (eqb (v4.version p) 6) (early6 p) (early (omega arith))))
 
 pub same-number : (r : Refusal) → number r ≡ refusalPaper r .number
 unfolding number
@@ -122,7 +88,7 @@ past-six false n e =
 
 pub ip-row : (p : List ℕ) → IsRow (PacketRow p) rows6 p [] (ipPaper (readIp p))
 unfolding readPacket refusalOf
-ip-row p = by-stage (readIp p) refl (early-ip p)
+ip-row p = by-stage (readIp p) refl (ip-gives p)
   where
     at-seven : First (PacketRow p) packetOrder (refusalOf (readPacket p mss.Absent .answer))
     at-seven = refusals .packet p mss.Absent (refusalOf (readPacket p mss.Absent .answer)) .0 refl
@@ -133,15 +99,15 @@ ip-row p = by-stage (readIp p) refl (early-ip p)
     refused-number : (r : Refusal) → refusalOf (afterIp (ip.Refused r) p mss.Absent .answer) ≡ number r
     refused-number r = refl
 
-    by-stage : (x : IpRead) → readIp p ≡ x → Early x → IsRow (PacketRow p) rows6 p [] (ipPaper x)
-    by-stage (ip.Refused r) e (early h) =
+    by-stage : (x : IpRead) → readIp p ≡ x → IpGives p x → IsRow (PacketRow p) rows6 p [] (ipPaper x)
+    by-stage (ip.Refused r) e (IpGives.refused h) =
         let n = stage-number (ip.Refused r) e ∙ refused-number r in
         let seven : First (PacketRow p) packetOrder (number r) = subst (First (PacketRow p) packetOrder) n at-seven in
         record {
           first = subst (First (PacketRow p) rows6) (same-number r) (without-last 7 rows6 seven (λ (s : number r ≡ 7). omega arith));
           also = alone-also p r h;
         }
-    by-stage (ip.Facts f) e facts =
+    by-stage (ip.Facts f) e (IpGives.facts byte) =
         let n = stage-number (ip.Facts f) e ∙ by-flags f (tcpPart f p) mss.Absent in
         record {
           first = none-of 7 rows6 at-seven (past-six (flagsInvalid (control (tcpPart f p))) (refusalOf (readPacket p mss.Absent .answer)) n);
