@@ -1,4 +1,5 @@
-/* The terminal reader called from C: reads a bundle (document 01) on standard input and prints what the program `termread` prints.
+/* The terminal reader called from C: reads a bundle (document 01) on standard input and prints what the program `termread` prints. What
+   reaches standard output is always a prefix of that; if it is cut, standard error says so and the status is 1.
 
    usage: gateway [-r] [-u] <BUNDLE
      -r   print the reason of a fuzzy answer, and what a refusal gives, behind each line
@@ -6,12 +7,18 @@
 
    Built and run by tools/link_examples:
      gcc -std=c99 -O2 -I include -o gateway examples/gateway.c target/staticlib/libgateway.a */
+#define _POSIX_C_SOURCE 200809L
+
 #include "termread.h"
 
+#include <errno.h>
+#include <poll.h>
+#include <stdarg.h>
 #include <stdio.h>
 #include <string.h>
+#include <unistd.h>
 
-enum { BUNDLE_MOST = 65535, BUNDLE_HEADER = 8, BEFORE_PACKET = 4 };
+enum { BUNDLE_MOST = 65535, BUNDLE_HEADER = 8, BEFORE_PACKET = 4, PAGE = 4096, PIECE_MOST = 64 };
 
 struct options {
     int reasons;
@@ -19,6 +26,56 @@ struct options {
 };
 
 static size_t be16(const uint8_t *at) { return (size_t)at[0] * 256 + at[1]; }
+
+/* ---- the streams */
+
+/* Whether a call that failed may be tried again: it was interrupted, or it would have had to wait, which is done here. */
+static int again(int descriptor, short event) {
+    struct pollfd stream;
+    if (errno == EINTR) return 1;
+    if (errno != EAGAIN && errno != EWOULDBLOCK) return 0;
+    stream.fd = descriptor;
+    stream.events = event;
+    return poll(&stream, 1, -1) > 0 || errno == EINTR;
+}
+
+/* How many bytes were read, at most as many as there is room for, or -1 if a read failed. */
+static ssize_t read_input(uint8_t *bytes, size_t room) {
+    size_t length = 0;
+    while (length < room) {
+        ssize_t got = read(STDIN_FILENO, bytes + length, room - length);
+        if (got == 0) break;
+        if (got > 0) length += (size_t)got;
+        else if (!again(STDIN_FILENO, POLLIN)) return -1;
+    }
+    return (ssize_t)length;
+}
+
+/* Text that is still to be written, and whether a write has failed: from then on nothing is written. */
+static struct {
+    char text[PAGE];
+    size_t filled;
+    int cut;
+} output;
+
+static void flush(void) {
+    size_t from = 0;
+    while (!output.cut && from < output.filled) {
+        ssize_t taken = write(STDOUT_FILENO, output.text + from, output.filled - from);
+        if (taken > 0) from += (size_t)taken;
+        else if (taken == 0 || !again(STDOUT_FILENO, POLLOUT)) output.cut = 1;
+    }
+    output.filled = 0;
+}
+
+/* Prints a piece of under PIECE_MOST bytes. */
+static void print(const char *format, ...) {
+    va_list values;
+    if (PAGE - output.filled < PIECE_MOST) flush();
+    va_start(values, format);
+    output.filled += (size_t)vsnprintf(output.text + output.filled, PAGE - output.filled, format, values);
+    va_end(values);
+}
 
 /* ---- an answer as text */
 
@@ -34,17 +91,17 @@ static void print_quirks(const char *word, uint32_t quirks) {
     };
     size_t i;
     for (i = 0; i < sizeof names / sizeof names[0]; i++)
-        if (quirks & names[i].bit) printf(" %s %s", word, names[i].name);
+        if (quirks & names[i].bit) print(" %s %s", word, names[i].name);
 }
 
 static void print_refused(uint64_t code, int reasons) {
-    printf("refused %u", termread_refusal(code));
-    if (reasons && termread_refusal(code) == TERMREAD_REFUSED_FLAGS) printf(" flags %u", termread_flags(code));
-    if (reasons && termread_refusal(code) == TERMREAD_REFUSED_RECORD) printf(" record %u", termread_bad_record(code));
+    print("refused %u", termread_refusal(code));
+    if (reasons && termread_refusal(code) == TERMREAD_REFUSED_FLAGS) print(" flags %u", termread_flags(code));
+    if (reasons && termread_refusal(code) == TERMREAD_REFUSED_RECORD) print(" record %u", termread_bad_record(code));
 }
 
 static void print_reason(uint64_t code) {
-    if (termread_out_of_range(code)) printf(" hops %u", termread_hops(code));
+    if (termread_out_of_range(code)) print(" hops %u", termread_hops(code));
     print_quirks("added", termread_added(code));
     print_quirks("missing", termread_missing(code));
 }
@@ -53,17 +110,17 @@ static void print_reason(uint64_t code) {
 static void print_answer(uint64_t code, int reasons) {
     const char *kind = termread_kind(code) == TERMREAD_SYN ? "syn" : "synack";
     switch (termread_outcome(code)) {
-    case TERMREAD_EXACT: printf("%s exact %u", kind, termread_label(code)); break;
+    case TERMREAD_EXACT: print("%s exact %u", kind, termread_label(code)); break;
     case TERMREAD_FUZZY:
-        printf("%s fuzzy %u", kind, termread_label(code));
+        print("%s fuzzy %u", kind, termread_label(code));
         if (reasons) print_reason(code);
         break;
-    case TERMREAD_NONE: printf("%s none", kind); break;
-    case TERMREAD_NOTHING: printf("nothing"); break;
+    case TERMREAD_NONE: print("%s none", kind); break;
+    case TERMREAD_NOTHING: print("nothing"); break;
     case TERMREAD_REFUSED: print_refused(code, reasons); break;
-    default: printf("unknown code");
+    default: print("unknown code");
     }
-    printf("\n");
+    print("\n");
 }
 
 /* ---- a bundle */
@@ -91,7 +148,7 @@ static int bundle_fits(const uint8_t *bundle, size_t length) {
 static void print_packets(const uint8_t *bundle, size_t length, struct options options) {
     const uint8_t *list = bundle + be16(bundle + 6);
     size_t list_length = be16(bundle + 4), at = be16(bundle + 2), left;
-    printf("packets %zu\n", be16(bundle));
+    print("packets %zu\n", be16(bundle));
     for (left = be16(bundle); left > 0; left--) {
         const uint8_t *packet = bundle + at + BEFORE_PACKET;
         uint16_t peer = (uint16_t)be16(bundle + at);
@@ -115,7 +172,7 @@ static uint64_t list_code(const uint8_t *list, size_t length, int unchecked) {
 static void print_bundle(const uint8_t *bundle, size_t length, struct options options) {
     uint64_t code;
     if (!bundle_fits(bundle, length)) {
-        printf("refused %d\n", TERMREAD_REFUSED_BUNDLE);
+        print("refused %d\n", TERMREAD_REFUSED_BUNDLE);
         return;
     }
     code = list_code(bundle + be16(bundle + 6), be16(bundle + 4), options.unchecked);
@@ -129,15 +186,17 @@ static void print_bundle(const uint8_t *bundle, size_t length, struct options op
 int main(int count, char **words) {
     static uint8_t bundle[BUNDLE_MOST + 1];
     struct options options = {0, 0};
-    size_t length;
+    ssize_t length;
     int i;
     for (i = 1; i < count; i++) {
         if (strcmp(words[i], "-r") == 0) options.reasons = 1;
         else if (strcmp(words[i], "-u") == 0) options.unchecked = 1;
         else return fprintf(stderr, "usage: gateway [-r] [-u] <BUNDLE\n"), 2;
     }
-    length = fread(bundle, 1, sizeof bundle, stdin);
-    if (ferror(stdin)) return fprintf(stderr, "gateway: standard input could not be read\n"), 1;
-    print_bundle(bundle, length, options);
+    length = read_input(bundle, sizeof bundle);
+    if (length < 0) return fprintf(stderr, "gateway: standard input could not be read\n"), 1;
+    print_bundle(bundle, (size_t)length, options);
+    flush();
+    if (output.cut) return fprintf(stderr, "gateway: standard output could not be written, and ends early\n"), 1;
     return 0;
 }

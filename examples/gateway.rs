@@ -1,12 +1,19 @@
 //! The terminal reader called from Rust: reads a bundle (document 01) on standard input and prints what the program `termread` prints.
+//! What reaches standard output is always a prefix of that; if it is cut, standard error says so and the status is 1. (Rust itself opens
+//! /dev/null in the place of a standard stream that is closed when the program starts, and ignores SIGPIPE.)
 //!
 //! usage: gateway [-r] [-u] <BUNDLE, as examples/gateway.c. Built and run by tools/link_examples:
 //!     rustc --edition 2021 -O -o gateway examples/gateway.rs -C link-arg=target/staticlib/libgateway.a
 
 mod termread;
 
-use std::io::{self, Read, Write};
+use std::fs::File;
+use std::io::{self, ErrorKind, Read, Write};
+use std::mem::ManuallyDrop;
+use std::os::fd::FromRawFd;
 use std::process::ExitCode;
+use std::thread::sleep;
+use std::time::Duration;
 use termread::{answer, Answer, Kind, List, ListRefusal, PacketRefusal, Quirk, Quirks, Reason};
 
 const BUNDLE_MOST: usize = 65535;
@@ -129,6 +136,54 @@ fn output(bytes: &[u8], options: Options) -> String {
     }
 }
 
+/// A standard stream as a file: `io::stdout` takes a descriptor that is not open for writing for one that takes everything.
+fn stream(descriptor: i32) -> ManuallyDrop<File> {
+    // Safety: nothing else in this program reads or writes the descriptor, and it stays open.
+    ManuallyDrop::new(unsafe { File::from_raw_fd(descriptor) })
+}
+
+/// A call tried again while it is interrupted or would have to wait, which is done here.
+fn persist(mut call: impl FnMut() -> io::Result<usize>) -> io::Result<usize> {
+    loop {
+        match call() {
+            Err(error) if error.kind() == ErrorKind::Interrupted => {}
+            Err(error) if error.kind() == ErrorKind::WouldBlock => sleep(Duration::from_millis(1)),
+            done => return done,
+        }
+    }
+}
+
+/// The input, up to a byte more than a bundle may have.
+fn read_input() -> io::Result<Vec<u8>> {
+    let mut bytes = vec![0; BUNDLE_MOST + 1];
+    let mut length = 0;
+    while length < bytes.len() {
+        match persist(|| stream(0).read(&mut bytes[length..]))? {
+            0 => break,
+            got => length += got,
+        }
+    }
+    bytes.truncate(length);
+    Ok(bytes)
+}
+
+/// Ends at the first write that fails.
+fn write_output(text: &[u8]) -> io::Result<()> {
+    let mut rest = text;
+    while !rest.is_empty() {
+        match persist(|| stream(1).write(rest))? {
+            0 => return Err(ErrorKind::WriteZero.into()),
+            taken => rest = &rest[taken..],
+        }
+    }
+    Ok(())
+}
+
+fn failed(message: &str) -> ExitCode {
+    eprintln!("gateway: {message}");
+    ExitCode::FAILURE
+}
+
 fn main() -> ExitCode {
     let mut options = Options::default();
     for word in std::env::args().skip(1) {
@@ -141,13 +196,11 @@ fn main() -> ExitCode {
             }
         }
     }
-    let mut bytes = Vec::new();
-    let read = io::stdin().lock().take(BUNDLE_MOST as u64 + 1).read_to_end(&mut bytes);
-    match read.and_then(|_| io::stdout().write_all(output(&bytes, options).as_bytes())) {
+    let Ok(bytes) = read_input() else {
+        return failed("standard input could not be read");
+    };
+    match write_output(output(&bytes, options).as_bytes()) {
         Ok(()) => ExitCode::SUCCESS,
-        Err(error) => {
-            eprintln!("gateway: {error}");
-            ExitCode::FAILURE
-        }
+        Err(_) => failed("standard output could not be written, and ends early"),
     }
 }

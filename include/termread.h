@@ -26,8 +26,8 @@ extern "C" {
 /* Whether a list is well formed: TERMREAD_GOOD, or the code of refusal 9 or 10. Check a list once, when it is loaded. */
 uint64_t termread_check_list(const uint8_t *list, size_t list_length);
 
-/* The answer of a packet (from its IP header on) against a list that termread_check_list found good. On another list it is still
-   safe, and what is not a well-formed record of the list fits nothing. */
+/* The answer of a packet (from its IP header on) against a list that termread_check_list found good: the same as termread_answer's.
+   It does not refuse a list: on one with bad records it answers as if those were not there, on one that does not fit it finds none. */
 uint64_t termread_answer_checked(const uint8_t *packet, size_t packet_length, uint16_t peer_mss, const uint8_t *list,
                                  size_t list_length);
 

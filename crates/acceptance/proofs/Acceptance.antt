@@ -4,7 +4,20 @@ use Rattle.acceptance.proofs.Demand1.{demand1}
 use Rattle.acceptance.proofs.Demand2.{demand2}
 use Rattle.acceptance.proofs.Demand3.{demand3}
 use Rattle.acceptance.proofs.Honesty.{honesty}
+use Rattle.acceptance.proofs.Lines.{lines}
+use Rattle.acceptance.proofs.OnPaper.{on-paper}
 use Rattle.acceptance.proofs.Refusals.{refusals}
+use Rattle.acceptance.proofs.Unchecked.{unchecked}
 
 pub acceptance : Acceptance
-acceptance = record { honesty = honesty; demand1 = demand1; refusals = refusals; demand2 = demand2; demand3 = demand3 }
+acceptance =
+    record {
+      honesty = honesty;
+      lines = lines;
+      demand1 = demand1;
+      refusals = refusals;
+      onPaper = on-paper;
+      unchecked = unchecked;
+      demand2 = demand2;
+      demand3 = demand3;
+    }

@@ -11,9 +11,9 @@ use Rattle.siglist.specs.List.{checkList, listRefusal}
 use Rattle.bundle.specs.declared.BundleCheck.{BundleCheck}
 use Rattle.bundle.specs.declared.BundleCheck.the-variants as bundleCheck
 use Rattle.bundle.specs.Bundle.{packetCount, listOf, bundleFits, ofList, checkBundle, bundleRefusal}
-use Rattle.bundle.specs.Answers.{afterCheck, bundleAnswer}
+use Rattle.bundle.specs.Answers.{afterBundleCheck, bundleAnswer}
 use Rattle.bundle.proofs.Packets.{good-fits}
-use Rattle.bundle.proofs.Refusals.{Unfit, unfit, fit-not-unfit, bundle-order, all-answered}
+use Rattle.bundle.proofs.BundleOrder.{Unfit, unfit, fit-not-unfit, bundle-order, all-answered}
 use Rattle.acceptance.specs.Refusals.{First, ListRow, BundleRow}
 
 module _ (b : List ℕ) where
@@ -75,7 +75,7 @@ module _ (b : List ℕ) where
   unfolding bundleAnswer bundleRefusal
   none-beside = by-check (checkBundle b)
     where
-      by-check : (c : BundleCheck) → 0 < bundleRefusal c → afterCheck c b .answers ≡ []
+      by-check : (c : BundleCheck) → 0 < bundleRefusal c → afterBundleCheck c b .answers ≡ []
       by-check bundleCheck.Good h = absurd (omega arith)
       by-check bundleCheck.DoesNotFit h = refl
       by-check bundleCheck.ListDoesNotFit h = refl

@@ -22,167 +22,188 @@ use Rattle.report.specs.declared.Progress.{Progress}
 use Rattle.report.proofs.Unique as report
 use Rattle.report.proofs.Whole.{all-pages, first-page-within, next-page-within}
 use Rattle.gateway.proofs.Unique as gateway
-use mathlib.Core.Path.{ap₂}
-use mathlib.Core.List.{List}
+use mathlib.Core.Path.{_≡_, refl, ap₂}
+use mathlib.Core.List.{List, []}
+use contract.Lifetimes.{Lfts}
+use denote.Signature as kit
+use Rattle.basis.specs.Unique.{ExactlyOne}
+use Rattle.acceptance.specs.Lent.{writable}
+use Rattle.acceptance.specs.Promised.{Answers}
 use Prim.Native.Nat.{ℕ}
-use Rattle.acceptance.specs.Demand1.{Numbers, Quirks, TtlReading, Window, IpOptions, Observable, OneOption, Options, Ip, Flow, Distances, Matching, Siglist, Held, Search, PacketAnswered, Bundle, Report, Gateway, Demand1}
+use Rattle.acceptance.specs.Leaves.{Numbers, Quirks, TtlReading, Window, IpOptions}
+use Rattle.acceptance.specs.Reader.{Observable, OneOption, Options, Ip, Flow}
+use Rattle.acceptance.specs.Fitting.{Distances, Matching, Siglist, Held, Search}
+use Rattle.acceptance.specs.GivenOut.{PacketAnswered, Bundle, Report, Gateway}
+use Rattle.acceptance.specs.Demand1.{Demand1}
+
+-- A line, from its parts: nothing is asked, the uniqueness theorem, whose promise says which result it is, and nothing can be written.
+answered
+    : {A R : Type 0} {signature : kit.Signature} {κs : Lfts (signature .lifetimes)} {pre : A → Type 0} {post : A → R → A → Type 0} {a : A} {d : R}
+    → pre a
+    → (u : ExactlyOne R (λ (r : R). post a r a))
+    → (post a (u .the) a → u .the ≡ d)
+    → writable signature κs ≡ []
+    → Answers signature κs pre post a d
+answered asked u says lent = record { asks-nothing = asked; one = u; is = says (u .meets); only-reads = lent }
 
 of-numbers : Numbers
 of-numbers =
     record {
-      wide = λ x. let u = numbers.wide-one x in record { asks-nothing = tt; one = u; is = u .meets };
-      be16 = λ high low. let u = numbers.be16-one high low in record { asks-nothing = tt; one = u; is = u .meets };
-      be32 = λ high low. let u = numbers.be32-one high low in record { asks-nothing = tt; one = u; is = u .meets };
-      least = λ a b. let u = numbers.least-one a b in record { asks-nothing = tt; one = u; is = u .meets };
-      saturating-sub = λ a b. let u = numbers.saturating-sub-one a b in record { asks-nothing = tt; one = u; is = u .meets };
-      saturating-add = λ a b. let u = numbers.saturating-add-one a b in record { asks-nothing = tt; one = u; is = u .meets };
+      wide = λ x. answered tt (numbers.wide-one x) (λ m. m) refl;
+      be16 = λ high low. answered tt (numbers.be16-one high low) (λ m. m) refl;
+      be32 = λ high low. answered tt (numbers.be32-one high low) (λ m. m) refl;
+      least = λ a b. answered tt (numbers.least-one a b) (λ m. m) refl;
+      saturating-sub = λ a b. answered tt (numbers.saturating-sub-one a b) (λ m. m) refl;
+      saturating-add = λ a b. answered tt (numbers.saturating-add-one a b) (λ m. m) refl;
     }
 
 of-quirks : Quirks
 of-quirks =
     record {
-      bit = λ q. let u = quirks.bit-one q in record { asks-nothing = tt; one = u; is = u .meets };
-      from-bits = λ n. let u = quirks.from-bits-one n in record { asks-nothing = tt; one = u; is = u .meets };
-      bits = λ s. let u = quirks.bits-one s in record { asks-nothing = tt; one = u; is = u .meets };
-      is-empty = λ s. let u = quirks.is-empty-one s in record { asks-nothing = tt; one = u; is = u .meets };
-      contains = λ s q. let u = quirks.contains-one s q in record { asks-nothing = tt; one = u; is = u .meets };
-      with = λ s q. let u = quirks.with-one s q in record { asks-nothing = tt; one = u; is = u .meets };
-      insert = λ s q. let u = quirks.insert-one s q in record { asks-nothing = tt; one = u; is = u .meets };
-      add-if = λ s t q. let u = quirks.add-if-one s t q in record { asks-nothing = tt; one = u; is = u .meets };
-      difference = λ a b. let u = quirks.difference-one a b in record { asks-nothing = tt; one = u; is = u .meets };
-      union = λ a b. let u = quirks.union-one a b in record { asks-nothing = tt; one = u; is = u .meets };
-      intersection = λ a b. let u = quirks.intersection-one a b in record { asks-nothing = tt; one = u; is = u .meets };
-      named-sets = let u = quirks.named-sets-one in record { asks-nothing = tt; one = u; is = u .meets };
+      bit = λ q. answered tt (quirks.bit-one q) (λ m. m) refl;
+      from-bits = λ n. answered tt (quirks.from-bits-one n) (λ m. m) refl;
+      bits = λ s. answered tt (quirks.bits-one s) (λ m. m) refl;
+      is-empty = λ s. answered tt (quirks.is-empty-one s) (λ m. m) refl;
+      contains = λ s q. answered tt (quirks.contains-one s q) (λ m. m) refl;
+      insert = λ s q. answered tt (quirks.insert-one s q) (λ m. m) refl;
+      add-if = λ s t q. answered tt (quirks.add-if-one s t q) (λ m. m) refl;
+      difference = λ a b. answered tt (quirks.difference-one a b) (λ m. m) refl;
+      named-sets = answered tt (quirks.named-sets-one) (λ m. m) refl;
     }
 
 of-ttl : TtlReading
 of-ttl =
     record {
-      max-dist = let u = ttl.max-dist-one in record { asks-nothing = tt; one = u; is = u .meets };
-      observed-ttl = λ t. let u = ttl.observed-ttl-one t in record { asks-nothing = tt; one = u; is = u .meets };
-      guess-distance = λ t. let u = ttl.guess-distance-one t in record { asks-nothing = tt; one = u; is = u .meets };
-      calculate-ttl = λ t. let u = ttl.calculate-ttl-one t in record { asks-nothing = tt; one = u; is = u .meets };
+      max-dist = answered tt (ttl.max-dist-one) (λ m. m) refl;
+      observed-ttl = λ t. answered tt (ttl.observed-ttl-one t) (λ m. m) refl;
+      guess-distance = λ t. answered tt (ttl.guess-distance-one t) (λ m. m) refl;
+      calculate-ttl = λ t. answered tt (ttl.calculate-ttl-one t) (λ m. m) refl;
     }
 
 of-window : Window
 of-window =
     record {
-      detect-win-multi = λ w own h s v peer. let u = window-size.detect-win-multi-one w own h s v peer in record { asks-nothing = tt; one = u; is = u .meets };
+      detect-win-multi = λ w own h s v peer. answered tt (window-size.detect-win-multi-one w own h s v peer) (λ m. m) refl;
     }
 
 of-ip-options : IpOptions
 of-ip-options =
     record {
-      calculate-ipv4-length = λ κs p. let u = ip-options.calculate-ipv4-length-one κs p in record { asks-nothing = tt; one = u; is = u .meets };
-      calculate-ipv6-length = λ κs p. let u = ip-options.calculate-ipv6-length-one κs p in record { asks-nothing = tt; one = u; is = u .meets };
+      calculate-ipv4-length = λ κs p. answered tt (ip-options.calculate-ipv4-length-one κs p) (λ m. m) refl;
+      calculate-ipv6-length = λ κs p. answered tt (ip-options.calculate-ipv6-length-one κs p) (λ m. m) refl;
     }
 
 of-observable : Observable
 of-observable =
     record {
-      empty = let u = observable.empty-one in record { asks-nothing = tt; one = u; is = u .meets };
-      window-multiplier = λ o. let u = observable.window-multiplier-one o in record { asks-nothing = tt; one = u; is = u .meets };
-      own-timestamp-is-nonzero = λ o. let u = observable.own-timestamp-is-nonzero-one o in record { asks-nothing = tt; one = u; is = u .meets };
+      empty = answered tt (observable.empty-one) (λ m. m) refl;
+      window-multiplier = λ o. answered tt (observable.window-multiplier-one o) (λ m. m) refl;
+      own-timestamp-is-nonzero = λ o. answered tt (observable.own-timestamp-is-nonzero-one o) (λ m. m) refl;
     }
 
 of-one-option : OneOption
 of-one-option =
     record {
-      asked-bytes = λ κs k s. let u = one-option.asked-bytes-one κs k s in record { asks-nothing = tt; one = u; is = u .meets };
-      later-mss = λ κs k s m. let u = one-option.later-mss-one κs k s m in record { asks-nothing = tt; one = u; is = u .meets };
-      later-scale = λ κs k s w. let u = one-option.later-scale-one κs k s w in record { asks-nothing = tt; one = u; is = u .meets };
-      later-quirks = λ κs k s syn q. let u = one-option.later-quirks-one κs k s syn q in record { asks-nothing = tt; one = u; is = u .meets };
+      asked-bytes = λ κs k s. answered tt (one-option.asked-bytes-one κs k s) (λ m. m) refl;
+      later-mss = λ κs k s m. answered tt (one-option.later-mss-one κs k s m) (λ m. m) refl;
+      later-scale = λ κs k s w. answered tt (one-option.later-scale-one κs k s w) (λ m. m) refl;
+      later-quirks = λ κs k s syn q. answered tt (one-option.later-quirks-one κs k s syn q) (λ m. m) refl;
     }
 
 of-options : Options
 of-options =
     record {
-      walk-options = λ κs s stop syn q. let u = syn-options.walk-options-one κs s stop syn q in record { asks-nothing = tt; one = u; is = u .meets };
-      parse-options-raw = λ κs s. let u = syn-options.parse-options-raw-one κs s in record { asks-nothing = tt; one = u; is = u .meets };
+      walk-options = λ κs s stop syn q. answered tt (syn-options.walk-options-one κs s stop syn q) (λ m. m) refl;
+      parse-options-raw = λ κs s. answered tt (syn-options.parse-options-raw-one κs s) (λ m. m) refl;
     }
 
 of-ip : Ip
 of-ip =
     record {
-      refusal-number = λ r. let u = ip.refusal-number-one r in record { asks-nothing = tt; one = u; is = u .meets };
-      process-tcp-ipv4 = λ κs p. let u = ip.process-tcp-ipv4-one κs p in record { asks-nothing = tt; one = u; is = u .meets };
-      process-tcp-ipv6 = λ κs p. let u = ip.process-tcp-ipv6-one κs p in record { asks-nothing = tt; one = u; is = u .meets };
-      read-ip = λ κs p. let u = ip.read-ip-one κs p in record { asks-nothing = tt; one = u; is = u .meets };
+      refusal-number = λ r. answered tt (ip.refusal-number-one r) (λ m. m) refl;
+      read-ip = λ κs p. answered tt (ip.read-ip-one κs p) (λ m. m) refl;
     }
 
 of-flow : Flow
 of-flow =
     record {
-      read-packet = λ κs p peer. let u = flow.read-packet-one κs p peer in record { asks-nothing = tt; one = u; is = u .meets };
+      read-packet = λ κs p peer. answered tt (flow.read-packet-one κs p peer) (λ m. m) refl;
     }
 
 of-distances : Distances
 of-distances =
     record {
-      ip-version-matches = λ o s. let u = distances.ip-version-matches-one o s in record { asks-nothing = tt; one = u; is = u .meets };
-      ttl-fit = λ o s. let u = distances.ttl-fit-one o s in record { asks-nothing = tt; one = u; is = u .meets };
-      report-hop-distance = λ o s. let u = distances.report-hop-distance-one o s in record { asks-nothing = tt; one = u; is = u .meets };
-      window-size-matches = λ o s m. let u = distances.window-size-matches-one o s m in record { asks-nothing = tt; one = u; is = u .meets };
-      payload-size-matches = λ o s. let u = distances.payload-size-matches-one o s in record { asks-nothing = tt; one = u; is = u .meets };
+      ttl-fit = λ o s. answered tt (distances.ttl-fit-one o s) (λ m. m) refl;
+      report-hop-distance = λ o s. answered tt (distances.report-hop-distance-one o s) (λ m. m) refl;
+      window-size-matches = λ o s m. answered tt (distances.window-size-matches-one o s m) (λ m. m) refl;
     }
 
 of-matching : Matching
 of-matching =
     record {
-      olen-matches = λ o s. let u = gates.olen-matches-one o s in record { asks-nothing = tt; one = u; is = u .meets };
-      mss-matches = λ o s. let u = gates.mss-matches-one o s in record { asks-nothing = tt; one = u; is = u .meets };
-      wscale-matches = λ o s. let u = gates.wscale-matches-one o s in record { asks-nothing = tt; one = u; is = u .meets };
-      quirks-fit = λ o s. let u = matching.quirks-fit-one o s in record { asks-nothing = tt; one = u; is = u .meets };
-      olayout-matches = λ κs ks bs n es m. let u = gates.olayout-matches-one κs ks bs n es m in record { asks-nothing = tt; one = u; is = u .meets };
-      entry-good = λ k b. let u = gates.entry-good-one k b in record { asks-nothing = tt; one = u; is = u .meets };
-      features-of = λ o. let u = matching.features-of-one o in record { asks-nothing = tt; one = u; is = u .meets };
-      tolerance = λ f s. let u = matching.tolerance-one f s in record { asks-nothing = tt; one = u; is = u .meets };
+      olen-matches = λ o s. answered tt (gates.olen-matches-one o s) (λ m. m) refl;
+      mss-matches = λ o s. answered tt (gates.mss-matches-one o s) (λ m. m) refl;
+      wscale-matches = λ o s. answered tt (gates.wscale-matches-one o s) (λ m. m) refl;
+      quirks-fit = λ o s. answered tt (matching.quirks-fit-one o s) (λ m. m) refl;
+      olayout-matches = λ κs ks bs n es m. answered tt (gates.olayout-matches-one κs ks bs n es m) (λ m. m) refl;
+      entry-good = λ k b. answered tt (gates.entry-good-one k b) (λ m. m) refl;
+      features-of = λ o. answered tt (matching.features-of-one o) (λ m. m) refl;
+      tolerance = λ f s. answered tt (matching.tolerance-one f s) (λ m. m) refl;
     }
 
 of-siglist : Siglist
 of-siglist =
     record {
-      read-header = λ κs l. let u = siglist.read-header-one κs l in record { asks-nothing = tt; one = u; is = u .meets };
-      scalars-well-formed = λ κs r. let u = sigrecord.scalars-well-formed-one κs r in record { asks-nothing = tt; one = u; is = u .meets };
-      check-list = λ κs l. let u = siglist.check-list-one κs l in record { asks-nothing = tt; one = u; is = u .meets };
+      read-header = λ κs l. answered tt (siglist.read-header-one κs l) (λ m. m) refl;
+      ip-version-matches = λ o s. answered tt (sigrecord.ip-version-matches-one o s) (λ m. m) refl;
+      payload-size-matches = λ o s. answered tt (sigrecord.payload-size-matches-one o s) (λ m. m) refl;
+      scalars-well-formed = λ κs r. answered tt (sigrecord.scalars-well-formed-one κs r) (λ m. m) refl;
+      check-list = λ κs l. answered tt (siglist.check-list-one κs l) (λ m. m) refl;
     }
 
 of-held : Held
 of-held =
     record {
-      is-exact = λ f. let u = found.is-exact-one f in record { asks-nothing = tt; one = u; is = u .meets };
-      is-nothing = λ f. let u = found.is-nothing-one f in record { asks-nothing = tt; one = u; is = u .meets };
-      keep-fit = λ held label f. let u = found.keep-fit-one held label f in record { asks-nothing = tt; one = u; is = u .meets };
+      is-exact = λ f. answered tt (found.is-exact-one f) (λ m. m) refl;
+      is-none = λ f. answered tt (found.is-none-one f) (λ m. m) refl;
+      keep-fit = λ held label f. answered tt (found.keep-fit-one held label f) (λ m. m) refl;
     }
 
 of-search : Search
 of-search =
     record {
-      search-checked = λ κs l o. let u = search.search-checked-one κs l o in record { asks-nothing = tt; one = u; is = u .meets };
-      search = λ κs l o. let u = search.search-one κs l o in record { asks-nothing = tt; one = u; is = u .meets };
+      search-checked = λ κs l o. answered tt (search.search-checked-one κs l o) (λ m. m) refl;
+      search = λ κs l o. answered tt (search.search-one κs l o) (λ m. m) refl;
     }
 
 of-packet-answer : PacketAnswered
 of-packet-answer =
     record {
-      peer-of = λ n. let u = packet-answer.peer-of-one n in record { asks-nothing = tt; one = u; is = u .meets };
-      answer-packet = λ κs p peer l. let u = packet-answer.answer-packet-one κs p peer l in record { asks-nothing = tt; one = u; is = u .meets };
+      peer-of = λ n. answered tt (packet-answer.peer-of-one n) (λ m. m) refl;
+      answer-packet = λ κs p peer l. answered tt (packet-answer.answer-packet-one κs p peer l) (λ m. m) refl;
     }
 
 of-bundle : Bundle
 of-bundle =
     record {
-      check-bundle = λ κs b. let u = bundle.check-bundle-one κs b in record { asks-nothing = tt; one = u; is = u .meets };
-      bundle-refusal = λ c. let u = bundle.bundle-refusal-one c in record { asks-nothing = tt; one = u; is = u .meets };
-      packet-at = λ κs b at. let u = bundle.packet-at-one κs b at in record { asks-nothing = tt; one = u; is = u .meets };
-      answer-at = λ κs b i. let u = bundle.answer-at-one κs b i in record { asks-nothing = tt; one = u; is = u .meets };
+      check-bundle = λ κs b. answered tt (bundle.check-bundle-one κs b) (λ m. m) refl;
+      bundle-refusal = λ c. answered tt (bundle.bundle-refusal-one c) (λ m. m) refl;
+      packet-at = λ κs b at. answered tt (bundle.packet-at-one κs b at) (λ m. m) refl;
     }
+
+-- A progress and a page, as their two equations determine them.
+both : {r r' : Progress} {t t' : List ℕ} → (r ≡ r') × (t ≡ t') → _≡_ {A = Progress × List ℕ} (r, t) (r', t')
+both e = ap₂ (λ (r : Progress) (t : List ℕ). (r, t)) (e .0) (e .1)
 
 of-report : Report
 of-report =
     record {
-      first-page = λ κs b page longer. let u = report.first-page-one κs b page longer in record { asks-nothing = tt; one = u; is = ap₂ (λ (r : Progress) (t : List ℕ). (r, t)) (u .meets .0) (u .meets .1) };
-      next-page = λ κs b page progress. let u = report.next-page-one κs b page progress in record { asks-nothing = tt; one = u; is = ap₂ (λ (r : Progress) (t : List ℕ). (r, t)) (u .meets .0) (u .meets .1) };
+      first-page = λ κs b page longer.
+          let u = report.first-page-one κs b page longer in
+          record { asks-nothing = tt; one = u; is = both (u .meets); writes-the-page = refl };
+      next-page = λ κs b page progress.
+          let u = report.next-page-one κs b page progress in
+          record { asks-nothing = tt; one = u; is = both (u .meets); writes-the-page = refl };
       whole = all-pages;
       first-fits = first-page-within;
       next-fits = next-page-within;
@@ -191,9 +212,9 @@ of-report =
 of-gateway : Gateway
 of-gateway =
     record {
-      check-list = λ κs l. let u = gateway.termread-check-list-one κs l in record { asks-nothing = tt; one = u; is = u .meets };
-      answer-checked = λ κs p peer l. let u = gateway.termread-answer-checked-one κs p peer l in record { asks-nothing = tt; one = u; is = u .meets };
-      answer = λ κs p peer l. let u = gateway.termread-answer-one κs p peer l in record { asks-nothing = tt; one = u; is = u .meets };
+      check-list = λ κs l. answered tt (gateway.termread-check-list-one κs l) (λ m. m) refl;
+      answer-checked = λ κs p peer l. answered tt (gateway.termread-answer-checked-one κs p peer l) (λ m. m) refl;
+      answer = λ κs p peer l. answered tt (gateway.termread-answer-one κs p peer l) (λ m. m) refl;
     }
 
 pub demand1 : Demand1

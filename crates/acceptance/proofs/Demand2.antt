@@ -17,7 +17,7 @@ use Rattle.window_size.proofs.First.{exactly-if, the-first}
 use Rattle.observable.specs.declared.TcpObservation.{TcpObservation}
 use Rattle.observable.specs.Observation.{emptyLayout, emptyObservation}
 use Rattle.one_option.specs.Options.{asked, runsPast, optionsAfter}
-use Rattle.one_option.specs.See.{laterMss, laterScale, trailingNonzero, excessiveScaling, ownTimestampZero, peerTimestampNonzero, shownQuirks, seeOption}
+use Rattle.one_option.specs.See.{laterMss, laterScale, trailingNonzero, excessiveScaling, ownTimestampZero, peerTimestampNonzero, laterQuirks, seeOption}
 use Rattle.syn_options.specs.Walk.{entryByte, putEntry, walkFrom, walkOf}
 use Rattle.ip.specs.declared.Refusal.the-variants as refusal
 use Rattle.ip.specs.Ip.{readIp}
@@ -30,7 +30,7 @@ use Rattle.siglist.specs.declared.ListAnswer.{ListAnswer}
 use Rattle.siglist.specs.declared.ListAnswer.the-variants as list
 use Rattle.sigrecord.specs.Record.{labelOf}
 use Rattle.siglist.specs.List.{recordCount, recordAt, listFits, recordGood, checkList}
-use Rattle.siglist.proofs.Refusals.{does-not-fit, Checked, first-bad-named}
+use Rattle.siglist.proofs.FirstBad.{does-not-fit, Checked, first-bad-named}
 use Rattle.found.specs.declared.Found.the-variants as found
 use Rattle.search.specs.declared.SearchAnswer.the-variants as answer
 use Rattle.found.specs.Keep.{keep}
@@ -61,9 +61,9 @@ multiplier-theorem =
 
 -- ---- the single fit
 
-keep-one : (label : ℕ) (x : SignatureFit) → keep found.Nothing label x ≡ ofOne label x
+keep-one : (label : ℕ) (x : SignatureFit) → keep found.None label x ≡ ofOne label x
 unfolding keep
-keep-one label fit.Nothing = refl
+keep-one label fit.None = refl
 keep-one label fit.Exact = refl
 keep-one label (fit.Fuzzy r) = refl
 
@@ -108,7 +108,7 @@ unfolding searchList checkList listFits emptyObservation emptyLayout be16
 nothing-fits = refl
 
 shut-out : ShutOut
-unfolding emptyObservation walkOf walkFrom optionsAfter asked runsPast putEntry entryByte seeOption laterMss laterScale shownQuirks trailingNonzero excessiveScaling ownTimestampZero peerTimestampNonzero anyNonzero addIf with bitOf placeOf empty fromQuirks be16 be32
+unfolding emptyObservation walkOf walkFrom optionsAfter asked runsPast putEntry entryByte seeOption laterMss laterScale laterQuirks trailingNonzero excessiveScaling ownTimestampZero peerTimestampNonzero anyNonzero addIf with bitOf placeOf empty fromQuirks be16 be32
 shut-out =
     record {
       refuses-all = λ h.

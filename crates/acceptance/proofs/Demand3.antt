@@ -1,9 +1,9 @@
 -- Demand 3: the theorems of the crate alike, and what follows for the search and for what the functions return.
 use mathlib.Core.Path.{_≡_, refl, sym, _∙_, ap, ap₂}
+use mathlib.Core.Bool.{Bool}
 use mathlib.Core.List.{List}
-use Prim.Native.Nat.{ℕ}
+use Prim.Native.Nat.{ℕ, zero, suc}
 use denote.Ref.{RefT, now}
-use lib.ListN.{length}
 use Rattle.tcp.specs.declared.Mss.{Mss}
 use Rattle.flow.specs.declared.Reading.{Reading}
 use Rattle.flow.specs.Reading.{readPacket}
@@ -14,9 +14,12 @@ use Rattle.siglist.specs.declared.ListAnswer.the-variants as list
 use Rattle.siglist.specs.List.{checkList}
 use Rattle.packet_answer.specs.declared.PacketAnswer.{PacketAnswer}
 use Rattle.packet_answer.specs.Packet.{peerOf, answerOf, afterReading}
-use Rattle.bundle.specs.Bundle.{listOf, packetBytes, packetPeer}
-use Rattle.bundle.specs.Answers.{answerAt}
+use Rattle.bundle.specs.declared.BundleCheck.{BundleCheck}
+use Rattle.bundle.specs.declared.BundleCheck.the-variants as check
+use Rattle.bundle.specs.Bundle.{packetCount, packetsOffset, listOf, packetBytes, packetPeer, packetEnd, packetFits, packetsFit, listLies, bundleFits, checkBundle}
+use Rattle.bundle.specs.Answers.{answerAt, packetLies, answersFrom, bundleAnswer}
 use Rattle.report.specs.Text.{lineOf}
+use Rattle.report.specs.Pages.{outputOf, outputOfInput}
 use Rattle.gateway.specs.declared.GatewayAnswer.{GatewayAnswer}
 use Rattle.gateway.specs.declared.GatewayAnswer.the-variants as gateway
 use Rattle.gateway.specs.Code.{packetFields, fieldsOf, codeOf, afterList, gatewayAnswer}
@@ -25,12 +28,15 @@ use Rattle.one_option.specs.Options.{optionsOf}
 use Rattle.alike.specs.Ip.{AlikeIpv4, AlikeIpv6}
 use Rattle.alike.specs.Packets.{Alike}
 use Rattle.alike.proofs.Equivalence.{row-refl, row-sym, row-trans, ipv4-sym, ipv4-trans, ipv6-sym, ipv6-trans, tcp-refl, tcp-sym, tcp-trans, alike-refl, alike-sym, alike-trans}
-use Rattle.alike.proofs.Free.{free-alike, free-byte}
-use Rattle.alike.proofs.FreeTcp.{free-tcp}
+use Rattle.alike.proofs.Exact.{exact, free-byte}
+use Rattle.alike.proofs.TcpExact.{exact-tcp}
+use Rattle.alike.proofs.OptionsDiffer.{exact-options}
+use Rattle.alike.proofs.Walks.{walk-alike, parse-alike}
 use Rattle.alike.proofs.Ip.{ip-alike-v4, ip-alike-v6}
 use Rattle.alike.proofs.Tcp.{tcp-alike}
 use Rattle.alike.proofs.Packets.{read-alike}
-use Rattle.acceptance.specs.Demand3.{TheRelation, Run, SameAnswer, Demand3, GatewaySame}
+use Rattle.acceptance.specs.Demand3.{TheRelation, Run, SameAnswer, AlikeFrom, AlikeBundles, Demand3, GatewaySame}
+use Rattle.acceptance.proofs.Corners.{corners}
 use Rattle.acceptance.proofs.NotFree.{not-free}
 
 -- ---- the relation
@@ -40,11 +46,6 @@ ipv4-refl p = record { sameLength = refl; first = λ i l u. refl; identification
 
 ipv6-refl : (p : List ℕ) → AlikeIpv6 p p
 ipv6-refl p = record { sameLength = refl; first = refl; second = refl; flowLabel = refl; third = λ i l u. refl }
-
-same-length : (p q : List ℕ) → Alike p q → length p ≡ length q
-same-length p q (Alike.same e) = ap length e
-same-length p q (Alike.v4 four a body) = a .sameLength
-same-length p q (Alike.v6 six a body) = a .sameLength
 
 the-relation : TheRelation
 the-relation =
@@ -61,11 +62,12 @@ the-relation =
             symmetric = λ s t a. row-sym a;
             transitive = λ s t u a b. row-trans a b;
           };
-      sameLength = same-length;
-      free = free-alike;
+      exactly = exact;
+      exactly-tcp = exact-tcp;
+      exactly-options = exact-options;
       free-byte = free-byte;
-      free-tcp = free-tcp;
       not-free = not-free;
+      corners = corners;
     }
 
 -- ---- the same answer
@@ -91,6 +93,8 @@ same-answer =
       ip-stage4 = ip-alike-v4;
       ip-stage6 = ip-alike-v6;
       tcp-stage = tcp-alike;
+      option-walks = walk-alike;
+      option-strings = parse-alike;
       reader = read-alike;
       search = search-alike;
       returned = λ p q list peer r s a b alike x y.
@@ -132,9 +136,53 @@ gateway-same =
           x ∙ ap (λ (z : GatewayAnswer). codeOf (fieldsOf z)) (gateway-alike (now p) (now q) peer (now l) a) ∙ sym y;
     }
 
+-- ---- whole bundles
+
+module _ (b c : List ℕ) (a : AlikeBundles b c) where
+  one-fits : (at : ℕ) → packetEnd b at ≡ packetEnd c at → packetFits b at ≡ packetFits c at
+  unfolding packetFits
+  one-fits at end = rw (end, a .sameLength)
+
+  all-fit : (n at : ℕ) → AlikeFrom b c at n → packetsFit b at n ≡ packetsFit c at n
+  unfolding packetsFit
+  all-fit zero at AlikeFrom.done = rw (a .sameLength)
+  all-fit (suc n) at (AlikeFrom.more peer end alike rest) = rw (one-fits at end, all-fit n (packetEnd b at) rest, end)
+
+  lists-lie : listLies b ≡ listLies c
+  unfolding listLies
+  lists-lie = rw (a .sameLength, a .listSize, a .listPlace)
+
+  check-alike : checkBundle b ≡ checkBundle c
+  unfolding checkBundle bundleFits
+  check-alike =
+      rw (all-fit (packetCount b) (packetsOffset b) (a .packets), lists-lie, a .sameLength, a .count, a .offset, a .list)
+
+  answers-alike : (n at : ℕ) → AlikeFrom b c at n → answersFrom b at n ≡ answersFrom c at n
+  unfolding answersFrom packetLies
+  answers-alike zero at AlikeFrom.done = refl
+  answers-alike (suc n) at (AlikeFrom.more peer end alike rest) =
+      rw (lists-lie, one-fits at end, in-bundles b c at at (a .list) peer alike, answers-alike n (packetEnd b at) rest, end)
+
+  same-answers : answersFrom b (packetsOffset b) (packetCount b) ≡ answersFrom c (packetsOffset c) (packetCount c)
+  same-answers =
+      answers-alike (packetCount b) (packetsOffset b) (a .packets)
+      ∙ ap₂ (λ (x y : ℕ). answersFrom c x y) (a .offset) (a .count)
+
+  by-check : (x : BundleCheck) → checkBundle c ≡ x → outputOf b ≡ outputOf c
+  unfolding outputOf bundleAnswer
+  by-check check.Good e = rw (check-alike, e, same-answers, a .count)
+  by-check check.DoesNotFit e = rw (check-alike, e)
+  by-check check.ListDoesNotFit e = rw (check-alike, e)
+  by-check (check.BadRecord i) e = rw (check-alike, e)
+
+output-alike : (b c : List ℕ) (longer : Bool) → AlikeBundles b c → outputOfInput b longer ≡ outputOfInput c longer
+unfolding outputOfInput
+output-alike b c longer a = rw (by-check b c a (checkBundle c) refl)
+
 pub demand3 : Demand3
 demand3 =
     record {
+      free-bytes = λ p q peer l d. answer-alike p q peer l (exact p q .1 d);
       relation = the-relation;
       answer = same-answer;
       bundles =
@@ -142,6 +190,7 @@ demand3 =
             answer = answer-alike;
             line = λ p q peer l a. ap lineOf (answer-alike p q peer l a);
             in-bundles = in-bundles;
+            whole = output-alike;
             not-whole = overlap;
           };
       gateway = gateway-same;

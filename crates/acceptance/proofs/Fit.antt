@@ -75,7 +75,7 @@ module _ (f : Features) (kinds bytes : List ℕ) (s : Signature) (count : ℕ) (
       by-gates
           : (t : Bool)
           → scalarGates f s && layoutMatches (f .count) kinds bytes count entries ≡ t
-          → cond t (toleranceOf f s) fit.Nothing ≡ fit.Exact
+          → cond t (toleranceOf f s) fit.None ≡ fit.Exact
           → FitsExactly f kinds bytes s count entries
       by-gates true gates e =
           record {
@@ -97,7 +97,7 @@ module _ (f : Features) (kinds bytes : List ℕ) (s : Signature) (count : ℕ) (
       by-gates
           : (t : Bool)
           → scalarGates f s && layoutMatches (f .count) kinds bytes count entries ≡ t
-          → cond t (toleranceOf f s) fit.Nothing ≡ fit.Fuzzy r
+          → cond t (toleranceOf f s) fit.None ≡ fit.Fuzzy r
           → FitsFuzzily f kinds bytes s count entries r
       by-gates true gates e =
           record {

@@ -19,7 +19,7 @@ use Rattle.found.specs.declared.Found.{Found}
 use Rattle.found.specs.declared.Found.the-variants as found
 use Rattle.search.specs.declared.SearchAnswer.{SearchAnswer}
 use Rattle.search.specs.declared.SearchAnswer.the-variants as answer
-use Rattle.search.specs.Search.{fitAt, numbersFrom, searchOver, searchAll, afterCheck, searchList}
+use Rattle.search.specs.Search.{fitAt, numbersFrom, searchOver, searchAll, afterListCheck, searchList}
 use Rattle.search.proofs.Order as order
 use Rattle.packet_answer.specs.declared.PacketAnswer.{PacketAnswer}
 use Rattle.packet_answer.specs.declared.PacketAnswer.the-variants as packet
@@ -27,7 +27,8 @@ use Rattle.packet_answer.specs.Packet.{peerOf, answerOf}
 use Rattle.gateway.specs.declared.GatewayAnswer.{GatewayAnswer}
 use Rattle.gateway.specs.declared.GatewayAnswer.the-variants as gateway
 use Rattle.gateway.specs.Code.{foundFields, packetFields, fieldsOf, gatewayAnswer}
-use Rattle.gateway.specs.Decode.{AllBytes, fieldsFrom, answerFrom, PacketFits}
+use Rattle.gateway.specs.Decode.{AllBytes, fieldsFrom, answerFrom}
+use Rattle.gateway.proofs.Room.{PacketFits}
 use Rattle.gateway.proofs.ReadBack as back
 use Rattle.gateway.proofs.Fits.{packet-fits, answers-fit, codes-differ}
 use Rattle.acceptance.specs.Honesty.{fitOfRecord, Outcome, whichOf, outcomeOf, checkedAnswer, checkedCode, Honesty}
@@ -82,7 +83,7 @@ module _ (o : TcpObservation) (l : List ℕ) where
   unfolding searchAll searchOver places
   found-outcome = as-outcome (order.outcome (featuresOf o) (o .olayout .kinds) (o .olayout .bytes) l places)
 
-  after-found : (a : ListAnswer) (x : Found) → afterCheck a o l ≡ answer.Found x → Outcome o l x
+  after-found : (a : ListAnswer) (x : Found) → afterListCheck a o l ≡ answer.Found x → Outcome o l x
   after-found list.Good x e = let same : searchAll o l ≡ x = cc in rw (← same) found-outcome
   after-found list.DoesNotFit x e = let z : _≡_ {A = ℕ} 0 1 = cc in absurd (omega arith)
   after-found (list.BadRecord i) x e = let z : _≡_ {A = ℕ} 0 1 = cc in absurd (omega arith)
@@ -93,7 +94,7 @@ module _ (o : TcpObservation) (l : List ℕ) where
     where
       by-count
           : (t : Bool)
-          → cond {A = SearchAnswer} t answer.LayoutTooLong (afterCheck (checkList l) o l) ≡ answer.Found x
+          → cond {A = SearchAnswer} t answer.LayoutTooLong (afterListCheck (checkList l) o l) ≡ answer.Found x
           → Outcome o l x
       by-count true e = let z : _≡_ {A = ℕ} 0 1 = cc in absurd (omega arith)
       by-count false e = after-found (checkList l) x e
@@ -125,7 +126,7 @@ module _ (p : List ℕ) (peer : Mss) (l : List ℕ) where
 -- The outcome among a search's fields is which of the three it is.
 found-outcome-of : (kind : ℕ) (f : Found) → foundFields kind f .outcome ≡ whichOf f
 unfolding foundFields
-found-outcome-of kind found.Nothing = refl
+found-outcome-of kind found.None = refl
 found-outcome-of kind (found.Exact label) = refl
 found-outcome-of kind (found.Fuzzy label reason) = refl
 

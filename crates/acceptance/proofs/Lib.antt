@@ -1,6 +1,7 @@
 pub mod Acceptance
 pub mod BadRecord
 pub mod BundleRefusals
+pub mod Corners
 pub mod Demand1
 pub mod Demand2
 pub mod Demand3
@@ -8,10 +9,16 @@ pub mod Fails
 pub mod First
 pub mod Fit
 pub mod Honesty
+pub mod Lines
 pub mod NotFree
 pub mod Observation
+pub mod OnPaper
 pub mod Overlap
 pub mod PacketGives
 pub mod PacketRefusals
+pub mod PaperRows
+pub mod PaperStages
+pub mod PaperTold
 pub mod Refusals
+pub mod Unchecked
 pub mod Values

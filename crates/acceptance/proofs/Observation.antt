@@ -25,7 +25,7 @@ use Rattle.ttl.specs.declared.Ttl.the-variants as ttl
 use Rattle.ttl.proofs.Laws.{never-guess}
 use Rattle.observable.specs.Observation.{emptyObservation}
 use Rattle.one_option.specs.Options.{Opt, dataOf, optionsOf}
-use Rattle.one_option.specs.See.{peerTimestampNonzero, shownQuirks as shown, seeOption}
+use Rattle.one_option.specs.See.{peerTimestampNonzero, laterQuirks, seeOption}
 use Rattle.syn_options.specs.declared.Walked.{Walked}
 use Rattle.syn_options.specs.Walk.{putOption, walkFrom, startWalk, walkOf}
 use Rattle.ip.specs.declared.IpFacts.{IpFacts}
@@ -37,7 +37,7 @@ use Rattle.flow.specs.declared.Answer.{Answer}
 use Rattle.flow.specs.declared.Answer.the-variants as answer
 use Rattle.flow.specs.declared.Reading.{Reading}
 use Rattle.flow.specs.Flags.{flagsInvalid, isSynType, isSynAckType}
-use Rattle.flow.specs.Tcp.{headerQuirks, shownQuirks, observationOf, observed, knownPeer, readTcp}
+use Rattle.flow.specs.Tcp.{headerQuirks, quirksOfHeaders, observationOf, observationFrom, knownPeer, readTcp}
 use Rattle.flow.specs.Reading.{tcpPart, afterIp, readPacket}
 use Rattle.flow.proofs.Observed.{sound}
 use Rattle.flow.proofs.Peer.{peer-only-synack}
@@ -76,8 +76,8 @@ not-added : (t : Bool) (q : Quirk) (s : QuirkSet) → t ≡ false → Lacks s �
 unfolding addIf
 not-added t q s off lacks = rw off lacks
 
-option-lacks : (q : QuirkSet) (o : Opt) → Lacks q → Lacks (shown false q o)
-unfolding shown placeOf
+option-lacks : (q : QuirkSet) (o : Opt) → Lacks q → Lacks (laterQuirks false q o)
+unfolding laterQuirks placeOf
 option-lacks q o lacks =
     not-added _ _ _ (never-shown o) (lacks-add-if _ _ _ refl (lacks-add-if _ _ _ refl (lacks-add-if _ _ _ refl lacks)))
 
@@ -86,8 +86,8 @@ unfolding walkFrom seeOption
 walk-lacks w [] lacks = lacks
 walk-lacks w (o ∷ os) lacks = walk-lacks (putOption false w o) os (option-lacks (w .seen .quirks) o lacks)
 
-header-lacks : (t : List ℕ) (q : QuirkSet) → Lacks q → Lacks (shownQuirks t q)
-unfolding shownQuirks headerQuirks placeOf
+header-lacks : (t : List ℕ) (q : QuirkSet) → Lacks q → Lacks (quirksOfHeaders t q)
+unfolding quirksOfHeaders headerQuirks placeOf
 header-lacks t q lacks =
     lacks-add-if _ _ _ refl
     (lacks-add-if _ _ _ refl
@@ -120,8 +120,8 @@ module _ (peer : Mss) where
       }
 
   shown-syn
-      : (f : IpFacts) (t : List ℕ) → FactsFit f → Shown peer (record { answer = answer.Syn; observation = observed f t true mss.Absent })
-  unfolding observed observationOf
+      : (f : IpFacts) (t : List ℕ) → FactsFit f → Shown peer (record { answer = answer.Syn; observation = observationFrom f t true mss.Absent })
+  unfolding observationFrom observationOf
   shown-syn f t fits =
       record {
         guess = fits .guess;
@@ -133,8 +133,8 @@ module _ (peer : Mss) where
   shown-syn-ack
       : (f : IpFacts) (t : List ℕ)
       → FactsFit f
-      → Shown peer (record { answer = answer.SynAck; observation = observed f t false (knownPeer peer) })
-  unfolding observed observationOf walkOf
+      → Shown peer (record { answer = answer.SynAck; observation = observationFrom f t false (knownPeer peer) })
+  unfolding observationFrom observationOf walkOf
   shown-syn-ack f t fits =
       record {
         guess = fits .guess;
@@ -142,7 +142,7 @@ module _ (peer : Mss) where
             absurd
             (false≢true
             (sym
-            (walk-lacks (startWalk (shownQuirks t (f .quirks))) (optionsOf (take 40 (options t))) (header-lacks t (f .quirks) (fits .lacks)))
+            (walk-lacks (startWalk (quirksOfHeaders t (f .quirks))) (optionsOf (take 40 (options t))) (header-lacks t (f .quirks) (fits .lacks)))
             ∙ e));
         syn = λ e. let z : _≡_ {A = ℕ} 0 1 = cc in absurd (omega arith);
         syn-ack = λ e. refl;

@@ -23,12 +23,11 @@ use Rattle.flow.specs.declared.Answer.the-variants as answer
 use Rattle.flow.specs.declared.Reading.{Reading}
 use Rattle.flow.specs.Flags.{maskedType, flagsInvalid, isSynType, isSynAckType}
 use Rattle.flow.specs.Tcp.{readTcp}
-use Rattle.flow.specs.Reading.{tcpPart, afterIp, readPacket}
-use Rattle.flow.specs.Refusals.{refusalOf}
+use Rattle.flow.specs.Reading.{tcpPart, afterIp, readPacket, refusalOf}
 use Rattle.acceptance.specs.Refusals.{part4, part6, FlagsByte, Refused, Gives, Answered}
 
 -- What the IP stage gives: a refusal under 7, or facts whose TCP part is the packet's.
-data IpGives (p : List ℕ) : IpRead → Type 0 where
+pub data IpGives (p : List ℕ) : IpRead → Type 0 where
   refused : {r : Refusal} → number r < 7 → IpGives p (ip.Refused r)
   facts : {f : IpFacts} → FlagsByte p (tcp.control (tcpPart f p)) → IpGives p (ip.Facts f)
 
@@ -58,7 +57,7 @@ module _ (p : List ℕ) where
       either (ltb (length (part6 p)) 20) (λ e. under-7 refusal.TcpTooShort (omega arith)) (λ e.
       facts {f = ipv6Facts p (v6.payloadEnd p)} (FlagsByte.of6 six))))
 
-  ip-gives : IpGives p (readIp p)
+  pub ip-gives : IpGives p (readIp p)
   unfolding readIp number
   ip-gives =
       either (eqb (length p) 0) (λ e. under-7 refusal.Version (omega arith)) (λ e.

@@ -14,9 +14,8 @@ use Rattle.rfc.specs.Rfc8200 as v6
 use Rattle.rfc.specs.Rfc9293 as tcp
 use Rattle.tcp.specs.declared.Mss.{Mss}
 use Rattle.flow.specs.Flags.{maskedType, flagsInvalid}
-use Rattle.flow.specs.Reading.{readPacket}
-use Rattle.flow.specs.Refusals.{rows, firstRow, refusalOf}
-use Rattle.flow.proofs.Refusals.{by-first-row}
+use Rattle.flow.specs.Reading.{readPacket, refusalOf}
+use Rattle.flow.proofs.FirstRow.{rows, firstRow, by-first-row}
 use Rattle.acceptance.specs.Refusals.{First, FlagsInvalid, PacketRow, packetOrder, part4, part6}
 use Rattle.acceptance.proofs.First.{by-test, exactly}
 

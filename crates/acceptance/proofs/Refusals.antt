@@ -17,11 +17,11 @@ use Rattle.syn_options.proofs.Entries.{refused-over-forty}
 use Rattle.siglist.specs.declared.ListAnswer.{ListAnswer}
 use Rattle.siglist.specs.declared.ListAnswer.the-variants as listAnswer
 use Rattle.siglist.specs.List.{recordCount, recordsOffset, layoutCount, layoutOffset, listFits, checkList, listRefusal}
-use Rattle.siglist.proofs.Refusals.{does-not-fit, Checked, first-bad-named}
+use Rattle.siglist.proofs.FirstBad.{does-not-fit, Checked, first-bad-named}
 use Rattle.search.specs.declared.SearchAnswer.{SearchAnswer}
 use Rattle.search.specs.declared.SearchAnswer.the-variants as searchAnswer
-use Rattle.search.specs.Search.{afterCheck, searchList, searchRefusal}
-use Rattle.search.proofs.Refusals.{search-order}
+use Rattle.search.specs.Search.{afterListCheck, searchList, searchRefusal}
+use Rattle.search.proofs.SearchOrder.{search-order}
 use Rattle.acceptance.specs.Refusals.{First, OptionsRow, FirstBad, ListRow, SearchRow, Refusals}
 use Rattle.bundle.specs.Bundle.{listOf}
 use Rattle.acceptance.proofs.BadRecord.{bad-of, good-not-bad, record-bad}
@@ -144,7 +144,7 @@ module _ (o : TcpObservation) (l : List ℕ) where
       (by-test (ltb 40 (o .olayout .count)) (λ e. SearchRow.layout-over-40 (ltb-true 40 (o .olayout .count) e)) few (λ e.
       as-list (list-row l)))
 
-  after-bad : (a : ListAnswer) (i : ℕ) → afterCheck a o l ≡ searchAnswer.BadRecord i → a ≡ listAnswer.BadRecord i
+  after-bad : (a : ListAnswer) (i : ℕ) → afterListCheck a o l ≡ searchAnswer.BadRecord i → a ≡ listAnswer.BadRecord i
   after-bad listAnswer.Good i e = let z : _≡_ {A = ℕ} 0 1 = cc in absurd (omega arith)
   after-bad listAnswer.DoesNotFit i e = let z : _≡_ {A = ℕ} 0 1 = cc in absurd (omega arith)
   after-bad (listAnswer.BadRecord k) i e = let same : k ≡ i = cc in ap listAnswer.BadRecord same
@@ -155,7 +155,7 @@ module _ (o : TcpObservation) (l : List ℕ) where
     where
       by-count
           : (t : Bool)
-          → cond {A = SearchAnswer} t searchAnswer.LayoutTooLong (afterCheck (checkList l) o l) ≡ searchAnswer.BadRecord i
+          → cond {A = SearchAnswer} t searchAnswer.LayoutTooLong (afterListCheck (checkList l) o l) ≡ searchAnswer.BadRecord i
           → FirstBad l i
       by-count true e = let z : _≡_ {A = ℕ} 0 1 = cc in absurd (omega arith)
       by-count false e = list-gives l i (after-bad (checkList l) i e)

@@ -11,15 +11,14 @@ use Rattle.window_size.specs.Multiplier.{firstMultiple, multiplierOf}
 use Rattle.ip_options.specs.IpOptions.{ipv4OptionLength}
 use Rattle.observable.specs.Observation.{holdsKind, ownTimestampNonzero, windowMultiplier}
 use Rattle.one_option.specs.Options.{asked, runsPast, optionsAfter}
-use Rattle.one_option.specs.See.{laterMss, laterScale, trailingNonzero, excessiveScaling, ownTimestampZero, peerTimestampNonzero, shownQuirks, seeOption}
+use Rattle.one_option.specs.See.{laterMss, laterScale, trailingNonzero, excessiveScaling, ownTimestampZero, peerTimestampNonzero, laterQuirks, seeOption}
 use Rattle.syn_options.specs.Walk.{entryByte, putEntry, walkFrom, walkOf, parseOptionsRaw}
 use Rattle.ip.specs.Ip.{ipv4Quirks, ipv4Facts, readIpv4, readIp}
 use Rattle.ip.specs.Numbers.{number}
 use Rattle.flow.specs.Flags.{maskedType, flagsInvalid, isSynType}
-use Rattle.flow.specs.Tcp.{headerQuirks, shownQuirks as showing, payloadClass, observationOf, observed, readTcp}
-use Rattle.flow.specs.Reading.{readPacket}
-use Rattle.flow.specs.Refusals.{refusalOf}
-use Rattle.distances.specs.Gates.{versionMatches, windowMatches, payloadMatches}
+use Rattle.flow.specs.Tcp.{headerQuirks, quirksOfHeaders, payloadClass, observationOf, observationFrom, readTcp}
+use Rattle.flow.specs.Reading.{readPacket, refusalOf}
+use Rattle.distances.specs.DistanceGates.{versionMatches, windowMatches, payloadMatches}
 use Rattle.distances.specs.Distances.{ttlFit}
 use Rattle.gates.specs.Gates.{olenMatches, mssMatches, scaleMatches, entriesMatch, layoutMatches, entryGood, entriesGood}
 use Rattle.matching.specs.Tolerance.{maskedQuirks, quirksFit, judgeInRange, judge}
@@ -33,7 +32,11 @@ use Rattle.bundle.specs.Bundle.{packetEnd, packetFits, packetsFit, listLies, bu
 use Rattle.bundle.specs.Answers.{answerAt, packetLies, answersFrom, bundleAnswer}
 use Rattle.report.specs.Text.{width, decimal, foundText, answerText, lineOf, headLine, refusedLine}
 use Rattle.report.specs.Pages.{linesOf, outputOf}
-use Rattle.acceptance.specs.Values.{TtlValues, WindowValues, OptionValues, PacketValues, FitValues, ThreeAnswers, WholeExample, Values}
+use Rattle.acceptance.specs.Values.{QuirkValues, TtlValues, WindowValues, OptionValues, PacketValues, FitValues, ThreeAnswers, WholeExample, Values}
+
+quirk-values : QuirkValues
+unfolding seventeen fromQuirks displayOrder with bitOf placeOf
+quirk-values = record { seventeen-quirks = refl; union = refl }
 
 ttl-values : TtlValues
 unfolding readingOf guessOf initialOf
@@ -63,7 +66,7 @@ window-values =
     }
 
 option-values : OptionValues
-unfolding walkOf parseOptionsRaw walkFrom optionsAfter asked runsPast putEntry entryByte seeOption laterMss laterScale shownQuirks trailingNonzero excessiveScaling ownTimestampZero peerTimestampNonzero anyNonzero addIf with bitOf placeOf contains holds digit empty fromQuirks be16 be32
+unfolding walkOf parseOptionsRaw walkFrom optionsAfter asked runsPast putEntry entryByte seeOption laterMss laterScale laterQuirks trailingNonzero excessiveScaling ownTimestampZero peerTimestampNonzero anyNonzero addIf with bitOf placeOf contains holds digit empty fromQuirks be16 be32
 option-values =
     record {
       scale-15 = refl;
@@ -81,7 +84,7 @@ option-values =
     }
 
 packet-values : PacketValues
-unfolding readPacket readIp readIpv4 ipv4Facts ipv4Quirks ipv4OptionLength readingOf guessOf initialOf readTcp flagsInvalid maskedType isSynType observed observationOf showing headerQuirks payloadClass walkOf walkFrom optionsAfter asked runsPast putEntry entryByte seeOption laterMss laterScale shownQuirks trailingNonzero excessiveScaling ownTimestampZero peerTimestampNonzero anyNonzero addIf with bitOf placeOf empty fromQuirks be16 be32 refusalOf number
+unfolding readPacket readIp readIpv4 ipv4Facts ipv4Quirks ipv4OptionLength readingOf guessOf initialOf readTcp flagsInvalid maskedType isSynType observationFrom observationOf quirksOfHeaders headerQuirks payloadClass walkOf walkFrom optionsAfter asked runsPast putEntry entryByte seeOption laterMss laterScale laterQuirks trailingNonzero excessiveScaling ownTimestampZero peerTimestampNonzero anyNonzero addIf with bitOf placeOf empty fromQuirks be16 be32 refusalOf number
 packet-values = record { packet-A = refl; packet-C = refl }
 
 fit-values : FitValues
@@ -99,16 +102,17 @@ fit-values =
     }
 
 three-answers : ThreeAnswers
-unfolding readPacket readIp readIpv4 ipv4Facts ipv4Quirks ipv4OptionLength readingOf guessOf initialOf readTcp flagsInvalid maskedType isSynType observed observationOf showing headerQuirks payloadClass walkOf walkFrom optionsAfter asked runsPast putEntry entryByte seeOption laterMss laterScale shownQuirks trailingNonzero excessiveScaling ownTimestampZero peerTimestampNonzero anyNonzero addIf with bitOf placeOf empty fromQuirks be16 be32 checkList listFits recordsFrom recordGood layoutLies scalarsGood versionGood ttlGood presenceGood windowGood payloadGood quirksGood entryGood entriesGood allBelow isEmpty difference seventeen displayOrder searchList searchAll searchOver searchFrom numbersFrom keep fitAt featuresOf windowMultiplier ownTimestampNonzero holdsKind contains holds digit multiplierOf firstMultiple twelve divides signatureOf versionOf ttlOf mssOf scaleOf windowOf payloadOf fitOf scalarGates versionMatches olenMatches mssMatches windowMatches scaleMatches payloadMatches layoutMatches entriesMatch toleranceOf ttlFit quirksFit maskedQuirks maskWhenObsV4 maskWhenObsV6 fuzzyDeletable fuzzyAddable judge judgeInRange
+unfolding readPacket readIp readIpv4 ipv4Facts ipv4Quirks ipv4OptionLength readingOf guessOf initialOf readTcp flagsInvalid maskedType isSynType observationFrom observationOf quirksOfHeaders headerQuirks payloadClass walkOf walkFrom optionsAfter asked runsPast putEntry entryByte seeOption laterMss laterScale laterQuirks trailingNonzero excessiveScaling ownTimestampZero peerTimestampNonzero anyNonzero addIf with bitOf placeOf empty fromQuirks be16 be32 checkList listFits recordsFrom recordGood layoutLies scalarsGood versionGood ttlGood presenceGood windowGood payloadGood quirksGood entryGood entriesGood allBelow isEmpty difference seventeen displayOrder searchList searchAll searchOver searchFrom numbersFrom keep fitAt featuresOf windowMultiplier ownTimestampNonzero holdsKind contains holds digit multiplierOf firstMultiple twelve divides signatureOf versionOf ttlOf mssOf scaleOf windowOf payloadOf fitOf scalarGates versionMatches olenMatches mssMatches windowMatches scaleMatches payloadMatches layoutMatches entriesMatch toleranceOf ttlFit quirksFit maskedQuirks maskWhenObsV4 maskWhenObsV6 fuzzyDeletable fuzzyAddable judge judgeInRange
 three-answers = record { list-good = refl; exact = refl; fuzzy = refl; none = refl }
 
 whole-example : WholeExample
-unfolding readPacket readIp readIpv4 ipv4Facts ipv4Quirks ipv4OptionLength readingOf guessOf initialOf readTcp flagsInvalid maskedType isSynType observed observationOf showing headerQuirks payloadClass walkOf walkFrom optionsAfter asked runsPast putEntry entryByte seeOption laterMss laterScale shownQuirks trailingNonzero excessiveScaling ownTimestampZero peerTimestampNonzero anyNonzero addIf with bitOf placeOf empty fromQuirks be16 be32 checkList listFits recordsFrom recordGood layoutLies scalarsGood versionGood ttlGood presenceGood windowGood payloadGood quirksGood entryGood entriesGood allBelow isEmpty difference seventeen displayOrder searchList searchAll searchOver searchFrom numbersFrom keep fitAt featuresOf windowMultiplier ownTimestampNonzero holdsKind contains holds digit multiplierOf firstMultiple twelve divides signatureOf versionOf ttlOf mssOf scaleOf windowOf payloadOf fitOf scalarGates versionMatches olenMatches mssMatches windowMatches scaleMatches payloadMatches layoutMatches entriesMatch toleranceOf ttlFit quirksFit maskedQuirks maskWhenObsV4 maskWhenObsV6 fuzzyDeletable fuzzyAddable judge judgeInRange outputOf bundleAnswer checkBundle bundleFits packetsFit packetFits packetEnd peerOf answersFrom packetLies listLies answerAt answerOf linesOf lineOf answerText foundText headLine refusedLine decimal width number
+unfolding readPacket readIp readIpv4 ipv4Facts ipv4Quirks ipv4OptionLength readingOf guessOf initialOf readTcp flagsInvalid maskedType isSynType observationFrom observationOf quirksOfHeaders headerQuirks payloadClass walkOf walkFrom optionsAfter asked runsPast putEntry entryByte seeOption laterMss laterScale laterQuirks trailingNonzero excessiveScaling ownTimestampZero peerTimestampNonzero anyNonzero addIf with bitOf placeOf empty fromQuirks be16 be32 checkList listFits recordsFrom recordGood layoutLies scalarsGood versionGood ttlGood presenceGood windowGood payloadGood quirksGood entryGood entriesGood allBelow isEmpty difference seventeen displayOrder searchList searchAll searchOver searchFrom numbersFrom keep fitAt featuresOf windowMultiplier ownTimestampNonzero holdsKind contains holds digit multiplierOf firstMultiple twelve divides signatureOf versionOf ttlOf mssOf scaleOf windowOf payloadOf fitOf scalarGates versionMatches olenMatches mssMatches windowMatches scaleMatches payloadMatches layoutMatches entriesMatch toleranceOf ttlFit quirksFit maskedQuirks maskWhenObsV4 maskWhenObsV6 fuzzyDeletable fuzzyAddable judge judgeInRange outputOf bundleAnswer checkBundle bundleFits packetsFit packetFits packetEnd peerOf answersFrom packetLies listLies answerAt answerOf linesOf lineOf answerText foundText headLine refusedLine decimal width number
 whole-example = record { lines = refl }
 
 pub values : Values
 values =
     record {
+      quirks = quirk-values;
       ttl = ttl-values;
       window = window-values;
       options = option-values;

@@ -4,14 +4,21 @@ use Rattle.acceptance.specs.Demand1.{Demand1}
 use Rattle.acceptance.specs.Demand2.{Demand2}
 use Rattle.acceptance.specs.Demand3.{Demand3}
 use Rattle.acceptance.specs.Honesty.{Honesty}
+use Rattle.acceptance.specs.Lines.{Lines}
+use Rattle.acceptance.specs.OnPaper.{OnPaper}
 use Rattle.acceptance.specs.Refusals.{Refusals}
+use Rattle.acceptance.specs.Unchecked.{Unchecked}
 
 pub record Acceptance : Type 0 where
   -- B: "Exact, fuzzy and none stay three answers."
   pub honesty : Honesty
+  pub lines : Lines
   -- C1: every input gets exactly one answer; "Bad input is refused by the number and in the order of document 01".
   pub demand1 : Demand1
   pub refusals : Refusals
+  pub onPaper : OnPaper
+  -- and where a function does not refuse, what binds it to the one that does
+  pub unchecked : Unchecked
   -- C2: the definitions' values, the multiplier, the single fit.
   pub demand2 : Demand2
   -- C3: packets that differ only in free bytes get the same answer.

@@ -96,7 +96,7 @@ pub record TheObservation (p : List ℕ) (peer : Mss) : Type 0 where
 
 -- What a search finds in one record, by its label and its fit.
 abbrev pub ofOne : ℕ → SignatureFit → Found
-ofOne label fit.Nothing = found.Nothing
+ofOne label fit.None = found.None
 ofOne label fit.Exact = found.Exact label
 ofOne label (fit.Fuzzy reason) = found.Fuzzy label reason
 
@@ -119,7 +119,7 @@ pub record ShutOut : Type 0 where
   -- "a reader that refuses all (packet A)"
   pub refuses-all : ((p : List ℕ) → (r : Refusal) × (readPacket p mss.Absent .answer ≡ packet.Refused r)) → ⊥
   -- "one that says none always (A is exact)"
-  pub none-always : ((p : List ℕ) → searchList (readPacket p mss.Absent .observation) exampleList ≡ answer.Found found.Nothing) → ⊥
+  pub none-always : ((p : List ℕ) → searchList (readPacket p mss.Absent .observation) exampleList ≡ answer.Found found.None) → ⊥
   -- "one that hands back an empty observation untouched"
   pub untouched : ((p : List ℕ) → readPacket p mss.Absent .observation ≡ emptyObservation) → ⊥
   -- "a walk that reads the first option truly and the rest for show (a second MSS would not replace the first)"

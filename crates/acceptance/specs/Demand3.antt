@@ -1,16 +1,20 @@
 -- Demand 3: "Let two packets of equal length differ only in the free bytes that document 01 lists .. With the same peer MSS and the
--- same signature list, both get the same answer, refusals included." Which packets are alike is written in the crate `alike`:
--- specs/Ip.antt, Tcp.antt and Options.antt, layer by layer and field by field, Packets.antt, and Free.antt, the free bytes by their
--- places. "Demand 3 alone admits a constant, so it is stated over demand 2's definitions": `readPacket` and `searchList`, of which
--- Demand2.antt says that they are none. `Demand3` is the statement.
+-- same signature list, both get the same answer, refusals included." Which bytes are free is written in the crate `alike`, in
+-- specs/Free.antt, item by item and by their places; by `TheRelation.exactly` no more need be read of the relation. It stands field by
+-- field and layer by layer in specs/Packets.antt, Ip.antt, Tcp.antt and Options.antt. "Demand 3 alone admits a constant, so it is stated
+-- over demand 2's definitions": `readPacket` and `searchList`, of which Demand2.antt says that they are none. `Demand3` is the statement.
 use mathlib.Core.Path.{_≡_}
+use mathlib.Core.Bool.{Bool}
 use mathlib.Core.List.{List}
-use Prim.Native.Nat.{ℕ, _<_, _≤_}
+use mathlib.Core.Logic.{_↔_}
+use Prim.Native.Nat.{ℕ, suc, _<_, _≤_}
 use contract.Lifetimes.{Lfts}
 use denote.Ref.{RefT, now}
 use lib.ListN.{length, set}
 use Rattle.rfc.specs.Rfc791.{version}
 use Rattle.tcp.specs.declared.Mss.{Mss}
+use Rattle.quirks.specs.declared.QuirkSet.{QuirkSet}
+use Rattle.syn_options.specs.Walk.{walkOf, parseOptionsRaw}
 use Rattle.ip.specs.declared.IpFacts.{IpFacts}
 use Rattle.ip.specs.Ip.{readIp}
 use Rattle.flow.specs.declared.Reading.{Reading}
@@ -20,17 +24,19 @@ use Rattle.flow.proofs.read_packet.Reads as read-packet'
 use Rattle.search.specs.declared.SearchAnswer.{SearchAnswer}
 use Rattle.search.specs.Search.{searchList}
 use Rattle.search.proofs.search.Reads as search'
-use Rattle.bundle.specs.Bundle.{listOf, packetBytes, packetPeer}
+use Rattle.bundle.specs.Bundle.{packetCount, packetsOffset, listLength, listOffset, listOf, packetBytes, packetPeer, packetEnd}
 use Rattle.packet_answer.specs.Packet.{answerOf}
 use Rattle.bundle.specs.Answers.{answerAt}
 use Rattle.report.specs.Text.{lineOf}
+use Rattle.report.specs.Pages.{outputOfInput}
 use Rattle.gateway.proofs.termread_answer_checked.Reads as answer-checked'
 use Rattle.gateway.proofs.termread_answer.Reads as answer'
 use Rattle.alike.specs.Options.{AlikeOptions}
 use Rattle.alike.specs.Ip.{AlikeIpv4, AlikeIpv6}
 use Rattle.alike.specs.Tcp.{AlikeTcp}
 use Rattle.alike.specs.Packets.{Alike}
-use Rattle.alike.specs.Free.{Only, Free, FreeTcp}
+use Rattle.alike.specs.Free.{DifferOnly, Free, FreeTcp, FreeStamp}
+use Rattle.acceptance.specs.Corners.{Corners}
 use Rattle.acceptance.specs.NotFree.{NotFree}
 use Rattle.acceptance.specs.Overlap.{Overlap}
 
@@ -48,15 +54,17 @@ pub record TheRelation : Type 0 where
   pub ipv6 : Equivalence AlikeIpv6
   pub tcp : Equivalence AlikeTcp
   pub options : Equivalence AlikeOptions
-  -- "two packets of equal length"
-  pub sameLength : (p q : List ℕ) → Alike p q → length p ≡ length q
-  -- Not narrower: a change of one free item, or of one byte of it, gives an alike packet.
-  pub free : (p q : List ℕ) {from to : ℕ} → Free p q from to → Only from to p q → Alike p q
+  -- Exactly the list: two packets are alike if and only if they have one length and every place where they differ lies in a free item.
+  pub exactly : (p q : List ℕ) → Alike p q ↔ DifferOnly (Free p q) p q
+  pub exactly-tcp : (t u : List ℕ) → AlikeTcp t u ↔ DifferOnly (FreeTcp t u) t u
+  pub exactly-options : (s t : List ℕ) → AlikeOptions s t ↔ DifferOnly (FreeStamp s t) s t
+  -- so one byte of a free item may be changed
   pub free-byte
       : (p : List ℕ) (i v : ℕ) {from to : ℕ} → Free p (set p i v) from to → from ≤ i → i < to → Alike p (set p i v)
-  pub free-tcp : (t u : List ℕ) {from to : ℕ} → FreeTcp t u from to → Only from to t u → AlikeTcp t u
-  -- Not wider: what is not free changes the answer.
+  -- Of what is not free, examples that change the answer.
   pub not-free : NotFree
+  -- Of what is free, corners.
+  pub corners : Corners
 
 -- ---- alike packets get the same answer
 
@@ -72,6 +80,10 @@ pub record SameAnswer : Type 0 where
   pub ip-stage6 : (p q : List ℕ) → AlikeIpv6 p q → version p ≡ 6 → readIp p ≡ readIp q
   -- the TCP stage, refusal 7 included, after any facts of an IP header
   pub tcp-stage : (f : IpFacts) (t u : List ℕ) (peer : Mss) → AlikeTcp t u → readTcp f t peer ≡ readTcp f u peer
+  -- an option string by itself, by either walk, and parsed, refusal 8 included
+  pub option-walks
+      : (s t : List ℕ) → AlikeOptions s t → (stop syn : Bool) (quirks : QuirkSet) → walkOf stop syn quirks s ≡ walkOf stop syn quirks t
+  pub option-strings : (s t : List ℕ) → AlikeOptions s t → parseOptionsRaw s ≡ parseOptionsRaw t
   -- the packet reader
   pub reader : (p q : List ℕ) (peer : Mss) → Alike p q → readPacket p peer ≡ readPacket q peer
   -- the search, with its reason and its refusals
@@ -102,6 +114,27 @@ pub record GatewaySame : Type 0 where
       → answer'.Post κs (q, (peer, (list, tt))) s (q, (peer, (list, tt)))
       → r ≡ s
 
+-- So many packets of two bundles, from a place on: the same peer and the same end, hence length, and alike, one by one.
+pub data AlikeFrom (b c : List ℕ) : ℕ → ℕ → Type 0 where
+  done : {at : ℕ} → AlikeFrom b c at 0
+  more
+      : {at n : ℕ}
+      → packetPeer b at ≡ packetPeer c at
+      → packetEnd b at ≡ packetEnd c at
+      → Alike (packetBytes b at) (packetBytes c at)
+      → AlikeFrom b c (packetEnd b at) n
+      → AlikeFrom b c at (suc n)
+
+-- Two bundles of one length, with the same numbers in the header and the same list, whose packets are alike one by one.
+pub record AlikeBundles (b c : List ℕ) : Type 0 where
+  pub sameLength : length b ≡ length c
+  pub count : packetCount b ≡ packetCount c
+  pub offset : packetsOffset b ≡ packetsOffset c
+  pub listSize : listLength b ≡ listLength c
+  pub listPlace : listOffset b ≡ listOffset c
+  pub list : listOf b ≡ listOf c
+  pub packets : AlikeFrom b c (packetsOffset b) (packetCount b)
+
 -- Bundles, packet by packet: with the same list and the same peer's MSS, packets that are alike have the same answer and the same line.
 pub record BundleSame : Type 0 where
   pub answer
@@ -114,10 +147,15 @@ pub record BundleSame : Type 0 where
       → packetPeer b at ≡ packetPeer c to
       → Alike (packetBytes b at) (packetBytes c to)
       → answerAt b at ≡ answerAt c to
+  -- the whole output, byte by byte, refusals 12, 9 and 10 included; `longer`: the input goes on past the buffer
+  pub whole : (b c : List ℕ) (longer : Bool) → AlikeBundles b c → outputOfInput b longer ≡ outputOfInput c longer
   -- Two bundles that differ in a free byte of a packet need not agree: that byte may be the list's.
   pub not-whole : Overlap
 
 pub record Demand3 : Type 0 where
+  -- the sentence itself: the answer is that of `answerOf`, a refusal or an observation and what the search finds for it
+  pub free-bytes
+      : (p q : List ℕ) (peer : Mss) (l : List ℕ) → DifferOnly (Free p q) p q → answerOf p peer l ≡ answerOf q peer l
   pub relation : TheRelation
   pub answer : SameAnswer
   pub bundles : BundleSame

@@ -82,7 +82,7 @@ pub record FitsFuzzily (f : Features) (kinds bytes : List ℕ) (s : Signature) (
     pub tolerated
         : ToleratedWith (ttlFit (f .ttl) (s .ittl)) (quirksFit (f .quirks) (maskedQuirks (s .quirks) (s .version) (f .version))) reason
 
--- How record i of a list fits an observation; what is not a well-formed record of the list fits nothing.
+-- How record i of a list fits an observation; what is not a well-formed record of the list does not fit.
 abbrev pub fitOfRecord : TcpObservation → List ℕ → ℕ → SignatureFit
 fitOfRecord o l i = fitAt (featuresOf o) (o .olayout .kinds) (o .olayout .bytes) l i
 
@@ -101,16 +101,16 @@ pub data Outcome (o : TcpObservation) (l : List ℕ) : Found → Type 0 where
       : (i : ℕ) (reason : FuzzyReason)
       → i < recordCount l
       → fitOfRecord o l i ≡ fit.Fuzzy reason
-      → ((j : ℕ) → j < i → fitOfRecord o l j ≡ fit.Nothing)
+      → ((j : ℕ) → j < i → fitOfRecord o l j ≡ fit.None)
       → ((j : ℕ) → j < recordCount l → fitOfRecord o l j ≡ fit.Exact → ⊥)
       → Outcome o l (found.Fuzzy (labelAt l i) reason)
-  none : ((i : ℕ) → i < recordCount l → fitOfRecord o l i ≡ fit.Nothing) → Outcome o l found.Nothing
+  none : ((i : ℕ) → i < recordCount l → fitOfRecord o l i ≡ fit.None) → Outcome o l found.None
 
 -- Which of the three a search's answer is: 1 exact, 2 fuzzy, 3 none.
 abbrev pub whichOf : Found → ℕ
 whichOf (found.Exact label) = 1
 whichOf (found.Fuzzy label reason) = 2
-whichOf found.Nothing = 3
+whichOf found.None = 3
 
 -- Of a gateway's answer: one of the three, or 4 (neither SYN nor SYN+ACK), or 5 (refused).
 abbrev pub outcomeOf : GatewayAnswer → ℕ
@@ -164,8 +164,8 @@ pub record Honesty : Type 0 where
       → answerOf p peer l ≡ packet.Refused r
   -- No two of the three answers are one.
   pub exact-not-fuzzy : (a b : ℕ) (r : FuzzyReason) → found.Exact a ≡ found.Fuzzy b r → ⊥
-  pub exact-not-none : (a : ℕ) → found.Exact a ≡ found.Nothing → ⊥
-  pub fuzzy-not-none : (a : ℕ) (r : FuzzyReason) → found.Fuzzy a r ≡ found.Nothing → ⊥
+  pub exact-not-none : (a : ℕ) → found.Exact a ≡ found.None → ⊥
+  pub fuzzy-not-none : (a : ℕ) (r : FuzzyReason) → found.Fuzzy a r ≡ found.None → ⊥
   -- Nothing of an answer is lost in its number: the answer is read back from it.
   pub read-back
       : (p : List ℕ) (peer : ℕ) (l : List ℕ)

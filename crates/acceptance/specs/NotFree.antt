@@ -1,5 +1,5 @@
 -- "All else agrees" (document 01, "Free bytes of demand 3"): for what is not free, packets that differ in one byte and get different
--- answers; so the relation is no wider than the document's. `NotFree` is the statement.
+-- answers; so the list could not take them in. `NotFree` is the statement.
 use mathlib.Core.Path.{_≡_}
 use mathlib.Core.List.{List, [], _∷_}
 use Prim.Native.Nat.{ℕ}

@@ -1,4 +1,4 @@
--- Why demand 3 is said of packets and not of whole bundles: "areas may overlap", so that a free byte of a packet may be the list's.
+-- Why demand 3 asks of two bundles that their lists be the same: "areas may overlap", so that a free byte of a packet may be the list's.
 use mathlib.Core.Path.{_≡_}
 use mathlib.Core.List.{List, [], _∷_}
 use Prim.Native.Nat.{ℕ}

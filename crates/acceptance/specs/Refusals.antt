@@ -23,8 +23,7 @@ use Rattle.ip.specs.Numbers.{number}
 use Rattle.flow.specs.declared.Answer.the-variants as answer
 use Rattle.flow.specs.declared.Reading.{Reading}
 use Rattle.flow.specs.Flags.{maskedType}
-use Rattle.flow.specs.Reading.{readPacket}
-use Rattle.flow.specs.Refusals.{refusalOf}
+use Rattle.flow.specs.Reading.{readPacket, refusalOf}
 use Rattle.siglist.specs.declared.ListAnswer.the-variants as listAnswer
 use Rattle.sigrecord.specs.Record.{firstEntry, entryCount}
 use Rattle.siglist.specs.List.{recordCount, recordsOffset, layoutCount, layoutOffset, recordAt, entriesOf, recordGood, checkList, listRefusal}

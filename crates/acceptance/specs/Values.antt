@@ -1,25 +1,25 @@
--- Document 01, "Values to reproduce": each line marked P, as a case of the definitions. One record a subject; `Values` is the table.
+-- Document 01, "Values to reproduce": each line marked P, as a case of the definitions; and the union of module 1. One record a subject;
+-- `Values` is the table.
 use mathlib.Core.Path.{_≡_}
 use mathlib.Core.Bool.{true, false}
 use mathlib.Core.List.{List, [], _∷_, _++_}
 use Prim.Native.Nat.{ℕ}
-use lib.ListN.{replicate, set}
+use lib.ListN.{length, replicate, set}
 use Rattle.basis.specs.Bytes.{byteAt}
 use Rattle.quirks.specs.declared.Quirk.the-variants as quirk
-use Rattle.quirks.specs.Quirks.{setOf, contains}
-use Rattle.quirks.specs.Named.{empty}
+use Rattle.quirks.specs.Quirks.{setOf, bitsOf, contains}
+use Rattle.quirks.specs.Named.{displayOrder, empty, seventeen}
 use Rattle.tcp.specs.declared.PayloadSize.the-variants as payload
 use Rattle.tcp.specs.declared.Wscale.the-variants as wscale
 use Rattle.syn_options.specs.declared.OptionsAnswer.the-variants as options
 use Rattle.syn_options.specs.Walk.{walkOf, parseOptionsRaw}
 use Rattle.observable.specs.declared.TcpObservation.{TcpObservation}
 use Rattle.flow.specs.declared.Answer.the-variants as answer
-use Rattle.flow.specs.Reading.{readPacket}
-use Rattle.flow.specs.Refusals.{refusalOf}
+use Rattle.flow.specs.Reading.{readPacket, refusalOf}
 use Rattle.matching.specs.declared.Hops.the-variants as hops
 use Rattle.distances.specs.declared.TtlFit.the-variants as ttlfit
 use Rattle.distances.specs.declared.WindowSize.the-variants as wsize
-use Rattle.distances.specs.Gates.{windowMatches}
+use Rattle.distances.specs.DistanceGates.{windowMatches}
 use Rattle.distances.specs.Distances.{initialTtl, ttlFit}
 use Rattle.found.specs.declared.Found.the-variants as found
 use Rattle.siglist.specs.declared.ListAnswer.the-variants as list
@@ -33,6 +33,11 @@ use Rattle.ttl.specs.Ttl.{readingOf}
 use Rattle.window_size.specs.declared.Multiplier.the-variants as multiplier
 use Rattle.window_size.specs.Multiplier.{multiplierOf}
 use Rattle.report.specs.Pages.{outputOf}
+
+-- Module 1: "Seventeen bits as listed there; their union is 0x1F03F03F."
+pub record QuirkValues : Type 0 where
+  pub seventeen-quirks : length displayOrder ≡ 17
+  pub union : bitsOf seventeen ≡ 0x1F03F03F
 
 -- "TTL 0 Bad(0); 1, 33, 65, 97, 224 Value; 2, 34, 98, 225 Distance 30."
 pub record TtlValues : Type 0 where
@@ -139,7 +144,7 @@ pub record ThreeAnswers : Type 0 where
   pub fuzzy
       : searchList (readPacket (set packetA 8 0x1c) mss.Absent .observation) exampleList
       ≡ search.Found (found.Fuzzy 7 (record { hops = hops.OutOfRange 36; added = setOf 0; missing = setOf 0 }))
-  pub none : searchList (readPacket (set packetA 34 0x17) mss.Absent .observation) exampleList ≡ search.Found found.Nothing
+  pub none : searchList (readPacket (set packetA 34 0x17) mss.Absent .observation) exampleList ≡ search.Found found.None
 
 -- "The whole example", as a bundle: its header, the list behind it, then A, B (A with TTL byte 1c) and C, peer absent; and its four lines.
 abbrev pub exampleBundle : List ℕ
@@ -162,6 +167,7 @@ pub record WholeExample : Type 0 where
   pub lines : outputOf exampleBundle ≡ exampleLines
 
 pub record Values : Type 0 where
+  pub quirks : QuirkValues
   pub ttl : TtlValues
   pub window : WindowValues
   pub options : OptionValues

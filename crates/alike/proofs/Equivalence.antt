@@ -8,22 +8,13 @@ use Rattle.basis.specs.Bytes.{byteAt}
 use Rattle.rfc.specs.Rfc791.{version}
 use Rattle.rfc.specs.Rfc9293.{options}
 use Rattle.one_option.specs.Options.{Opt, optionsOf}
-use Rattle.ip.specs.declared.IpRead.{IpRead}
-use Rattle.ip.specs.Ip.{readIp}
-use Rattle.alike.specs.Options.{Agree, AlikeStamps, AlikeOption, AlikeRow}
+use Rattle.alike.specs.Free.{headerEnd4, lengthEnd4, headerEnd6, lengthEnd6}
+use Rattle.alike.specs.Options.{AlikeStamps, AlikeOption, AlikeRow}
 use Rattle.alike.specs.Tcp.{AlikeTcp}
-use Rattle.alike.specs.Ip.{AlikeIpv4, AlikeIpv6, headerEnd4, lengthEnd4, headerEnd6, lengthEnd6}
+use Rattle.alike.specs.Ip.{AlikeIpv4, AlikeIpv6}
 use Rattle.alike.specs.Packets.{AlikeBody, Alike}
-use Rattle.alike.proofs.Places.{part-same}
-use Rattle.alike.proofs.Ip.{byte0, total-length-alike, payload-length-alike, ip-alike-v4, ip-alike-v6}
-
--- ---- places
-
-pub agree-sym : (from to : ℕ) (s t : List ℕ) → Agree from to s t → Agree from to t s
-agree-sym from to s t a i h k = sym (a i h k)
-
-pub agree-trans : (from to : ℕ) (s t u : List ℕ) → Agree from to s t → Agree from to t u → Agree from to s u
-agree-trans from to s t u a b i h k = a i h k ∙ b i h k
+use Rattle.alike.proofs.Places.{part-alike}
+use Rattle.alike.proofs.Ip.{byte0, total-length-alike, payload-length-alike}
 
 -- ---- options
 
@@ -32,7 +23,7 @@ stamps-sym a =
     let size = a .sameLength in
     record {
       sameLength = sym (a .sameLength);
-      lengthByte = sym (a .lengthByte);
+      lengthByte = λ i l u. sym (a .lengthByte i l u);
       ownStamp = λ h. sym (a .ownStamp (omega arith));
       ownCut = λ h i l u. sym (a .ownCut (omega arith) i l u);
       peerStamp = λ h. sym (a .peerStamp (omega arith));
@@ -45,7 +36,7 @@ stamps-trans a b =
     let size = a .sameLength in
     record {
       sameLength = a .sameLength ∙ b .sameLength;
-      lengthByte = a .lengthByte ∙ b .lengthByte;
+      lengthByte = λ i l u. a .lengthByte i l u ∙ b .lengthByte i l u;
       ownStamp = λ h. a .ownStamp h ∙ b .ownStamp (omega arith);
       ownCut = λ h i l u. a .ownCut h i l u ∙ b .ownCut (omega arith) i l u;
       peerStamp = λ h. a .peerStamp h ∙ b .peerStamp (omega arith);
@@ -83,8 +74,8 @@ tcp-refl t =
       sequence = refl;
       acknowledgment = refl;
       dataOffset = refl;
-      control = refl;
-      window = refl;
+      control = λ i l h. refl;
+      window = λ i l h. refl;
       urgentPointer = refl;
       options = row-refl (optionsOf (options t));
     }
@@ -96,8 +87,8 @@ tcp-sym a =
       sequence = sym (a .sequence);
       acknowledgment = sym (a .acknowledgment);
       dataOffset = sym (a .dataOffset);
-      control = sym (a .control);
-      window = sym (a .window);
+      control = λ i l h. sym (a .control i l h);
+      window = λ i l h. sym (a .window i l h);
       urgentPointer = sym (a .urgentPointer);
       options = row-sym (a .options);
     }
@@ -109,8 +100,8 @@ tcp-trans a b =
       sequence = a .sequence ∙ b .sequence;
       acknowledgment = a .acknowledgment ∙ b .acknowledgment;
       dataOffset = a .dataOffset ∙ b .dataOffset;
-      control = a .control ∙ b .control;
-      window = a .window ∙ b .window;
+      control = λ i l h. a .control i l h ∙ b .control i l h;
+      window = λ i l h. a .window i l h ∙ b .window i l h;
       urgentPointer = a .urgentPointer ∙ b .urgentPointer;
       options = row-trans (a .options) (b .options);
     }
@@ -121,18 +112,18 @@ pub ipv4-sym : {p q : List ℕ} → AlikeIpv4 p q → AlikeIpv4 q p
 ipv4-sym {p} {q} a =
     record {
       sameLength = sym (a .sameLength);
-      first = agree-sym 0 4 p q (a .first);
+      first = λ i l u. sym (a .first i l u);
       identification = sym (a .identification);
-      second = agree-sym 6 10 p q (a .second);
+      second = λ i l u. sym (a .second i l u);
     }
 
 pub ipv4-trans : {p q r : List ℕ} → AlikeIpv4 p q → AlikeIpv4 q r → AlikeIpv4 p r
 ipv4-trans {p} {q} {r} a b =
     record {
       sameLength = a .sameLength ∙ b .sameLength;
-      first = agree-trans 0 4 p q r (a .first) (b .first);
+      first = λ i l u. a .first i l u ∙ b .first i l u;
       identification = a .identification ∙ b .identification;
-      second = agree-trans 6 10 p q r (a .second) (b .second);
+      second = λ i l u. a .second i l u ∙ b .second i l u;
     }
 
 pub ipv6-sym : {p q : List ℕ} → AlikeIpv6 p q → AlikeIpv6 q p
@@ -142,7 +133,7 @@ ipv6-sym {p} {q} a =
       first = sym (a .first);
       second = sym (a .second);
       flowLabel = sym (a .flowLabel);
-      third = agree-sym 4 8 p q (a .third);
+      third = λ i l u. sym (a .third i l u);
     }
 
 pub ipv6-trans : {p q r : List ℕ} → AlikeIpv6 p q → AlikeIpv6 q r → AlikeIpv6 p r
@@ -152,47 +143,40 @@ ipv6-trans {p} {q} {r} a b =
       first = a .first ∙ b .first;
       second = a .second ∙ b .second;
       flowLabel = a .flowLabel ∙ b .flowLabel;
-      third = agree-trans 4 8 p q r (a .third) (b .third);
+      third = λ i l u. a .third i l u ∙ b .third i l u;
     }
 
 -- ---- packets
 
-body-sym : (p q : List ℕ) (from to : ℕ) {r : IpRead} → AlikeBody p q from to r → AlikeBody q p from to r
-body-sym p q from to (AlikeBody.no-tcp a) = AlikeBody.no-tcp (agree-sym from to p q a)
-body-sym p q from to (AlikeBody.unread long a) = let size = a .sameLength in AlikeBody.unread (omega arith) (tcp-sym a)
-body-sym p q from to (AlikeBody.tcp a) = AlikeBody.tcp (tcp-sym a)
+body-sym : (p q : List ℕ) (from to : ℕ) → length p ≡ length q → AlikeBody p q from to → AlikeBody q p from to
+body-sym p q from to same (AlikeBody.no-tcp short a) =
+    let size = part-alike from to p q same in
+    AlikeBody.no-tcp (omega arith) (λ i l u. sym (a i l u))
+body-sym p q from to same (AlikeBody.tcp long a) = let size = a .sameLength in AlikeBody.tcp (omega arith) (tcp-sym a)
 
 body-trans
-    : (p q r : List ℕ) (from to : ℕ) {x : IpRead}
+    : (p q r : List ℕ) (from to : ℕ)
     → length p ≡ length q
-    → length q ≡ length r
-    → AlikeBody p q from to x
-    → AlikeBody q r from to x
-    → AlikeBody p r from to x
-body-trans p q r from to s s' (AlikeBody.no-tcp a) (AlikeBody.no-tcp b) = AlikeBody.no-tcp (agree-trans from to p q r a b)
-body-trans p q r from to s s' (AlikeBody.no-tcp a) (AlikeBody.unread long b) =
-    let e = part-same from to p q s a in
-    AlikeBody.unread (rw e long) (rw e b)
-body-trans p q r from to s s' (AlikeBody.unread long a) (AlikeBody.no-tcp b) =
-    AlikeBody.unread long (rw (← part-same from to q r s' b) a)
-body-trans p q r from to s s' (AlikeBody.unread long a) (AlikeBody.unread long' b) = AlikeBody.unread long (tcp-trans a b)
-body-trans p q r from to s s' (AlikeBody.tcp a) (AlikeBody.tcp b) = AlikeBody.tcp (tcp-trans a b)
+    → AlikeBody p q from to
+    → AlikeBody q r from to
+    → AlikeBody p r from to
+body-trans p q r from to same (AlikeBody.no-tcp short a) (AlikeBody.no-tcp short' b) =
+    AlikeBody.no-tcp short (λ i l u. a i l u ∙ b i l u)
+body-trans p q r from to same (AlikeBody.no-tcp short a) (AlikeBody.tcp long b) =
+    let size = part-alike from to p q same in
+    absurd (omega arith)
+body-trans p q r from to same (AlikeBody.tcp long a) (AlikeBody.no-tcp short b) =
+    let size = part-alike from to p q same in
+    absurd (omega arith)
+body-trans p q r from to same (AlikeBody.tcp long a) (AlikeBody.tcp long' b) = AlikeBody.tcp long (tcp-trans a b)
 
--- The body of one packet has the ends and the IP answer of an alike one.
+-- The body of one packet has the ends of an alike one.
 module _ (p q x y : List ℕ) where
-  moved4
-      : version p ≡ 4
-      → AlikeIpv4 p q
-      → AlikeBody x y (headerEnd4 q) (lengthEnd4 q) (readIp q)
-      → AlikeBody x y (headerEnd4 p) (lengthEnd4 p) (readIp p)
-  moved4 four a body = rw (ip-alike-v4 p q a four, byte0 p q a, total-length-alike p q a) body
+  moved4 : AlikeIpv4 p q → AlikeBody x y (headerEnd4 q) (lengthEnd4 q) → AlikeBody x y (headerEnd4 p) (lengthEnd4 p)
+  moved4 a body = rw (byte0 p q a, total-length-alike p q a) body
 
-  moved6
-      : version p ≡ 6
-      → AlikeIpv6 p q
-      → AlikeBody x y (headerEnd6 q) (lengthEnd6 q) (readIp q)
-      → AlikeBody x y (headerEnd6 p) (lengthEnd6 p) (readIp p)
-  moved6 six a body = rw (ip-alike-v6 p q a six, payload-length-alike p q a) body
+  moved6 : AlikeIpv6 p q → AlikeBody x y (headerEnd6 q) (lengthEnd6 q) → AlikeBody x y (headerEnd6 p) (lengthEnd6 p)
+  moved6 a body = rw (payload-length-alike p q a) body
 
 version-alike : (p q : List ℕ) (n : ℕ) → byteAt p 0 ≡ byteAt q 0 → version p ≡ n → version q ≡ n
 version-alike p q n e v = ap (λ (b : ℕ). b / 16) (sym e) ∙ v
@@ -204,22 +188,22 @@ pub alike-sym : (p q : List ℕ) → Alike p q → Alike q p
 alike-sym p q (Alike.same e) = Alike.same (sym e)
 alike-sym p q (Alike.v4 four a body) =
     let four' = version-alike p q 4 (byte0 p q a) four in
-    Alike.v4 four' (ipv4-sym a) (moved4 q p q p four' (ipv4-sym a) (body-sym p q _ _ body))
+    Alike.v4 four' (ipv4-sym a) (moved4 q p q p (ipv4-sym a) (body-sym p q _ _ (a .sameLength) body))
 alike-sym p q (Alike.v6 six a body) =
     let six' = version-alike p q 6 (a .first) six in
-    Alike.v6 six' (ipv6-sym a) (moved6 q p q p six' (ipv6-sym a) (body-sym p q _ _ body))
+    Alike.v6 six' (ipv6-sym a) (moved6 q p q p (ipv6-sym a) (body-sym p q _ _ (a .sameLength) body))
 
 pub alike-trans : (p q r : List ℕ) → Alike p q → Alike q r → Alike p r
 alike-trans p q r (Alike.same e) b = rw e b
 alike-trans p q r (Alike.v4 four a x) (Alike.same e) = rw (← e) (Alike.v4 four a x)
 alike-trans p q r (Alike.v4 four a x) (Alike.v4 four' b y) =
-    Alike.v4 four (ipv4-trans a b) (body-trans p q r _ _ (a .sameLength) (b .sameLength) x (moved4 p q q r four a y))
+    Alike.v4 four (ipv4-trans a b) (body-trans p q r _ _ (a .sameLength) x (moved4 p q q r a y))
 alike-trans p q r (Alike.v4 four a x) (Alike.v6 six b y) =
     let four' = version-alike p q 4 (byte0 p q a) four in
     absurd (omega arith)
 alike-trans p q r (Alike.v6 six a x) (Alike.same e) = rw (← e) (Alike.v6 six a x)
 alike-trans p q r (Alike.v6 six a x) (Alike.v6 six' b y) =
-    Alike.v6 six (ipv6-trans a b) (body-trans p q r _ _ (a .sameLength) (b .sameLength) x (moved6 p q q r six a y))
+    Alike.v6 six (ipv6-trans a b) (body-trans p q r _ _ (a .sameLength) x (moved6 p q q r a y))
 alike-trans p q r (Alike.v6 six a x) (Alike.v4 four b y) =
     let six' = version-alike p q 6 (a .first) six in
     absurd (omega arith)

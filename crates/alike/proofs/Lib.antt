@@ -1,11 +1,15 @@
 -- The proofs of demand 3.
+pub mod BodyExact
 pub mod Cut
 pub mod Equivalence
-pub mod Free
-pub mod FreeStamp
-pub mod FreeTcp
+pub mod Exact
 pub mod Ip
 pub mod Options
+pub mod OptionsAlike
+pub mod OptionsDiffer
 pub mod Packets
+pub mod Part
 pub mod Places
 pub mod Tcp
+pub mod TcpExact
+pub mod Walks

@@ -14,7 +14,8 @@ use Rattle.one_option.specs.Options.{Opt, asked, runsPast}
 use Rattle.one_option.specs.See.{seeOption}
 use Rattle.syn_options.specs.Walk.{entryByte, putEntry, putOption, walkFrom}
 use Rattle.one_option.proofs.See.{opt, stamps-none, stamps-own, stamps-both}
-use Rattle.alike.specs.Options.{ZeroAlike, AlikeStamps, AlikeOption, AlikeRow}
+use Rattle.alike.specs.Free.{ZeroAlike}
+use Rattle.alike.specs.Options.{AlikeStamps, AlikeOption, AlikeRow}
 
 -- All that the walk looks at in the own bytes of a timestamps option: less than `AlikeStamps` asks, so that it outlives a cut.
 pub record LikeStamps (s t : List ℕ) : Type 0 where
@@ -32,7 +33,12 @@ pub data LikeRow : List Opt → List Opt → Type 0 where
 -- Alike in the sense of the statement is alike in this sense.
 pub like-stamps : {s t : List ℕ} → AlikeStamps s t → LikeStamps s t
 like-stamps a =
-    record { sameLength = a .sameLength; lengthByte = a .lengthByte; ownStamp = a .ownStamp; peerStamp = a .peerStamp }
+    record {
+      sameLength = a .sameLength;
+      lengthByte = a .lengthByte 0 (omega arith) (omega arith);
+      ownStamp = a .ownStamp;
+      peerStamp = a .peerStamp;
+    }
 
 pub like-row : {os ps : List Opt} → AlikeRow os ps → LikeRow os ps
 like-row AlikeRow.none = none
@@ -83,8 +89,3 @@ walk-like stop syn w none = refl
 walk-like stop syn w (same {o} {os} {ps} r) = rw (walk-like stop syn (putOption syn w o) r)
 walk-like stop syn w (stamps {s} {t} {os} {ps} a r) =
     rw (past-alike s t a, put-alike s t a syn w, walk-like stop syn (putOption syn w (opt 8 t)) r)
-
--- Alike rows are walked alike.
-pub walk-alike
-    : {os ps : List Opt} → AlikeRow os ps → (stop syn : Bool) (w : Walked) → walkFrom stop syn w os ≡ walkFrom stop syn w ps
-walk-alike r stop syn w = walk-like stop syn w (like-row r)

@@ -1,16 +1,33 @@
--- Laws of strings that differ at most between two places, and of their parts.
-use mathlib.Core.Path.{_≡_, sym, _∙_, ap}
+-- Laws of two strings place by place: their bytes, their numbers of two and four bytes, their parts.
+use mathlib.Core.Path.{_≡_, refl, sym, _∙_, ap}
+use mathlib.Core.Bool.{Bool, true, false, true≢false}
 use mathlib.Core.List.{List}
-use Prim.Native.Nat.{ℕ, _+_, _-_, _<_, _≤_}
+use Prim.Native.Nat.{ℕ, _+_, _-_, _<_, _≤_, min}
 use native.Mathlib.Omega.{arith}
 use native.Mathlib.Nat.{add-assoc}
-use native.Mathlib.Decide.{decLe}
+use native.Mathlib.Decide.{decLe, ℕ-discrete}
 use lib.Dec.{eqb}
-use lib.ListN.{length, take, drop, set, length-take, length-drop, length-set, List·getD-eq-default}
-use lib.Seq.{getD-take, getD-drop, getD-set-other, ext-getD}
+use lib.ListN.{length, take, drop, length-take, length-drop, List·getD-eq-default}
+use lib.Seq.{getD-take, getD-drop, ext-getD}
 use Rattle.basis.specs.Bytes.{byteAt, be16, be32, part}
-use Rattle.alike.specs.Options.{ZeroAlike, Agree}
-use Rattle.alike.specs.Free.{Only}
+use Rattle.alike.specs.Options.{Agree}
+use Rattle.alike.specs.Free.{ZeroAlike, Within, DifferOnly}
+
+-- ---- bytes
+
+-- Strings that differ only in items agree at a place of none.
+pub agrees
+    : {Item : ℕ → ℕ → Type 0} {p q : List ℕ}
+    → DifferOnly Item p q
+    → (i : ℕ)
+    → (Within Item i → ⊥)
+    → byteAt p i ≡ byteAt q i
+agrees {Item} {p} {q} d i none =
+    elim (ℕ-discrete (byteAt p i) (byteAt q i)) [ yes e ↦ e | no differ ↦ absurd (none (d .free i differ)) ]
+
+-- Past both ends both read as 0.
+pub past-both : (i : ℕ) (p q : List ℕ) → length p ≡ length q → length p ≤ i → byteAt p i ≡ byteAt q i
+past-both i p q size h = List·getD-eq-default p 0 {n = i} h ∙ sym (List·getD-eq-default q 0 {n = i} (omega arith))
 
 -- ---- numbers of two and four bytes
 
@@ -18,6 +35,18 @@ use Rattle.alike.specs.Free.{Only}
 pub be16-alike : (i : ℕ) (p q : List ℕ) → byteAt p i ≡ byteAt q i → byteAt p (i + 1) ≡ byteAt q (i + 1) → be16 p i ≡ be16 q i
 unfolding be16
 be16-alike i p q high low = rw (high, low)
+
+pub be16-agree : (i : ℕ) (p q : List ℕ) → Agree i (i + 2) p q → be16 p i ≡ be16 q i
+be16-agree i p q agree = be16-alike i p q (agree i (omega arith) (omega arith)) (agree (i + 1) (omega arith) (omega arith))
+
+-- Strings that agree at four bytes have the same four-byte number there.
+pub be32-agree : (i : ℕ) (p q : List ℕ) → Agree i (i + 4) p q → be32 p i ≡ be32 q i
+unfolding be32
+be32-agree i p q agree =
+    rw (
+      be16-agree i p q (λ j l u. agree j (omega arith) (omega arith)),
+      be16-agree (i + 2) p q (λ j l u. agree j (omega arith) (omega arith)),
+    )
 
 -- A four-byte number in the first bytes is that of the string.
 pub be32-take : (n i : ℕ) (s : List ℕ) → i + 3 < n → be32 (take n s) i ≡ be32 s i
@@ -33,55 +62,17 @@ be32-take n i s h =
 -- The four-byte number at a place that is reached in two steps.
 pub be32-drop : (n i k : ℕ) (s : List ℕ) → n + i ≡ k → be32 (drop n s) i ≡ be32 s k
 unfolding be32 be16
-be32-drop n i k s e =
-    simp (← e, getD-drop, add-assoc)
+be32-drop n i k s e = simp (← e, getD-drop, add-assoc)
 
--- ---- strings that differ at most between two places
-
--- The places from a to b are none of those from lo to hi.
-abbrev pub Apart : ℕ → ℕ → ℕ → ℕ → Type 0
-Apart lo hi a b = (i : ℕ) → a ≤ i → i < b → lo ≤ i → i < hi → ⊥
-
-module _ {lo hi : ℕ} {p q : List ℕ} (d : Only lo hi p q) where
-  -- What lies elsewhere is kept: bytes, and numbers of two and four bytes.
-  pub kept : (a b : ℕ) → Apart lo hi a b → Agree a b p q
-  kept a b apart i h k = d .elsewhere i (apart i h k)
-
-  pub byte-kept : (i : ℕ) → Apart lo hi i (i + 1) → byteAt p i ≡ byteAt q i
-  byte-kept i apart = d .elsewhere i (apart i (omega arith) (omega arith))
-
-  pub be16-kept : (i : ℕ) → Apart lo hi i (i + 2) → be16 p i ≡ be16 q i
-  be16-kept i apart =
-      be16-alike i p q
-      (d .elsewhere i (apart i (omega arith) (omega arith)))
-      (d .elsewhere (i + 1) (apart (i + 1) (omega arith) (omega arith)))
-
-  pub be32-kept : (i : ℕ) → Apart lo hi i (i + 4) → be32 p i ≡ be32 q i
-  unfolding be32
-  be32-kept i apart =
-      rw (
-        be16-kept i (λ j l u. apart j (omega arith) (omega arith)),
-        be16-kept (i + 2) (λ j l u. apart j (omega arith) (omega arith)),
-      )
-
-  pub zero16-kept : (i : ℕ) → Apart lo hi i (i + 2) → ZeroAlike (be16 p i) (be16 q i)
-  zero16-kept i apart = ap (λ (n : ℕ). eqb n 0) (be16-kept i apart)
-
-  pub zero32-kept : (i : ℕ) → Apart lo hi i (i + 4) → ZeroAlike (be32 p i) (be32 q i)
-  zero32-kept i apart = ap (λ (n : ℕ). eqb n 0) (be32-kept i apart)
-
-  -- More places may differ.
-  pub wider : (from to : ℕ) → from ≤ lo → hi ≤ to → Only from to p q
-  wider from to l u =
-      record { sameLength = d .sameLength; elsewhere = λ i n. d .elsewhere i (λ h k. n (omega arith) (omega arith)) }
-
--- One byte changed.
-pub set-only : (p : List ℕ) (i v : ℕ) → Only i (i + 1) p (set p i v)
-set-only p i v =
-    record {
-      sameLength = sym (length-set p i v);
-      elsewhere = λ j n. sym (getD-set-other p i j v 0 (λ e. n (omega arith) (omega arith)));
-    }
+-- Two numbers stay zero or stay nonzero, if they are the same unless they do.
+pub zero-alike : (m n : ℕ) → ((ZeroAlike m n → ⊥) → m ≡ n) → ZeroAlike m n
+zero-alike m n f = by (eqb m 0) (eqb n 0) refl refl
+  where
+    by : (x y : Bool) → eqb m 0 ≡ x → eqb n 0 ≡ y → ZeroAlike m n
+    by true true e g = e ∙ sym g
+    by false false e g = e ∙ sym g
+    by true false e g = ap (λ (k : ℕ). eqb k 0) (f (λ z. true≢false (sym e ∙ z ∙ g)))
+    by false true e g = ap (λ (k : ℕ). eqb k 0) (f (λ z. true≢false (sym g ∙ sym z ∙ e)))
 
 -- ---- parts
 
@@ -95,6 +86,13 @@ drop-alike n p q same = simp (length-drop, same)
 pub part-alike : (from to : ℕ) (p q : List ℕ) → length p ≡ length q → length (part from to p) ≡ length (part from to q)
 part-alike from to p q same = take-alike (to - from) (drop from p) (drop from q) (drop-alike from p q same)
 
+pub length-part : (from to : ℕ) (s : List ℕ) → length (part from to s) ≡ min (to - from) (length s - from)
+length-part from to s = rw (length-take, length-drop)
+
+-- A byte of a part is the string's.
+pub part-byte : (from to i : ℕ) (s : List ℕ) → from + i < to → byteAt (part from to s) i ≡ byteAt s (from + i)
+part-byte from to i s h = getD-take (to - from) (drop from s) i 0 (omega arith) ∙ getD-drop from s i 0
+
 -- The first bytes agree where the strings do.
 pub take-byte
     : (n : ℕ) (p q : List ℕ) (i : ℕ) → (i < n → byteAt p i ≡ byteAt q i) → byteAt (take n p) i ≡ byteAt (take n q) i
@@ -107,45 +105,30 @@ take-byte n p q i e = elim (decLe n i) [ yes h ↦ past p h ∙ sym (past q h) |
     within h = getD-take n p i 0 h ∙ e h ∙ sym (getD-take n q i 0 h)
 
 -- The bytes after some agree where the strings do.
-drop-byte : (n : ℕ) (p q : List ℕ) (i : ℕ) → byteAt p (n + i) ≡ byteAt q (n + i) → byteAt (drop n p) i ≡ byteAt (drop n q) i
+pub drop-byte : (n : ℕ) (p q : List ℕ) (i : ℕ) → byteAt p (n + i) ≡ byteAt q (n + i) → byteAt (drop n p) i ≡ byteAt (drop n q) i
 drop-byte n p q i e = getD-drop n p i 0 ∙ e ∙ sym (getD-drop n q i 0)
-
--- Parts of two strings that differ at most between two places differ at most there.
-pub take-only : (n lo hi : ℕ) (p q : List ℕ) → Only lo hi p q → Only lo hi (take n p) (take n q)
-take-only n lo hi p q d =
-    record {
-      sameLength = take-alike n p q (d .sameLength);
-      elsewhere = λ i out. take-byte n p q i (λ h. d .elsewhere i out);
-    }
-
-pub drop-only : (n lo hi : ℕ) (p q : List ℕ) → Only (n + lo) (n + hi) p q → Only lo hi (drop n p) (drop n q)
-drop-only n lo hi p q d =
-    record {
-      sameLength = drop-alike n p q (d .sameLength);
-      elsewhere = λ i out. drop-byte n p q i (d .elsewhere (n + i) (λ l u. out (omega arith) (omega arith)));
-    }
-
-pub part-only
-    : (from to lo hi : ℕ) (p q : List ℕ) → Only (from + lo) (from + hi) p q → Only lo hi (part from to p) (part from to q)
-part-only from to lo hi p q d = take-only (to - from) lo hi (drop from p) (drop from q) (drop-only from lo hi p q d)
 
 -- Strings that agree at the first places begin alike.
 pub take-same : (n : ℕ) (p q : List ℕ) → length p ≡ length q → Agree 0 n p q → take n p ≡ take n q
 take-same n p q same agree =
     ext-getD 0 (take n p) (take n q) (take-alike n p q same) (λ i b. take-byte n p q i (agree i (omega arith)))
 
--- Strings that agree from a place on agree after it.
-pub drop-agree : (n k : ℕ) (p q : List ℕ) → Agree n (n + k) p q → Agree 0 k (drop n p) (drop n q)
-drop-agree n k p q agree i l u = drop-byte n p q i (agree (n + i) (omega arith) (omega arith))
-
 -- Strings that agree in a part have the same part.
 pub part-same : (from to : ℕ) (p q : List ℕ) → length p ≡ length q → Agree from to p q → part from to p ≡ part from to q
 part-same from to p q same agree =
     take-same (to - from) (drop from p) (drop from q) (drop-alike from p q same)
-    (drop-agree from (to - from) p q (λ i l u. agree i l (omega arith)))
+    (λ i l u. drop-byte from p q i (agree (from + i) (omega arith) (omega arith)))
 
--- Strings that agree from a place on end alike.
-pub rest-same
-    : (n : ℕ) (p q : List ℕ) → length p ≡ length q → ((i : ℕ) → n ≤ i → byteAt p i ≡ byteAt q i) → drop n p ≡ drop n q
-rest-same n p q same agree =
-    ext-getD 0 (drop n p) (drop n q) (drop-alike n p q same) (λ i b. drop-byte n p q i (agree (n + i) (omega arith)))
+-- Two parts differ at a place only if the strings do, at a place of both parts.
+module _ (from to : ℕ) (p q : List ℕ) (same : length p ≡ length q) (i : ℕ)
+    (differ : byteAt (part from to p) i ≡ byteAt (part from to q) i → ⊥) where
+  pub part-within : from + i < to
+  part-within =
+      elim (decLe to (from + i)) [
+        | yes past ↦ absurd (differ (past-both i (part from to p) (part from to q) (part-alike from to p q same)
+            (rw (length-part from to p) (omega arith))))
+        | no h ↦ omega arith
+      ]
+
+  pub part-differ : byteAt p (from + i) ≡ byteAt q (from + i) → ⊥
+  part-differ e = differ (part-byte from to i p part-within ∙ e ∙ sym (part-byte from to i q part-within))

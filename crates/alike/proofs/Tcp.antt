@@ -3,44 +3,39 @@ use mathlib.Core.Path.{_≡_}
 use mathlib.Core.Bool.{Bool, true, false}
 use mathlib.Core.List.{List}
 use Prim.Native.Nat.{ℕ}
+use native.Mathlib.Omega.{arith}
 use Rattle.quirks.specs.declared.QuirkSet.{QuirkSet}
 use Rattle.rfc.specs.Rfc9293 as tcp
 use Rattle.tcp.specs.declared.Mss.{Mss}
 use Rattle.tcp.specs.declared.Mss.the-variants as mss
 use Rattle.syn_options.specs.declared.Walked.{Walked}
-use Rattle.syn_options.specs.Walk.{startWalk, walkOf}
+use Rattle.syn_options.specs.Walk.{walkOf}
 use Rattle.ip.specs.declared.IpFacts.{IpFacts}
-use Rattle.flow.specs.Tcp.{headerQuirks, shownQuirks, payloadClass, observationOf, observed, knownPeer, readTcp}
+use Rattle.flow.specs.Tcp.{headerQuirks, quirksOfHeaders, payloadClass, observationOf, observationFrom, knownPeer, readTcp}
 use Rattle.alike.specs.Tcp.{AlikeTcp}
-use Rattle.alike.proofs.Options.{like-row, walk-like}
-use Rattle.alike.proofs.Cut.{first-like}
+use Rattle.alike.proofs.Places.{be16-agree}
+use Rattle.alike.proofs.Walks.{walk-alike}
 
 module _ (f : IpFacts) (t u : List ℕ) (peer : Mss) (a : AlikeTcp t u) where
   -- Both headers show the same quirks.
-  quirks-alike : (q : QuirkSet) → shownQuirks t q ≡ shownQuirks u q
-  unfolding shownQuirks headerQuirks
-  quirks-alike q = rw (a .control, a .sequence, a .acknowledgment, a .urgentPointer)
-
-  -- The walks over the options end alike.
-  options-alike : (syn : Bool) (q : QuirkSet) → walkOf false syn q (tcp.options t) ≡ walkOf false syn q (tcp.options u)
-  unfolding walkOf
-  options-alike syn q =
-      walk-like false syn (startWalk q) (first-like 40 (tcp.options t) (tcp.options u) (like-row (a .options)))
+  quirks-alike : (q : QuirkSet) → quirksOfHeaders t q ≡ quirksOfHeaders u q
+  unfolding quirksOfHeaders headerQuirks
+  quirks-alike q = rw (a .control 13 (omega arith) (omega arith), a .sequence, a .acknowledgment, a .urgentPointer)
 
   -- Window, header size and payload class are the same.
   rest-alike : (w : Walked) (peer : Mss) → observationOf f t w peer ≡ observationOf f u w peer
   unfolding observationOf payloadClass
-  rest-alike w peer = rw (a .window, a .dataOffset, a .sameLength)
+  rest-alike w peer = rw (be16-agree 14 t u (a .window), a .dataOffset, a .sameLength)
 
-  observed-alike : (syn : Bool) (peer : Mss) → observed f t syn peer ≡ observed f u syn peer
-  unfolding observed
+  observed-alike : (syn : Bool) (peer : Mss) → observationFrom f t syn peer ≡ observationFrom f u syn peer
+  unfolding observationFrom
   observed-alike syn peer =
-      rw (quirks-alike (f .quirks), options-alike syn (shownQuirks u (f .quirks)))
-      (rest-alike (walkOf false syn (shownQuirks u (f .quirks)) (tcp.options u)) peer)
+      rw (quirks-alike (f .quirks), walk-alike (tcp.options t) (tcp.options u) (a .options) false syn (quirksOfHeaders u (f .quirks)))
+      (rest-alike (walkOf false syn (quirksOfHeaders u (f .quirks)) (tcp.options u)) peer)
 
   read-tcp-alike : readTcp f t peer ≡ readTcp f u peer
   unfolding readTcp
-  read-tcp-alike = rw (a .control, observed-alike true mss.Absent, observed-alike false (knownPeer peer))
+  read-tcp-alike = rw (a .control 13 (omega arith) (omega arith), observed-alike true mss.Absent, observed-alike false (knownPeer peer))
 
 -- Two alike TCP parts give one reading, for every byte string, whatever its bytes.
 pub tcp-alike : (f : IpFacts) (t u : List ℕ) (peer : Mss) → AlikeTcp t u → readTcp f t peer ≡ readTcp f u peer

@@ -1,12 +1,13 @@
 -- Alike IP headers (document 01, "Free bytes of demand 3"), field by field of RFC 791, section 3.1, and RFC 8200, section 3.
 use mathlib.Core.Path.{_≡_}
 use mathlib.Core.List.{List}
-use Prim.Native.Nat.{ℕ, _+_, _*_, _/_, max}
+use Prim.Native.Nat.{ℕ, _/_}
 use lib.ListN.{length}
 use Rattle.basis.specs.Bytes.{byteAt}
 use Rattle.rfc.specs.Rfc791 as v4
 use Rattle.rfc.specs.Rfc8200 as v6
-use Rattle.alike.specs.Options.{ZeroAlike, Agree}
+use Rattle.alike.specs.Free.{ZeroAlike}
+use Rattle.alike.specs.Options.{Agree}
 
 -- IPv4. Free: the header checksum (bytes 10 and 11), both addresses (12 to 19), the contents of the options (20 to the header's end).
 pub record AlikeIpv4 (p q : List ℕ) : Type 0 where
@@ -26,16 +27,3 @@ pub record AlikeIpv6 (p q : List ℕ) : Type 0 where
   pub flowLabel : ZeroAlike (v6.flowLabel p) (v6.flowLabel q)
   -- payload length, next header, hop limit
   pub third : Agree 4 8 p q
-
--- Where the header ends, "counted as 20 bytes where its length says fewer", and where the IP length ends: bytes past both are free.
-abbrev pub headerEnd4 : List ℕ → ℕ
-headerEnd4 p = max 20 (4 * v4.ihl p)
-
-abbrev pub headerEnd6 : List ℕ → ℕ
-headerEnd6 p = 40
-
-abbrev pub lengthEnd4 : List ℕ → ℕ
-lengthEnd4 p = v4.totalLength p
-
-abbrev pub lengthEnd6 : List ℕ → ℕ
-lengthEnd6 p = 40 + v6.payloadLength p

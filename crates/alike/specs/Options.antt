@@ -3,14 +3,10 @@
 use mathlib.Core.Path.{_≡_}
 use mathlib.Core.List.{List, [], _∷_}
 use Prim.Native.Nat.{ℕ, _<_, _≤_}
-use lib.Dec.{eqb}
 use lib.ListN.{length}
 use Rattle.basis.specs.Bytes.{byteAt, be32}
 use Rattle.one_option.specs.Options.{Opt, optionsOf}
-
--- Both are zero, or both are nonzero.
-abbrev pub ZeroAlike : ℕ → ℕ → Type 0
-ZeroAlike m n = eqb m 0 ≡ eqb n 0
+use Rattle.alike.specs.Free.{ZeroAlike}
 
 -- Two strings agree at the places from the first up to the second, which is not among them.
 abbrev pub Agree : ℕ → ℕ → List ℕ → List ℕ → Type 0
@@ -20,7 +16,7 @@ Agree from to s t = (i : ℕ) → from ≤ i → i < to → byteAt s i ≡ byteA
 -- A half that is not wholly present agrees byte by byte, and so does what lies past both.
 pub record AlikeStamps (s t : List ℕ) : Type 0 where
   pub sameLength : length s ≡ length t
-  pub lengthByte : byteAt s 0 ≡ byteAt t 0
+  pub lengthByte : Agree 0 1 s t
   pub ownStamp : 4 < length s → ZeroAlike (be32 s 1) (be32 t 1)
   pub ownCut : length s ≤ 4 → Agree 1 5 s t
   pub peerStamp : 8 < length s → ZeroAlike (be32 s 5) (be32 t 5)

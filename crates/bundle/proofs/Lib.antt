@@ -1,3 +1,3 @@
 pub mod Packets
-pub mod Refusals
+pub mod BundleOrder
 pub mod Unique

@@ -4,7 +4,6 @@ use mathlib.Core.Bool.{Bool, true, false, cond, _&&_}
 use mathlib.Core.List.{List}
 use Prim.Native.Nat.{ℕ, suc, _+_, _-_, _<_, _≤_}
 use native.Mathlib.Omega.{arith}
-use native.Mathlib.Numerals.{add-one}
 use lib.Dec.{leb}
 use lib.ListN.{length}
 use borrow.Author.Tests.{leb-true}
@@ -13,10 +12,9 @@ use Rattle.siglist.specs.List.{checkList}
 use Rattle.bundle.specs.declared.BundleCheck.{BundleCheck}
 use Rattle.bundle.specs.declared.BundleCheck.the-variants as check
 use Rattle.packet_answer.specs.declared.PacketAnswer.{PacketAnswer}
-use Rattle.bundle.specs.declared.AnswerAt.the-variants as at
 use Rattle.bundle.specs.declared.PacketAt.{PacketAt}
 use Rattle.bundle.specs.declared.PacketAt.the-variants as there
-use Rattle.bundle.specs.Answers.{answerAt, packetLies, packetAt, startOf, packetAfter}
+use Rattle.bundle.specs.Answers.{answerAt, packetLies, packetAt, startOf}
 use Rattle.bundle.specs.Bundle.{listLength, listOffset, packetEnd, packetFits, packetsFit, packetsOffset, packetCount, listLies, bundleFits, checkBundle, bundleRefusal, ofList, listOf}
 
 module _ (b : List ℕ) (at : ℕ) (fits : packetFits b at ≡ true) where
@@ -49,16 +47,6 @@ module _ (b : List ℕ) (at i n : ℕ) (inside : i < n) where
 pub packets-end : (b : List ℕ) (at i n : ℕ) → n ≤ i → packetsFit b at (n - i) ≡ leb at (length b)
 unfolding packetsFit
 packets-end b at i n h = let none : n - i ≡ 0 = omega arith in rw none
-
--- Of some packets that fit, the first does, and so do the others.
-module _ (b : List ℕ) (at i n : ℕ) (inside : i < n) (fit : packetsFit b at (n - i) ≡ true) where
-  pub first-fits : packetFits b at ≡ true
-  unfolding packetsFit
-  first-fits = and-left (packetFits b at) _ (sym (ap (packetsFit b at) (more b at i n inside)) ∙ fit)
-
-  pub rest-fits : packetsFit b (packetEnd b at) (n - (i + 1)) ≡ true
-  unfolding packetsFit
-  rest-fits = and-right (packetFits b at) _ (sym (ap (packetsFit b at) (more b at i n inside)) ∙ fit)
 
 -- ---- a bundle that fits
 
@@ -97,13 +85,6 @@ passed check.DoesNotFit e = absurd (omega arith)
 passed check.ListDoesNotFit e = absurd (omega arith)
 passed (check.BadRecord i) e = absurd (omega arith)
 
-pub after-refusal : (c : BundleCheck) (b : List ℕ) (i : ℕ) → (bundleRefusal c ≡ 0 → ⊥) → packetAfter c b i ≡ at.Refused c
-unfolding bundleRefusal
-after-refusal check.Good b i some = absurd (some refl)
-after-refusal check.DoesNotFit b i some = refl
-after-refusal check.ListDoesNotFit b i some = refl
-after-refusal (check.BadRecord j) b i some = refl
-
 refused-number : (b : List ℕ) → checkBundle b ≡ check.Good → bundleFits b ≡ false → _≡_ {A = ℕ} 12 0
 unfolding checkBundle bundleRefusal
 refused-number b good e =
@@ -116,10 +97,6 @@ good-fits b good = by-fit (bundleFits b) refl
     by-fit : (t : Bool) → bundleFits b ≡ t → t ≡ true
     by-fit true e = refl
     by-fit false e = absurd (let z : _≡_ {A = ℕ} 12 0 = refused-number b good e in omega arith)
-
-pub start-next : (b : List ℕ) (i : ℕ) → startOf b (i + 1) ≡ packetEnd b (startOf b i)
-unfolding startOf
-start-next b i = rw add-one
 
 pub start-first : (b : List ℕ) → startOf b 0 ≡ packetsOffset b
 unfolding startOf

@@ -1,6 +1,5 @@
 -- The answer of a bundle's packet, and of the whole bundle as the list of its answers.
 use Prim.Native.Nat.{ℕ, zero, suc}
-use lib.Dec.{ltb}
 use mathlib.Core.Bool.{Bool, cond, _&&_}
 use mathlib.Core.List.{List, [], _∷_}
 use Rattle.packet_answer.specs.declared.PacketAnswer.{PacketAnswer}
@@ -9,8 +8,6 @@ use Rattle.bundle.specs.declared.BundleCheck.{BundleCheck}
 use Rattle.bundle.specs.declared.BundleCheck.the-variants as check
 use Rattle.bundle.specs.declared.PacketAt.{PacketAt}
 use Rattle.bundle.specs.declared.PacketAt.the-variants as there
-use Rattle.bundle.specs.declared.AnswerAt.{AnswerAt}
-use Rattle.bundle.specs.declared.AnswerAt.the-variants as at
 use Rattle.bundle.specs.Bundle.{packetCount, packetsOffset, listOf, packetBytes, packetPeer, packetEnd, listLies, packetFits, checkBundle}
 
 -- The answer of the packet that starts at a place.
@@ -30,16 +27,6 @@ unfoldable pub startOf : List ℕ → ℕ → ℕ
 startOf b zero = packetsOffset b
 startOf b (suc i) = packetEnd b (startOf b i)
 
--- The answer of a bundle's packet i.
-abbrev pub packetAfter : BundleCheck → List ℕ → ℕ → AnswerAt
-packetAfter check.Good b i = cond (ltb i (packetCount b)) (at.Answer (answerAt b (startOf b i))) at.NoPacket
-packetAfter check.DoesNotFit b i = at.Refused check.DoesNotFit
-packetAfter check.ListDoesNotFit b i = at.Refused check.ListDoesNotFit
-packetAfter (check.BadRecord j) b i = at.Refused (check.BadRecord j)
-
-unfoldable pub packetAnswer : List ℕ → ℕ → AnswerAt
-packetAnswer b i = packetAfter (checkBundle b) b i
-
 -- The answers of so many packets from a place on. A place without a packet ends the row; no bundle that passes its check has one.
 unfoldable pub answersFrom : List ℕ → ℕ → ℕ → List PacketAnswer
 answersFrom b at zero = []
@@ -50,11 +37,11 @@ pub record BundleAnswer : Type 0 where
   pub check : BundleCheck
   pub answers : List PacketAnswer
 
-abbrev pub afterCheck : BundleCheck → List ℕ → BundleAnswer
-afterCheck check.Good b = record { check = check.Good; answers = answersFrom b (packetsOffset b) (packetCount b) }
-afterCheck check.DoesNotFit b = record { check = check.DoesNotFit; answers = [] }
-afterCheck check.ListDoesNotFit b = record { check = check.ListDoesNotFit; answers = [] }
-afterCheck (check.BadRecord i) b = record { check = check.BadRecord i; answers = [] }
+abbrev pub afterBundleCheck : BundleCheck → List ℕ → BundleAnswer
+afterBundleCheck check.Good b = record { check = check.Good; answers = answersFrom b (packetsOffset b) (packetCount b) }
+afterBundleCheck check.DoesNotFit b = record { check = check.DoesNotFit; answers = [] }
+afterBundleCheck check.ListDoesNotFit b = record { check = check.ListDoesNotFit; answers = [] }
+afterBundleCheck (check.BadRecord i) b = record { check = check.BadRecord i; answers = [] }
 
 unfoldable pub bundleAnswer : List ℕ → BundleAnswer
-bundleAnswer b = afterCheck (checkBundle b) b
+bundleAnswer b = afterBundleCheck (checkBundle b) b

@@ -6,7 +6,7 @@ ghost use lib.ListN.{length};
 ghost use Rattle.basis.specs.Bytes.{be16};
 ghost use Rattle.siglist.specs.List.{areaFits, checkList};
 ghost use Rattle.bundle.specs.Bundle.{packetCount, listLength, listOffset, listOf, packetEnd, packetFits, packetsFit, listLies, bundleFits, checkBundle, bundleRefusal};
-ghost use Rattle.bundle.specs.Answers.{answerAt, packetAt, startOf, packetAfter, packetAnswer};
+ghost use Rattle.bundle.specs.Answers.{answerAt, packetAt};
 use numbers::be16;
 use packet_answer::PacketAnswer;
 use packet_answer::answer_packet;
@@ -20,13 +20,6 @@ pub enum BundleCheck {
     DoesNotFit,
     ListDoesNotFit,
     BadRecord(usize),
-}
-
-// The answer of a bundle's packet, or why there is none: the bundle is refused, or has no such packet.
-pub enum AnswerAt {
-    Answer(PacketAnswer),
-    NoPacket,
-    Refused(BundleCheck),
 }
 
 // What is at a place of a bundle: no packet, or the answer of the one that starts there, and where it ends.
@@ -172,39 +165,4 @@ pub fn packet_at(bundle: &[u8], at: usize) -> PacketAt
         return PacketAt::NoPacket;
     }
     PacketAt::Packet(answer_at_place(bundle, at), packet_end(bundle, at))
-}
-
-// Where a packet starts, in a bundle that fits.
-fn place_of(bundle: &[u8], i: usize) -> usize
-    requires { ⌜ (bundleFits (now bundle) ≡ true) × (i < packetCount (now bundle)) ⌝ }
-    ensures { λ r. ⌜ (r ≡ startOf (now (bundle .entry)) i) × (packetFits (now (bundle .entry)) r ≡ true) ⌝ }
-{
-    let mut at = number_at(bundle, 2);
-    let mut k = 0;
-    while k < i {
-        at = packet_end(bundle, at);
-        k += 1;
-    }
-    at
-}
-
-fn answer_of(bundle: &[u8], i: usize) -> AnswerAt
-    requires { ⌜ bundleFits (now bundle) ≡ true ⌝ }
-    ensures { λ r. ⌜ r ≡ packetAfter BundleCheck.Good (now (bundle .entry)) i ⌝ }
-{
-    if number_at(bundle, 0) <= i {
-        return AnswerAt::NoPacket;
-    }
-    AnswerAt::Answer(answer_at_place(bundle, place_of(bundle, i)))
-}
-
-// The answer of a bundle's packet, counted from 0.
-pub fn answer_at(bundle: &[u8], i: usize) -> AnswerAt
-    ensures { λ r. ⌜ r ≡ packetAnswer (now (bundle .entry)) i ⌝ }
-{
-    let check = check_bundle(bundle);
-    if bundle_refusal(check) == 0 {
-        return answer_of(bundle, i);
-    }
-    AnswerAt::Refused(check)
 }

@@ -6,16 +6,16 @@ use denote.Ref.{RefT, now}
 use Rattle.basis.specs.Unique.{ExactlyOne}
 use Rattle.basis.proofs.Unique.{equation}
 use Rattle.witness.specs.declared.Plain.{Plain}
-use Rattle.counted.specs.Counted.{observed, found}
+use Rattle.counted.specs.Counted.{countedReading, countedAnswer}
 use Rattle.counted.proofs.counted_observe.Reads as counted-observe'
 use Rattle.counted.proofs.counted_answer.Reads as counted-answer'
 
 pub counted-observe-one
     : (κs : Lfts 1) (packet : RefT (List ℕ)) (peer : ℕ)
     → ExactlyOne Plain (λ (r : Plain). counted-observe'.Post κs (packet, (peer, tt)) r (packet, (peer, tt)))
-counted-observe-one κs packet peer = equation (observed (now packet) peer)
+counted-observe-one κs packet peer = equation (countedReading (now packet) peer)
 
 pub counted-answer-one
     : (κs : Lfts 2) (packet list : RefT (List ℕ)) (peer : ℕ)
     → ExactlyOne ℕ (λ (r : ℕ). counted-answer'.Post κs (packet, (peer, (list, tt))) r (packet, (peer, (list, tt))))
-counted-answer-one κs packet list peer = equation (found (now packet) peer (now list))
+counted-answer-one κs packet list peer = equation (countedAnswer (now packet) peer (now list))

@@ -8,8 +8,8 @@ use Rattle.witness.specs.declared.Plain.{Plain}
 use Rattle.witness.specs.Reading.{plainOf}
 use Rattle.witness.specs.Searching.{foundNumber}
 
-unfoldable pub observed : List ℕ → ℕ → Plain
-observed p peer = plainOf (readPacket p (peerOf peer))
+unfoldable pub countedReading : List ℕ → ℕ → Plain
+countedReading p peer = plainOf (readPacket p (peerOf peer))
 
-unfoldable pub found : List ℕ → ℕ → List ℕ → ℕ
-found p peer l = foundNumber (searchAll (readPacket p (peerOf peer) .observation) l) 0
+unfoldable pub countedAnswer : List ℕ → ℕ → List ℕ → ℕ
+countedAnswer p peer l = foundNumber (searchAll (readPacket p (peerOf peer) .observation) l) 0

@@ -3,27 +3,15 @@ use Prim.Native.Nat.{ℕ}
 use mathlib.Core.Bool.{Bool}
 use Rattle.basis.specs.Unique.{ExactlyOne}
 use Rattle.basis.proofs.Unique.{equation}
-use Rattle.tcp.specs.declared.IpVersion.{IpVersion}
-use Rattle.tcp.specs.declared.PayloadSize.{PayloadSize}
 use Rattle.ttl.specs.declared.Ttl.{Ttl}
 use Rattle.window_size.specs.declared.Multiplier.{Multiplier}
-use Rattle.distances.specs.declared.SigPayload.{SigPayload}
-use Rattle.distances.specs.declared.SigVersion.{SigVersion}
 use Rattle.distances.specs.declared.TtlFit.{TtlFit}
 use Rattle.distances.specs.declared.WindowSize.{WindowSize}
-use Rattle.distances.specs.Gates.{versionMatches, windowMatches, payloadMatches}
+use Rattle.distances.specs.DistanceGates.{windowMatches}
 use Rattle.distances.specs.Distances.{ttlFit, reportedHops}
-use Rattle.distances.proofs.ip_version_matches.Reads as ip-version-matches'
-use Rattle.distances.proofs.payload_size_matches.Reads as payload-size-matches'
 use Rattle.distances.proofs.window_size_matches.Reads as window-size-matches'
 use Rattle.distances.proofs.ttl_fit.Reads as ttl-fit'
 use Rattle.distances.proofs.report_hop_distance.Reads as report-hop-distance'
-
-pub ip-version-matches-one : (o : IpVersion) (s : SigVersion) → ExactlyOne Bool (λ (r : Bool). ip-version-matches'.Post tt (o, (s, tt)) r (o, (s, tt)))
-ip-version-matches-one o s = equation (versionMatches o s)
-
-pub payload-size-matches-one : (o : PayloadSize) (s : SigPayload) → ExactlyOne Bool (λ (r : Bool). payload-size-matches'.Post tt (o, (s, tt)) r (o, (s, tt)))
-payload-size-matches-one o s = equation (payloadMatches o s)
 
 pub window-size-matches-one : (o : ℕ) (s : WindowSize) (m : Multiplier) → ExactlyOne Bool (λ (r : Bool). window-size-matches'.Post tt (o, (s, (m, tt))) r (o, (s, (m, tt))))
 window-size-matches-one o s m = equation (windowMatches o s m)

@@ -1,2 +1,2 @@
 pub mod Distances
-pub mod Gates
+pub mod DistanceGates

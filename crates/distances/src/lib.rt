@@ -1,9 +1,8 @@
-// distances.rs: how far an observation is from a signature, by version, TTL, window and payload.
+// distances.rs: how far an observation is from a signature, by TTL and window. Its gates of version and payload read a record's codes
+// and stand in `sigrecord`.
 ghost use mathlib.Core.Path.{_≡_};
-ghost use Rattle.distances.specs.Gates.{versionMatches, multipleMatches, windowMatches, payloadMatches};
+ghost use Rattle.distances.specs.DistanceGates.{multipleMatches, windowMatches};
 ghost use Rattle.distances.specs.Distances.{initialTtl, isBad, ttlFit, reportedHops};
-use tcp::IpVersion;
-use tcp::PayloadSize;
 use ttl::MAX_DIST;
 use ttl::Ttl;
 use ttl::guess_distance;
@@ -41,22 +40,6 @@ pub enum TtlFit {
     Rejected,
     InRange(u8),
     OutOfRange(u8),
-}
-
-pub fn ip_version_matches(observed: IpVersion, signature: SigVersion) -> bool
-    ensures { λ r. ⌜ r ≡ versionMatches observed signature ⌝ }
-{
-    match signature {
-        SigVersion::Any => true,
-        SigVersion::V4 => match observed {
-            IpVersion::V4 => true,
-            IpVersion::V6 => false,
-        },
-        SigVersion::V6 => match observed {
-            IpVersion::V4 => false,
-            IpVersion::V6 => true,
-        },
-    }
 }
 
 // A signature's initial TTL: with a distance, both halves summed.
@@ -157,21 +140,5 @@ pub fn window_size_matches(observed: u16, signature: WindowSize, multiplier: Mul
         }
         WindowSize::Mss(multiple) => multiple_matches(multiplier, multiple, false),
         WindowSize::Mtu(multiple) => multiple_matches(multiplier, multiple, true),
-    }
-}
-
-pub fn payload_size_matches(observed: PayloadSize, signature: SigPayload) -> bool
-    ensures { λ r. ⌜ r ≡ payloadMatches observed signature ⌝ }
-{
-    match signature {
-        SigPayload::Any => true,
-        SigPayload::Zero => match observed {
-            PayloadSize::Zero => true,
-            PayloadSize::NonZero => false,
-        },
-        SigPayload::NonZero => match observed {
-            PayloadSize::Zero => false,
-            PayloadSize::NonZero => true,
-        },
     }
 }

@@ -3,5 +3,5 @@ pub mod Observed
 pub mod Opening
 pub mod Parts
 pub mod Peer
-pub mod Refusals
+pub mod FirstRow
 pub mod Unique

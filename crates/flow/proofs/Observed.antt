@@ -19,7 +19,7 @@ use Rattle.observable.specs.Observation.{emptyLayout, emptyObservation}
 use Rattle.rfc.specs.Rfc9293.{control, options}
 use Rattle.syn_options.specs.declared.Walked.{Walked}
 use Rattle.one_option.specs.Options.{Opt, runsPast, optionsOf}
-use Rattle.one_option.specs.See.{shownQuirks as shown, seeOption}
+use Rattle.one_option.specs.See.{laterQuirks, seeOption}
 use Rattle.syn_options.specs.Walk.{putOption, walkFrom, startWalk, walkOf}
 use Rattle.syn_options.proofs.Entries.{Tidy, at-most-forty, past-count, zero-row}
 use Rattle.ip.specs.declared.IpFacts.{IpFacts}
@@ -29,7 +29,7 @@ use Rattle.flow.specs.declared.Reading.{Reading}
 use Rattle.ip.specs.declared.Refusal.{Refusal}
 use Rattle.flow.specs.Flags.{flagsInvalid, isSynType, isSynAckType}
 use Rattle.ip.specs.Ip.{ipv4Quirks, ipv4Facts, readIpv4, ipv6Quirks, ipv6Facts, readIpv6, readIp}
-use Rattle.flow.specs.Tcp.{headerQuirks, shownQuirks, observationOf, observed, knownPeer, readTcp}
+use Rattle.flow.specs.Tcp.{headerQuirks, quirksOfHeaders, observationOf, observationFrom, knownPeer, readTcp}
 use Rattle.flow.specs.Reading.{tcpPart, afterIp, readPacket}
 
 -- What a reader may rely on in an observation.
@@ -54,7 +54,7 @@ sound-empty =
 
 walk-within
     : (stop syn : Bool) (w : Walked) (os : List Opt) → Clean (w .seen .quirks) → Clean (walkFrom stop syn w os .seen .quirks)
-unfolding walkFrom seeOption shown placeOf
+unfolding walkFrom seeOption laterQuirks placeOf
 walk-within stop syn w [] inside = inside
 walk-within stop syn w (o ∷ os) inside =
     by-test (stop && runsPast o)
@@ -72,8 +72,8 @@ walk-within stop syn w (o ∷ os) inside =
 
 -- ---- both stages
 
-header-within : (t : List ℕ) (q : QuirkSet) → Clean q → Clean (shownQuirks t q)
-unfolding shownQuirks headerQuirks placeOf
+header-within : (t : List ℕ) (q : QuirkSet) → Clean q → Clean (quirksOfHeaders t q)
+unfolding quirksOfHeaders headerQuirks placeOf
 header-within t q inside =
     clean-add-if _ _ _ refl
     (clean-add-if _ _ _ refl
@@ -83,13 +83,13 @@ either : (t : Bool) (a b : Reading) → Sound (a .observation) → Sound (b .obs
 either true a b x y = x
 either false a b x y = y
 
-sound-observed : (f : IpFacts) (t : List ℕ) (syn : Bool) (peer : Mss) → Clean (f .quirks) → Sound (observed f t syn peer)
-unfolding observed observationOf walkOf
+sound-observed : (f : IpFacts) (t : List ℕ) (syn : Bool) (peer : Mss) → Clean (f .quirks) → Sound (observationFrom f t syn peer)
+unfolding observationFrom observationOf walkOf
 sound-observed f t syn peer inside =
     record {
-      few = at-most-forty false syn (shownQuirks t (f .quirks)) (options t);
-      tidy = past-count false syn (shownQuirks t (f .quirks)) (options t);
-      quirks = walk-within false syn (startWalk (shownQuirks t (f .quirks))) (optionsOf (take 40 (options t)))
+      few = at-most-forty false syn (quirksOfHeaders t (f .quirks)) (options t);
+      tidy = past-count false syn (quirksOfHeaders t (f .quirks)) (options t);
+      quirks = walk-within false syn (startWalk (quirksOfHeaders t (f .quirks))) (optionsOf (take 40 (options t)))
           (header-within t (f .quirks) inside);
     }
 

@@ -8,15 +8,15 @@ use Rattle.tcp.specs.declared.Mss.the-variants as mss
 use Rattle.ip.specs.declared.IpFacts.{IpFacts}
 use Rattle.flow.specs.declared.Answer.the-variants as answer
 use Rattle.flow.specs.declared.Reading.{Reading}
-use Rattle.flow.specs.Tcp.{observed}
+use Rattle.flow.specs.Tcp.{observationFrom}
 
 pub opens
     : (f : IpFacts) (t : List ℕ) (peer : Mss) (other : Reading) (s a : Bool)
     → s || a ≡ true
-    → _≡_ {A = Reading} (record { answer = cond s answer.Syn answer.SynAck; observation = observed f t s (cond s mss.Absent peer) })
+    → _≡_ {A = Reading} (record { answer = cond s answer.Syn answer.SynAck; observation = observationFrom f t s (cond s mss.Absent peer) })
     (cond s
-    (record { answer = answer.Syn; observation = observed f t true mss.Absent })
-    (cond a (record { answer = answer.SynAck; observation = observed f t false peer }) other))
+    (record { answer = answer.Syn; observation = observationFrom f t true mss.Absent })
+    (cond a (record { answer = answer.SynAck; observation = observationFrom f t false peer }) other))
 opens f t peer other true a e = refl
 opens f t peer other false true e = refl
 opens f t peer other false false e = absurd (false≢true e)

@@ -12,7 +12,7 @@ use Rattle.ip.specs.declared.IpRead.the-variants as ip
 use Rattle.flow.specs.declared.Reading.{Reading}
 use Rattle.flow.specs.Flags.{flagsInvalid, isSynType, isSynAckType}
 use Rattle.ip.specs.Ip.{readIp}
-use Rattle.flow.specs.Tcp.{observed, knownPeer, readTcp}
+use Rattle.flow.specs.Tcp.{observationFrom, knownPeer, readTcp}
 use Rattle.flow.specs.Reading.{tcpPart, afterIp, readPacket}
 
 -- Of four readings by three tests, only the third may differ, and it is a SYN+ACK.
@@ -32,8 +32,8 @@ module _ (peer peer′ : Mss) where
   unfolding readTcp
   tcp-stage f t other =
       third-differs (flagsInvalid (control t)) (isSynType (control t)) (isSynAckType (control t)) _ _ _
-      (record { answer = answer.SynAck; observation = observed f t false (knownPeer peer) })
-      (record { answer = answer.SynAck; observation = observed f t false (knownPeer peer′) })
+      (record { answer = answer.SynAck; observation = observationFrom f t false (knownPeer peer) })
+      (record { answer = answer.SynAck; observation = observationFrom f t false (knownPeer peer′) })
       refl other
 
   both-stages

@@ -1,4 +1,3 @@
 pub mod Flags
 pub mod Reading
-pub mod Refusals
 pub mod Tcp

@@ -4,12 +4,14 @@ use mathlib.Core.List.{List}
 use Rattle.basis.specs.Bytes.{part}
 use Rattle.tcp.specs.declared.Mss.{Mss}
 use Rattle.observable.specs.Observation.{emptyObservation}
+use Rattle.flow.specs.declared.Answer.{Answer}
 use Rattle.flow.specs.declared.Answer.the-variants as answer
 use Rattle.ip.specs.declared.IpFacts.{IpFacts}
 use Rattle.ip.specs.declared.IpRead.{IpRead}
 use Rattle.ip.specs.declared.IpRead.the-variants as ip
 use Rattle.flow.specs.declared.Reading.{Reading}
 use Rattle.ip.specs.Ip.{readIp}
+use Rattle.ip.specs.Numbers.{number}
 use Rattle.flow.specs.Tcp.{readTcp}
 
 -- The TCP part: "the part that begins after the IP header".
@@ -23,3 +25,10 @@ afterIp (ip.Facts f) p peer = readTcp f (tcpPart f p) peer
 
 unfoldable pub readPacket : List ℕ → Mss → Reading
 readPacket p peer = afterIp (readIp p) p peer
+
+-- The number of an answer's refusal; 0 if it is none.
+unfoldable pub refusalOf : Answer → ℕ
+refusalOf answer.Syn = 0
+refusalOf answer.SynAck = 0
+refusalOf answer.Nothing = 0
+refusalOf (answer.Refused r) = number r

@@ -36,8 +36,8 @@ headerQuirks flags sequence acknowledgment urgent q =
     q))))))
 
 -- The quirks that both headers of a packet show.
-unfoldable pub shownQuirks : List ℕ → QuirkSet → QuirkSet
-shownQuirks t q = headerQuirks (tcp.control t) (tcp.sequence t) (tcp.acknowledgment t) (tcp.urgentPointer t) q
+unfoldable pub quirksOfHeaders : List ℕ → QuirkSet → QuirkSet
+quirksOfHeaders t q = headerQuirks (tcp.control t) (tcp.sequence t) (tcp.acknowledgment t) (tcp.urgentPointer t) q
 
 -- "its class says only whether it is empty"
 unfoldable pub payloadClass : List ℕ → PayloadSize
@@ -62,8 +62,8 @@ observationOf f t w peer =
     }
 
 -- The walk goes on after clipping (`stop` is false); only a SYN shows the peer's timestamp.
-unfoldable pub observed : IpFacts → List ℕ → Bool → Mss → TcpObservation
-observed f t syn peer = observationOf f t (walkOf false syn (shownQuirks t (f .quirks)) (tcp.options t)) peer
+unfoldable pub observationFrom : IpFacts → List ℕ → Bool → Mss → TcpObservation
+observationFrom f t syn peer = observationOf f t (walkOf false syn (quirksOfHeaders t (f .quirks)) (tcp.options t)) peer
 
 -- "A zero peer MSS counts as absent."
 unfoldable pub knownPeer : Mss → Mss
@@ -76,7 +76,7 @@ readTcp f t peer =
     cond (flagsInvalid (tcp.control t))
     (record { answer = answer.Refused (refusal.InvalidTcpFlags (tcp.control t)); observation = emptyObservation })
     (cond (isSynType (tcp.control t))
-    (record { answer = answer.Syn; observation = observed f t true mss.Absent })
+    (record { answer = answer.Syn; observation = observationFrom f t true mss.Absent })
     (cond (isSynAckType (tcp.control t))
-    (record { answer = answer.SynAck; observation = observed f t false (knownPeer peer) })
+    (record { answer = answer.SynAck; observation = observationFrom f t false (knownPeer peer) })
     (record { answer = answer.Nothing; observation = emptyObservation })))

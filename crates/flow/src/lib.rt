@@ -7,7 +7,7 @@ ghost use lib.Dec.{eqb};
 ghost use lib.ListN.{length};
 ghost use Rattle.flow.specs.Flags.{maskedType, flagsInvalid};
 ghost use Rattle.flow.specs.Reading.{readPacket};
-ghost use Rattle.flow.specs.Tcp.{headerQuirks, shownQuirks, payloadClass, observationOf, observed, knownPeer, readTcp};
+ghost use Rattle.flow.specs.Tcp.{headerQuirks, quirksOfHeaders, payloadClass, observationOf, observationFrom, knownPeer, readTcp};
 use ip::IpFacts;
 use ip::IpRead;
 use ip::Refusal;
@@ -95,7 +95,7 @@ fn header_quirks(
 // The quirks that both headers show.
 fn shown_quirks(tcp: &[u8], quirks: QuirkSet) -> QuirkSet
     requires { ⌜ 20 ≤ length (now tcp) ⌝ }
-    ensures { λ r. ⌜ r ≡ shownQuirks (now (tcp .entry)) quirks ⌝ }
+    ensures { λ r. ⌜ r ≡ quirksOfHeaders (now (tcp .entry)) quirks ⌝ }
 {
     let sequence = be32(be16(tcp[4], tcp[5]), be16(tcp[6], tcp[7]));
     let acknowledgment = be32(be16(tcp[8], tcp[9]), be16(tcp[10], tcp[11]));
@@ -164,7 +164,7 @@ fn options_end(tcp: &[u8]) -> usize
 // The observation of a SYN or SYN+ACK: the options are a further part, and the walk goes on after clipping.
 fn observe(facts: IpFacts, tcp: &[u8], syn: bool, peer_mss: Mss) -> TcpObservation
     requires { ⌜ 20 ≤ length (now tcp) ⌝ }
-    ensures { λ r. ⌜ r ≡ observed facts (now (tcp .entry)) syn «peer_mss» ⌝ }
+    ensures { λ r. ⌜ r ≡ observationFrom facts (now (tcp .entry)) syn «peer_mss» ⌝ }
 {
     let end = options_end(tcp);
     let before = facts.quirks;

@@ -5,16 +5,16 @@ use Rattle.basis.specs.Unique.{ExactlyOne}
 use Rattle.basis.proofs.Unique.{equation}
 use Rattle.matching.specs.declared.SignatureFit.{SignatureFit}
 use Rattle.found.specs.declared.Found.{Found}
-use Rattle.found.specs.Keep.{fitsNothing, keep, isExact}
+use Rattle.found.specs.Keep.{isNone, keep, isExact}
 use Rattle.found.proofs.is_exact.Reads as is-exact'
-use Rattle.found.proofs.is_nothing.Reads as is-nothing'
+use Rattle.found.proofs.is_none.Reads as is-none'
 use Rattle.found.proofs.keep_fit.Reads as keep-fit'
 
 pub is-exact-one : (found : Found) → ExactlyOne Bool (λ (r : Bool). is-exact'.Post tt (found, tt) r (found, tt))
 is-exact-one found = equation (isExact found)
 
-pub is-nothing-one : (fit : SignatureFit) → ExactlyOne Bool (λ (r : Bool). is-nothing'.Post tt (fit, tt) r (fit, tt))
-is-nothing-one fit = equation (fitsNothing fit)
+pub is-none-one : (fit : SignatureFit) → ExactlyOne Bool (λ (r : Bool). is-none'.Post tt (fit, tt) r (fit, tt))
+is-none-one fit = equation (isNone fit)
 
 pub keep-fit-one
     : (held : Found) (label : ℕ) (fit : SignatureFit)

@@ -10,19 +10,19 @@ use Rattle.found.specs.declared.Found.the-variants as found
 -- What is held after one record more: an exact record stays, and so does the first fuzzy one until an exact one comes.
 unfoldable pub keep : Found → ℕ → SignatureFit → Found
 keep (found.Exact kept) label f = found.Exact kept
-keep found.Nothing label fit.Nothing = found.Nothing
-keep found.Nothing label fit.Exact = found.Exact label
-keep found.Nothing label (fit.Fuzzy reason) = found.Fuzzy label reason
-keep (found.Fuzzy kept why) label fit.Nothing = found.Fuzzy kept why
+keep found.None label fit.None = found.None
+keep found.None label fit.Exact = found.Exact label
+keep found.None label (fit.Fuzzy reason) = found.Fuzzy label reason
+keep (found.Fuzzy kept why) label fit.None = found.Fuzzy kept why
 keep (found.Fuzzy kept why) label fit.Exact = found.Exact label
 keep (found.Fuzzy kept why) label (fit.Fuzzy reason) = found.Fuzzy kept why
 
-unfoldable pub fitsNothing : SignatureFit → Bool
-fitsNothing fit.Nothing = true
-fitsNothing fit.Exact = false
-fitsNothing (fit.Fuzzy reason) = false
+unfoldable pub isNone : SignatureFit → Bool
+isNone fit.None = true
+isNone fit.Exact = false
+isNone (fit.Fuzzy reason) = false
 
 unfoldable pub isExact : Found → Bool
-isExact found.Nothing = false
+isExact found.None = false
 isExact (found.Exact label) = true
 isExact (found.Fuzzy label reason) = false

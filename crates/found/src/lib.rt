@@ -1,12 +1,12 @@
 // What a search holds from record to record (document 01, "The signature list"): added by the port.
 ghost use mathlib.Core.Path.{_≡_};
-ghost use Rattle.found.specs.Keep.{fitsNothing, keep, isExact};
+ghost use Rattle.found.specs.Keep.{isNone, keep, isExact};
 use matching::FuzzyReason;
 use matching::SignatureFit;
 
 // What a search finds: three answers, with the record's label.
 pub enum Found {
-    Nothing,
+    None,
     Exact(u16),
     Fuzzy(u16, FuzzyReason),
 }
@@ -15,17 +15,17 @@ pub fn is_exact(found: Found) -> bool
     ensures { λ r. ⌜ r ≡ isExact found ⌝ }
 {
     match found {
-        Found::Nothing => false,
+        Found::None => false,
         Found::Exact(_) => true,
         Found::Fuzzy(_, _) => false,
     }
 }
 
-pub fn is_nothing(fit: SignatureFit) -> bool
-    ensures { λ r. ⌜ r ≡ fitsNothing fit ⌝ }
+pub fn is_none(fit: SignatureFit) -> bool
+    ensures { λ r. ⌜ r ≡ isNone fit ⌝ }
 {
     match fit {
-        SignatureFit::Nothing => true,
+        SignatureFit::None => true,
         SignatureFit::Exact => false,
         SignatureFit::Fuzzy(_) => false,
     }
@@ -36,14 +36,14 @@ pub fn keep_fit(held: Found, label: u16, fit: SignatureFit) -> Found
     ensures { λ r. ⌜ r ≡ keep held label fit ⌝ }
 {
     match fit {
-        SignatureFit::Nothing => held,
+        SignatureFit::None => held,
         SignatureFit::Exact => match held {
-            Found::Nothing => Found::Exact(label),
+            Found::None => Found::Exact(label),
             Found::Exact(kept) => Found::Exact(kept),
             Found::Fuzzy(_, _) => Found::Exact(label),
         },
         SignatureFit::Fuzzy(reason) => match held {
-            Found::Nothing => Found::Fuzzy(label, reason),
+            Found::None => Found::Fuzzy(label, reason),
             Found::Exact(kept) => Found::Exact(kept),
             Found::Fuzzy(kept, why) => Found::Fuzzy(kept, why),
         },

@@ -18,17 +18,18 @@ use Rattle.siglist.specs.declared.ListAnswer.{ListAnswer}
 use Rattle.siglist.specs.declared.ListAnswer.the-variants as list
 use Rattle.sigrecord.specs.Record.{signatureOf, entryCount, labelOf}
 use Rattle.siglist.specs.List.{recordCount, listFits, recordStart, recordAt, entriesOf, recordGood, checkList}
-use Rattle.siglist.proofs.Refusals.{Checked, does-not-fit, first-bad-named}
+use Rattle.siglist.proofs.FirstBad.{Checked, does-not-fit, first-bad-named}
 use Rattle.found.specs.declared.Found.{Found}
 use Rattle.found.specs.declared.Found.the-variants as found
 use Rattle.found.specs.Keep.{keep}
 use Rattle.search.specs.Search.{fitAt, searchFrom, numbersFrom, searchOver, searchAll}
 use Rattle.packet_answer.specs.Packet.{peerOf, judged, answerOf}
 use Rattle.gateway.specs.Code.{fieldsOf, codeOf, afterList, gatewayAnswer}
-use Rattle.gateway.specs.Decode.{AllBytes, FoundFits, PacketFits, AnswerFits}
+use Rattle.gateway.specs.Decode.{AllBytes}
+use Rattle.gateway.proofs.Room.{FoundFits, PacketFits, AnswerFits}
 use Rattle.gateway.proofs.ReadBack.{injective}
 use Rattle.gateway.proofs.Given.{part-bytes, two-bytes, RefusedFits, reading-fits}
-use Rattle.gateway.proofs.Tolerated.{FitSmall, or-nothing, fit-small}
+use Rattle.gateway.proofs.Tolerated.{FitSmall, or-none, fit-small}
 
 -- ---- the search
 
@@ -41,10 +42,10 @@ keep-fits
     → FoundFits (keep held label x)
 unfolding keep
 keep-fits (found.Exact kept) label x hl hf hx = hf
-keep-fits found.Nothing label fit.Nothing hl hf hx = tt
-keep-fits found.Nothing label fit.Exact hl hf hx = hl
-keep-fits found.Nothing label (fit.Fuzzy r) hl hf hx = (hl, hx .0, hx .1, hx .2)
-keep-fits (found.Fuzzy kept why) label fit.Nothing hl hf hx = hf
+keep-fits found.None label fit.None hl hf hx = tt
+keep-fits found.None label fit.Exact hl hf hx = hl
+keep-fits found.None label (fit.Fuzzy r) hl hf hx = (hl, hx .0, hx .1, hx .2)
+keep-fits (found.Fuzzy kept why) label fit.None hl hf hx = hf
 keep-fits (found.Fuzzy kept why) label fit.Exact hl hf hx = hl
 keep-fits (found.Fuzzy kept why) label (fit.Fuzzy r) hl hf hx = hf
 
@@ -57,7 +58,7 @@ module _ (l : List ℕ) (lent : AllBytes l) where
   record-small : (f : Features) (kinds bytes : List ℕ) (i : ℕ) → FitSmall (fitAt f kinds bytes l i)
   unfolding fitAt
   record-small f kinds bytes i =
-      or-nothing (listFits l && ltb i (recordCount l) && recordGood l i)
+      or-none (listFits l && ltb i (recordCount l) && recordGood l i)
       (fitOf f kinds bytes (signatureOf (recordAt l i)) (entryCount (recordAt l i)) (entriesOf l (recordAt l i)))
       (fit-small f kinds bytes (recordAt l i) (entryCount (recordAt l i)) (entriesOf l (recordAt l i)) (record-bytes i))
 
@@ -77,7 +78,7 @@ module _ (l : List ℕ) (lent : AllBytes l) where
   found-fits : (r : Reading) → FoundFits (searchAll (r .observation) l)
   unfolding searchAll searchOver
   found-fits r =
-      search-fits found.Nothing (featuresOf (r .observation)) (r .observation .olayout .kinds) (r .observation .olayout .bytes)
+      search-fits found.None (featuresOf (r .observation)) (r .observation .olayout .kinds) (r .observation .olayout .bytes)
       (numbersFrom 0 (recordCount l))
       tt
 

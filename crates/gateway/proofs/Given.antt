@@ -23,7 +23,8 @@ use Rattle.flow.specs.declared.Reading.{Reading}
 use Rattle.flow.specs.Flags.{flagsInvalid, isSynType, isSynAckType}
 use Rattle.flow.specs.Tcp.{readTcp}
 use Rattle.flow.specs.Reading.{tcpPart, afterIp, readPacket}
-use Rattle.gateway.specs.Decode.{AllBytes, RefusalFits}
+use Rattle.gateway.specs.Decode.{AllBytes}
+use Rattle.gateway.proofs.Room.{RefusalFits}
 
 -- ---- byte strings
 

@@ -1,5 +1,6 @@
 pub mod Fits
 pub mod Given
 pub mod ReadBack
+pub mod Room
 pub mod Tolerated
 pub mod Unique

@@ -17,7 +17,8 @@ use Rattle.gateway.specs.declared.GatewayAnswer.{GatewayAnswer}
 use Rattle.gateway.specs.declared.GatewayAnswer.the-variants as gateway
 use Rattle.gateway.specs.declared.Fields.{Fields}
 use Rattle.gateway.specs.Code.{plain, hopsOf, farOf, foundFields, givenBy, packetFields, fieldsOf, codeOf}
-use Rattle.gateway.specs.Decode.{fieldsFrom, foundFrom, answerFrom, HopsFit, FoundFits, RefusalFits, AnswerFits}
+use Rattle.gateway.specs.Decode.{fieldsFrom, foundFrom, answerFrom}
+use Rattle.gateway.proofs.Room.{HopsFit, FoundFits, RefusalFits, AnswerFits}
 
 -- ---- the bytes of a number
 
@@ -73,7 +74,7 @@ hops-small (hops.OutOfRange d) h = h
 
 found-fit : (kind : ℕ) (f : Found) → kind < 256 → FoundFits f → Fit (foundFields kind f)
 unfolding foundFields
-found-fit kind found.Nothing k h = plain-fit 3 kind 0 (omega arith) k (omega arith)
+found-fit kind found.None k h = plain-fit 3 kind 0 (omega arith) k (omega arith)
 found-fit kind (found.Exact label) k h = plain-fit 1 kind label (omega arith) k h
 found-fit kind (found.Fuzzy label reason) k h =
     record {
@@ -110,7 +111,7 @@ hops-back (hops.OutOfRange d) = refl
 
 found-back : (kind : ℕ) (f : Found) → FoundFits f → foundFrom (foundFields kind f) ≡ f
 unfolding foundFields
-found-back kind found.Nothing h = refl
+found-back kind found.None h = refl
 found-back kind (found.Exact label) h = refl
 found-back kind (found.Fuzzy label reason) h =
     rw (hops-back (reason .hops), mod-eq-of-lt (h .1), mod-eq-of-lt (h .2))
@@ -127,11 +128,11 @@ refusal-back (refusal.InvalidTcpFlags flags) = refl
 
 answer-back : (a : GatewayAnswer) → AnswerFits a → answerFrom (fieldsOf a) ≡ a
 unfolding fieldsOf packetFields foundFields
-answer-back (gateway.Packet (packet.Syn found.Nothing)) h = refl
+answer-back (gateway.Packet (packet.Syn found.None)) h = refl
 answer-back (gateway.Packet (packet.Syn (found.Exact label))) h = refl
 answer-back (gateway.Packet (packet.Syn (found.Fuzzy label reason))) h =
     ap (λ (g : Found). gateway.Packet (packet.Syn g)) (found-back 1 (found.Fuzzy label reason) h)
-answer-back (gateway.Packet (packet.SynAck found.Nothing)) h = refl
+answer-back (gateway.Packet (packet.SynAck found.None)) h = refl
 answer-back (gateway.Packet (packet.SynAck (found.Exact label))) h = refl
 answer-back (gateway.Packet (packet.SynAck (found.Fuzzy label reason))) h =
     ap (λ (g : Found). gateway.Packet (packet.SynAck g)) (found-back 2 (found.Fuzzy label reason) h)

@@ -28,7 +28,8 @@ use Rattle.gates.specs.Gates.{layoutMatches}
 use Rattle.matching.specs.Tolerance.{maskedQuirks, quirksFit, judgeInRange, judge}
 use Rattle.matching.specs.Fit.{scalarGates, toleranceOf, fitOf}
 use Rattle.sigrecord.specs.Record.{ttlOf, signatureOf}
-use Rattle.gateway.specs.Decode.{AllBytes, HopsFit}
+use Rattle.gateway.specs.Decode.{AllBytes}
+use Rattle.gateway.proofs.Room.{HopsFit}
 
 -- ---- the quirks
 
@@ -129,7 +130,7 @@ initial-small form t d h = form-small (eqb form 0) (eqb form 1) (eqb form 2) t d
 
 -- The reason of a fuzzy fit has small numbers.
 abbrev pub FitSmall : SignatureFit → Type 0
-FitSmall fit.Nothing = Unit {0}
+FitSmall fit.None = Unit {0}
 FitSmall fit.Exact = Unit {0}
 FitSmall (fit.Fuzzy r) = (bitsOf (r .added) < 256) × (bitsOf (r .missing) < 256) × HopsFit (r .hops)
 
@@ -151,9 +152,9 @@ judge-small (ttlfit.OutOfRange d) quirksfit.Rejected ht hq = tt
 judge-small (ttlfit.OutOfRange d) (quirksfit.Tolerated q) ht hq = (hq .0, hq .1, ht)
 
 -- A fit that a test may turn to nothing.
-pub or-nothing : (t : Bool) (x : SignatureFit) → FitSmall x → FitSmall (cond t x fit.Nothing)
-or-nothing true x h = h
-or-nothing false x h = tt
+pub or-none : (t : Bool) (x : SignatureFit) → FitSmall x → FitSmall (cond t x fit.None)
+or-none true x h = h
+or-none false x h = tt
 
 -- The fit of a record whose bytes are bytes.
 pub fit-small
@@ -162,7 +163,7 @@ pub fit-small
     → FitSmall (fitOf f kinds bytes (signatureOf r) count entries)
 unfolding fitOf toleranceOf signatureOf
 fit-small f kinds bytes r count entries h =
-    or-nothing
+    or-none
     (scalarGates f (signatureOf r) && layoutMatches (f .count) kinds bytes count entries)
     (toleranceOf f (signatureOf r))
     (judge-small _ _

@@ -38,7 +38,7 @@ farOf hops.InRange = 0
 farOf (hops.OutOfRange d) = 1
 
 unfoldable pub foundFields : ℕ → Found → Fields
-foundFields kind found.Nothing = plain 3 kind 0
+foundFields kind found.None = plain 3 kind 0
 foundFields kind (found.Exact label) = plain 1 kind label
 foundFields kind (found.Fuzzy label reason) =
     record {

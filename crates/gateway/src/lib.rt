@@ -76,7 +76,7 @@ fn found_fields(kind: u8, found: Found) -> Fields
     ensures { λ r. ⌜ r ≡ foundFields kind found ⌝ }
 {
     match found {
-        Found::Nothing => plain(3, kind, 0),
+        Found::None => plain(3, kind, 0),
         Found::Exact(label) => plain(1, kind, label),
         Found::Fuzzy(label, reason) => {
             let hops = reason.hops;
@@ -158,7 +158,7 @@ pub extern "C" fn termread_check_list(list: &[u8]) -> u64
     }
 }
 
-// The answer of a packet against a list that was checked: what is not a well-formed record of it fits nothing.
+// The answer of a packet against a list that was checked: what is not a well-formed record of it does not fit.
 #[no_mangle]
 pub extern "C" fn termread_answer_checked(packet: &[u8], peer: u16, list: &[u8]) -> u64
     ensures { λ r. ⌜ r ≡ codeOf (packetFields (answerOf (now (packet .entry)) (peerOf peer) (now (list .entry)))) ⌝ }

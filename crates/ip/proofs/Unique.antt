@@ -7,22 +7,14 @@ use Rattle.basis.specs.Unique.{ExactlyOne}
 use Rattle.basis.proofs.Unique.{equation}
 use Rattle.ip.specs.declared.IpRead.{IpRead}
 use Rattle.ip.specs.declared.Refusal.{Refusal}
-use Rattle.ip.specs.Ip.{readIpv4, readIpv6, readIp}
+use Rattle.ip.specs.Ip.{readIp}
 use Rattle.ip.specs.Numbers.{number}
 use Rattle.ip.proofs.refusal_number.Reads as refusal-number'
-use Rattle.ip.proofs.process_tcp_ipv4.Reads as process-tcp-ipv4'
-use Rattle.ip.proofs.process_tcp_ipv6.Reads as process-tcp-ipv6'
 use Rattle.ip.proofs.read_ip.Reads as read-ip'
 
 pub refusal-number-one : (refusal : Refusal) → ExactlyOne ℕ (λ (r : ℕ). refusal-number'.Post tt (refusal, tt) r (refusal, tt))
 refusal-number-one refusal = equation (number refusal)
 
 module _ (κs : Lfts 1) (packet : RefT (List ℕ)) where
-  pub process-tcp-ipv4-one : ExactlyOne IpRead (λ (r : IpRead). process-tcp-ipv4'.Post κs (packet, tt) r (packet, tt))
-  process-tcp-ipv4-one = equation (readIpv4 (now packet))
-
-  pub process-tcp-ipv6-one : ExactlyOne IpRead (λ (r : IpRead). process-tcp-ipv6'.Post κs (packet, tt) r (packet, tt))
-  process-tcp-ipv6-one = equation (readIpv6 (now packet))
-
   pub read-ip-one : ExactlyOne IpRead (λ (r : IpRead). read-ip'.Post κs (packet, tt) r (packet, tt))
   read-ip-one = equation (readIp (now packet))

@@ -116,7 +116,7 @@ fn ipv4_facts(packet: &[u8], start: usize, end: usize) -> IpFacts
     }
 }
 
-pub fn process_tcp_ipv4(packet: &[u8]) -> IpRead
+fn process_tcp_ipv4(packet: &[u8]) -> IpRead
     ensures { λ r. ⌜ r ≡ readIpv4 (now (packet .entry)) ⌝ }
 {
     if packet.len() < IPV4_HEADER {
@@ -169,7 +169,7 @@ fn ipv6_facts(packet: &[u8], end: usize) -> IpFacts
     }
 }
 
-pub fn process_tcp_ipv6(packet: &[u8]) -> IpRead
+fn process_tcp_ipv6(packet: &[u8]) -> IpRead
     ensures { λ r. ⌜ r ≡ readIpv6 (now (packet .entry)) ⌝ }
 {
     if packet.len() < IPV6_HEADER {

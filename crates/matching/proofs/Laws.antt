@@ -62,7 +62,7 @@ exact-fit f kinds bytes s count entries = by-gates (scalarGates f s && layoutMat
   where
     by-gates
         : (t : Bool)
-        → cond t (judge (ttlFit (f .ttl) (s .ittl)) (quirksFit (f .quirks) (maskedQuirks (s .quirks) (s .version) (f .version)))) answer.Nothing
+        → cond t (judge (ttlFit (f .ttl) (s .ittl)) (quirksFit (f .quirks) (maskedQuirks (s .quirks) (s .version) (f .version)))) answer.None
         ≡ answer.Exact
         → Untolerated (ttlFit (f .ttl) (s .ittl)) (quirksFit (f .quirks) (maskedQuirks (s .quirks) (s .version) (f .version)))
     by-gates true e = exact-untolerated _ _ e

@@ -9,7 +9,7 @@ use Rattle.matching.specs.declared.Features.{Features}
 use Rattle.matching.specs.declared.Signature.{Signature}
 use Rattle.matching.specs.declared.SignatureFit.{SignatureFit}
 use Rattle.matching.specs.declared.SignatureFit.the-variants as answer
-use Rattle.distances.specs.Gates.{versionMatches, windowMatches, payloadMatches}
+use Rattle.distances.specs.DistanceGates.{versionMatches, windowMatches, payloadMatches}
 use Rattle.gates.specs.Gates.{olenMatches, mssMatches, scaleMatches, layoutMatches}
 use Rattle.distances.specs.Distances.{ttlFit}
 use Rattle.matching.specs.Tolerance.{maskedQuirks, quirksFit, judge}
@@ -49,4 +49,4 @@ unfoldable pub fitOf : Features → List ℕ → List ℕ → Signature → ℕ 
 fitOf f kinds bytes s count entries =
     cond (scalarGates f s && layoutMatches (f .count) kinds bytes count entries)
     (toleranceOf f s)
-    answer.Nothing
+    answer.None

@@ -43,9 +43,9 @@ judgeInRange q =
 
 -- "else fuzzy with a reason: the hop distance if out of range, the added and the missing quirks"
 unfoldable pub judge : TtlFit → QuirksFit → SignatureFit
-judge ttlfit.Rejected quirks = answer.Nothing
-judge (ttlfit.InRange d) quirksfit.Rejected = answer.Nothing
+judge ttlfit.Rejected quirks = answer.None
+judge (ttlfit.InRange d) quirksfit.Rejected = answer.None
 judge (ttlfit.InRange d) (quirksfit.Tolerated q) = judgeInRange q
-judge (ttlfit.OutOfRange d) quirksfit.Rejected = answer.Nothing
+judge (ttlfit.OutOfRange d) quirksfit.Rejected = answer.None
 judge (ttlfit.OutOfRange d) (quirksfit.Tolerated q) =
     answer.Fuzzy (record { hops = hops.OutOfRange d; added = q .added; missing = q .missing })

@@ -71,7 +71,7 @@ pub struct FuzzyReason {
 
 // Three answers.
 pub enum SignatureFit {
-    Nothing,
+    None,
     Exact,
     Fuzzy(FuzzyReason),
 }
@@ -139,13 +139,13 @@ fn judgement(ttl: TtlFit, quirks: QuirksFit) -> SignatureFit
     ensures { λ r. ⌜ r ≡ judge ttl quirks ⌝ }
 {
     match ttl {
-        TtlFit::Rejected => SignatureFit::Nothing,
+        TtlFit::Rejected => SignatureFit::None,
         TtlFit::InRange(_) => match quirks {
-            QuirksFit::Rejected => SignatureFit::Nothing,
+            QuirksFit::Rejected => SignatureFit::None,
             QuirksFit::Tolerated(found) => in_range(found),
         },
         TtlFit::OutOfRange(hops) => match quirks {
-            QuirksFit::Rejected => SignatureFit::Nothing,
+            QuirksFit::Rejected => SignatureFit::None,
             QuirksFit::Tolerated(found) => {
                 let added = found.added;
                 let missing = found.missing;

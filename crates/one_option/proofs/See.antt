@@ -18,7 +18,7 @@ use Rattle.tcp.specs.declared.Wscale.{Wscale}
 use Rattle.tcp.specs.declared.Wscale.the-variants as wscale
 use Rattle.one_option.specs.declared.Seen.{Seen}
 use Rattle.one_option.specs.Options.{Opt}
-use Rattle.one_option.specs.See.{laterMss, laterScale, trailingNonzero, excessiveScaling, ownTimestampZero, peerTimestampNonzero, shownQuirks, seeOption}
+use Rattle.one_option.specs.See.{laterMss, laterScale, trailingNonzero, excessiveScaling, ownTimestampZero, peerTimestampNonzero, laterQuirks, seeOption}
 
 -- An option of a kind with these own bytes.
 abbrev pub opt : ℕ → List ℕ → Opt
@@ -39,28 +39,28 @@ module _ (syn : Bool) (s : Seen) (own : List ℕ) where
       → (kind ≡ 3 → ⊥)
       → (kind ≡ 8 → ⊥)
       → seeOption syn s (opt kind own) ≡ s
-  unfolding seeOption laterMss laterScale trailingNonzero excessiveScaling ownTimestampZero peerTimestampNonzero shownQuirks addIf
+  unfolding seeOption laterMss laterScale trailingNonzero excessiveScaling ownTimestampZero peerTimestampNonzero laterQuirks addIf
   other-kind kind n0 n2 n3 n8 = simp (ne-eqb kind 0 n0, ne-eqb kind 2 n2, ne-eqb kind 3 n3, ne-eqb kind 8 n8)
 
   pub end-of-options
       : seeOption syn s (opt 0 own)
       ≡ record { mss = s .mss; wscale = s .wscale; quirks = addIf (anyNonzero own) quirk.TrailinigNonZero (s .quirks) }
-  unfolding seeOption laterMss laterScale trailingNonzero excessiveScaling ownTimestampZero peerTimestampNonzero shownQuirks addIf
+  unfolding seeOption laterMss laterScale trailingNonzero excessiveScaling ownTimestampZero peerTimestampNonzero laterQuirks addIf
   end-of-options = refl
 
   pub mss-short : length own ≤ 2 → seeOption syn s (opt 2 own) ≡ s
-  unfolding seeOption laterMss laterScale trailingNonzero excessiveScaling ownTimestampZero peerTimestampNonzero shownQuirks addIf
+  unfolding seeOption laterMss laterScale trailingNonzero excessiveScaling ownTimestampZero peerTimestampNonzero laterQuirks addIf
   mss-short h = simp (data-short own 1 h)
 
   pub mss-enough
       : 2 < length own
       → seeOption syn s (opt 2 own)
       ≡ record { mss = mss.Present (byteAt own 1 * 256 + byteAt own 2); wscale = s .wscale; quirks = s .quirks }
-  unfolding seeOption laterMss laterScale trailingNonzero excessiveScaling ownTimestampZero peerTimestampNonzero shownQuirks addIf be16
+  unfolding seeOption laterMss laterScale trailingNonzero excessiveScaling ownTimestampZero peerTimestampNonzero laterQuirks addIf be16
   mss-enough h = simp (data-enough own 2 h, getD-drop)
 
   pub scale-short : length own ≤ 1 → seeOption syn s (opt 3 own) ≡ s
-  unfolding seeOption laterMss laterScale trailingNonzero excessiveScaling ownTimestampZero peerTimestampNonzero shownQuirks addIf
+  unfolding seeOption laterMss laterScale trailingNonzero excessiveScaling ownTimestampZero peerTimestampNonzero laterQuirks addIf
   scale-short h = simp (data-short own 0 h)
 
   pub scale-enough
@@ -71,11 +71,11 @@ module _ (syn : Bool) (s : Seen) (own : List ℕ) where
         wscale = wscale.Present (byteAt own 1);
         quirks = addIf (ltb 14 (byteAt own 1)) quirk.ExcessiveWindowScaling (s .quirks);
       }
-  unfolding seeOption laterMss laterScale trailingNonzero excessiveScaling ownTimestampZero peerTimestampNonzero shownQuirks addIf
+  unfolding seeOption laterMss laterScale trailingNonzero excessiveScaling ownTimestampZero peerTimestampNonzero laterQuirks addIf
   scale-enough h = simp (data-enough own 1 h, getD-drop)
 
   pub stamps-none : length own ≤ 4 → seeOption syn s (opt 8 own) ≡ s
-  unfolding seeOption laterMss laterScale trailingNonzero excessiveScaling ownTimestampZero peerTimestampNonzero shownQuirks addIf
+  unfolding seeOption laterMss laterScale trailingNonzero excessiveScaling ownTimestampZero peerTimestampNonzero laterQuirks addIf
   stamps-none h = simp (data-short own 3 h, data-short own 7 (omega arith))
 
   pub stamps-own
@@ -87,7 +87,7 @@ module _ (syn : Bool) (s : Seen) (own : List ℕ) where
         wscale = s .wscale;
         quirks = addIf (eqb (be32 own 1) 0) quirk.OwnTimestampZero (s .quirks);
       }
-  unfolding seeOption laterMss laterScale trailingNonzero excessiveScaling ownTimestampZero peerTimestampNonzero shownQuirks addIf be32 be16
+  unfolding seeOption laterMss laterScale trailingNonzero excessiveScaling ownTimestampZero peerTimestampNonzero laterQuirks addIf be32 be16
   stamps-own h k = simp (data-enough own 4 h, data-short own 7 k, getD-drop)
 
   pub stamps-both
@@ -100,7 +100,7 @@ module _ (syn : Bool) (s : Seen) (own : List ℕ) where
             addIf (syn && not (eqb (be32 own 5) 0)) quirk.PeerTimestampNonZero
             (addIf (eqb (be32 own 1) 0) quirk.OwnTimestampZero (s .quirks));
       }
-  unfolding seeOption laterMss laterScale trailingNonzero excessiveScaling ownTimestampZero peerTimestampNonzero shownQuirks addIf be32 be16
+  unfolding seeOption laterMss laterScale trailingNonzero excessiveScaling ownTimestampZero peerTimestampNonzero laterQuirks addIf be32 be16
   stamps-both h = simp (data-enough own 4 (omega arith), data-enough own 8 h, getD-drop)
 
 -- ---- field by field
@@ -110,11 +110,11 @@ abbrev pub just : QuirkSet → Seen
 just q = record { mss = mss.Absent; wscale = wscale.Absent; quirks = q }
 
 module _ (syn : Bool) (q : QuirkSet) (own : List ℕ) where
-  pub other-quirks : (kind : ℕ) → (kind ≡ 0 → ⊥) → (kind ≡ 3 → ⊥) → (kind ≡ 8 → ⊥) → shownQuirks syn q (opt kind own) ≡ q
-  unfolding trailingNonzero excessiveScaling ownTimestampZero peerTimestampNonzero shownQuirks addIf
+  pub other-quirks : (kind : ℕ) → (kind ≡ 0 → ⊥) → (kind ≡ 3 → ⊥) → (kind ≡ 8 → ⊥) → laterQuirks syn q (opt kind own) ≡ q
+  unfolding trailingNonzero excessiveScaling ownTimestampZero peerTimestampNonzero laterQuirks addIf
   other-quirks kind n0 n3 n8 = simp (ne-eqb kind 0 n0, ne-eqb kind 3 n3, ne-eqb kind 8 n8)
 
-  pub quirks-of : (o : Opt) {t : Seen} → seeOption syn (just q) o ≡ t → shownQuirks syn q o ≡ t .quirks
+  pub quirks-of : (o : Opt) {t : Seen} → seeOption syn (just q) o ≡ t → laterQuirks syn q o ≡ t .quirks
   unfolding seeOption
   quirks-of o e = ap (λ (x : Seen). x .quirks) e
 

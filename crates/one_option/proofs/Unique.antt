@@ -10,7 +10,7 @@ use Rattle.quirks.specs.declared.QuirkSet.{QuirkSet}
 use Rattle.tcp.specs.declared.Mss.{Mss}
 use Rattle.tcp.specs.declared.Wscale.{Wscale}
 use Rattle.one_option.specs.Options.{asked}
-use Rattle.one_option.specs.See.{laterMss, laterScale, shownQuirks}
+use Rattle.one_option.specs.See.{laterMss, laterScale, laterQuirks}
 use Rattle.one_option.proofs.See.{opt}
 use Rattle.one_option.proofs.asked_bytes.Reads as asked-bytes'
 use Rattle.one_option.proofs.later_mss.Reads as later-mss'
@@ -30,4 +30,4 @@ module _ (κs : Lfts 1) (kind : ℕ) (own : RefT (List ℕ)) where
   pub later-quirks-one
       : (syn : Bool) (q : QuirkSet)
       → ExactlyOne QuirkSet (λ (r : QuirkSet). later-quirks'.Post κs (kind, (own, (syn, (q, tt)))) r (kind, (own, (syn, (q, tt)))))
-  later-quirks-one syn q = equation (shownQuirks syn q (opt kind (now own)))
+  later-quirks-one syn q = equation (laterQuirks syn q (opt kind (now own)))

@@ -38,8 +38,8 @@ unfoldable pub peerTimestampNonzero : Bool → Opt → Bool
 peerTimestampNonzero syn o = eqb (o .kind) 8 && leb 8 (length (dataOf o)) && (syn && not (eqb (be32 (dataOf o) 4) 0))
 
 -- "Quirks once shown stay."
-unfoldable pub shownQuirks : Bool → QuirkSet → Opt → QuirkSet
-shownQuirks syn q o =
+unfoldable pub laterQuirks : Bool → QuirkSet → Opt → QuirkSet
+laterQuirks syn q o =
     addIf (peerTimestampNonzero syn o) quirk.PeerTimestampNonZero
     (addIf (ownTimestampZero o) quirk.OwnTimestampZero
     (addIf (excessiveScaling o) quirk.ExcessiveWindowScaling
@@ -51,5 +51,5 @@ seeOption syn s o =
     record {
       mss = laterMss (s .mss) o;
       wscale = laterScale (s .wscale) o;
-      quirks = shownQuirks syn (s .quirks) o;
+      quirks = laterQuirks syn (s .quirks) o;
     }

@@ -2,7 +2,7 @@
 ghost use mathlib.Core.Path.{_≡_};
 ghost use Rattle.basis.specs.Bytes.{anyNonzero};
 ghost use Rattle.one_option.specs.Options.{asked};
-ghost use Rattle.one_option.specs.See.{laterMss, laterScale, shownQuirks};
+ghost use Rattle.one_option.specs.See.{laterMss, laterScale, laterQuirks};
 use numbers::be16;
 use numbers::be32;
 use quirks::Quirk;
@@ -89,13 +89,13 @@ pub fn later_scale(kind: u8, own: &[u8], wscale: Wscale) -> Wscale
 }
 
 fn end_quirks(own: &[u8], syn: bool, quirks: QuirkSet) -> QuirkSet
-    ensures { λ r. ⌜ r ≡ shownQuirks syn quirks (record { kind = 0; own = now (own .entry) }) ⌝ }
+    ensures { λ r. ⌜ r ≡ laterQuirks syn quirks (record { kind = 0; own = now (own .entry) }) ⌝ }
 {
     quirks.add_if(any_nonzero(own), Quirk::TrailinigNonZero)
 }
 
 fn scale_quirks(own: &[u8], syn: bool, quirks: QuirkSet) -> QuirkSet
-    ensures { λ r. ⌜ r ≡ shownQuirks syn quirks (record { kind = 3; own = now (own .entry) }) ⌝ }
+    ensures { λ r. ⌜ r ≡ laterQuirks syn quirks (record { kind = 3; own = now (own .entry) }) ⌝ }
 {
     if own.len() < 2 {
         return quirks;
@@ -105,7 +105,7 @@ fn scale_quirks(own: &[u8], syn: bool, quirks: QuirkSet) -> QuirkSet
 }
 
 fn stamp_quirks(own: &[u8], syn: bool, before: QuirkSet) -> QuirkSet
-    ensures { λ r. ⌜ r ≡ shownQuirks syn before (record { kind = 8; own = now (own .entry) }) ⌝ }
+    ensures { λ r. ⌜ r ≡ laterQuirks syn before (record { kind = 8; own = now (own .entry) }) ⌝ }
 {
     if own.len() < 5 {
         return before;
@@ -121,7 +121,7 @@ fn stamp_quirks(own: &[u8], syn: bool, before: QuirkSet) -> QuirkSet
 
 // The quirks after one option more.
 pub fn later_quirks(kind: u8, own: &[u8], syn: bool, quirks: QuirkSet) -> QuirkSet
-    ensures { λ r. ⌜ r ≡ shownQuirks syn quirks (record { kind = kind; own = now (own .entry) }) ⌝ }
+    ensures { λ r. ⌜ r ≡ laterQuirks syn quirks (record { kind = kind; own = now (own .entry) }) ⌝ }
 {
     if kind == TIMESTAMPS {
         return stamp_quirks(own, syn, quirks);

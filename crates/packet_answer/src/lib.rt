@@ -26,7 +26,7 @@ pub fn peer_of(number: u16) -> Mss
     Mss::Present(number)
 }
 
-// The answer of a packet against a list that was checked: what is not a well-formed record of the list fits nothing.
+// The answer of a packet against a list that was checked: what is not a well-formed record of the list does not fit.
 pub fn answer_packet(packet: &[u8], peer: Mss, list: &[u8]) -> PacketAnswer
     ensures { λ r. ⌜ r ≡ answerOf (now (packet .entry)) peer (now (list .entry)) ⌝ }
 {

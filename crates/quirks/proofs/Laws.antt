@@ -12,7 +12,7 @@ use Rattle.basis.specs.Digits.{digit}
 use Rattle.basis.proofs.Digits.{digit-lt, digit-and, digit-or, digit-not, and-power, digit-power-same, digit-power-other}
 use Rattle.quirks.specs.declared.Quirk.{Quirk}
 use Rattle.quirks.specs.declared.QuirkSet.{QuirkSet}
-use Rattle.quirks.specs.Quirks.{placeOf, bitOf, bitsOf, holds, contains, with, difference, union, intersection}
+use Rattle.quirks.specs.Quirks.{placeOf, bitOf, bitsOf, holds, contains, with, difference}
 use Rattle.quirks.proofs.Places.{place-lt, place-injective}
 
 -- ---- the code's test of a quirk
@@ -55,18 +55,6 @@ not-test zero k = refl
 not-test (suc zero) k = refl
 not-test (suc (suc b)) k = absurd (omega arith)
 
-pub holds-union : (a b : QuirkSet) (k : ℕ) → holds (union a b) k ≡ holds a k || holds b k
-unfolding holds union
-holds-union a b k =
-    ap (λ (n : ℕ). eqb n 1) (digit-or (bitsOf a) (bitsOf b) k)
-    ∙ max-test (digit (bitsOf a) k) (digit (bitsOf b) k) (digit-lt (bitsOf a) k) (digit-lt (bitsOf b) k)
-
-pub holds-intersection : (a b : QuirkSet) (k : ℕ) → holds (intersection a b) k ≡ holds a k && holds b k
-unfolding holds intersection
-holds-intersection a b k =
-    ap (λ (n : ℕ). eqb n 1) (digit-and (bitsOf a) (bitsOf b) k)
-    ∙ min-test (digit (bitsOf a) k) (digit (bitsOf b) k) (digit-lt (bitsOf a) k) (digit-lt (bitsOf b) k)
-
 pub digit-difference
     : (a b : QuirkSet) (k : ℕ)
     → bitsOf b < 2 ^ 32
@@ -91,14 +79,6 @@ holds-difference a b k small low =
     ∙ ap (λ (t : Bool). eqb (digit (bitsOf a) k) 1 && t) (not-test (digit (bitsOf b) k) db)
 
 -- ---- by quirks
-
-pub contains-union : (a b : QuirkSet) (q : Quirk) → contains (union a b) q ≡ contains a q || contains b q
-unfolding contains
-contains-union a b q = holds-union a b (placeOf q)
-
-pub contains-intersection : (a b : QuirkSet) (q : Quirk) → contains (intersection a b) q ≡ contains a q && contains b q
-unfolding contains
-contains-intersection a b q = holds-intersection a b (placeOf q)
 
 pub contains-difference
     : (a b : QuirkSet) (q : Quirk)

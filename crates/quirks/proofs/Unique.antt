@@ -6,19 +6,16 @@ use Rattle.basis.proofs.Unique.{equation}
 use Rattle.quirks.specs.declared.Quirk.{Quirk}
 use Rattle.quirks.specs.declared.QuirkSet.{QuirkSet}
 use Rattle.quirks.specs.declared.NamedSets.{NamedSets}
-use Rattle.quirks.specs.Quirks.{bitOf, setOf, bitsOf, isEmpty, contains, with, addIf, difference, union, intersection}
+use Rattle.quirks.specs.Quirks.{bitOf, setOf, bitsOf, isEmpty, contains, with, addIf, difference}
 use Rattle.quirks.specs.Named.{namedSets}
 use Rattle.quirks.proofs.Quirk.bit.Reads as bit'
 use Rattle.quirks.proofs.QuirkSet.from_bits.Reads as from-bits'
 use Rattle.quirks.proofs.QuirkSet.bits.Reads as bits'
 use Rattle.quirks.proofs.QuirkSet.is_empty.Reads as is-empty'
 use Rattle.quirks.proofs.QuirkSet.contains.Reads as contains'
-use Rattle.quirks.proofs.QuirkSet.with.Reads as with'
 use Rattle.quirks.proofs.QuirkSet.insert.Reads as insert'
 use Rattle.quirks.proofs.QuirkSet.add_if.Reads as add-if'
 use Rattle.quirks.proofs.QuirkSet.difference.Reads as difference'
-use Rattle.quirks.proofs.QuirkSet.union.Reads as union'
-use Rattle.quirks.proofs.QuirkSet.intersection.Reads as intersection'
 use Rattle.quirks.proofs.named_sets.Reads as named-sets'
 
 pub bit-one : (q : Quirk) → ExactlyOne ℕ (λ (r : ℕ). bit'.Post tt (q, tt) r (q, tt))
@@ -36,9 +33,6 @@ is-empty-one s = equation (isEmpty s)
 pub contains-one : (s : QuirkSet) (q : Quirk) → ExactlyOne Bool (λ (r : Bool). contains'.Post tt (s, (q, tt)) r (s, (q, tt)))
 contains-one s q = equation (contains s q)
 
-pub with-one : (s : QuirkSet) (q : Quirk) → ExactlyOne QuirkSet (λ (r : QuirkSet). with'.Post tt (s, (q, tt)) r (s, (q, tt)))
-with-one s q = equation (with s q)
-
 pub insert-one : (s : QuirkSet) (q : Quirk) → ExactlyOne QuirkSet (λ (r : QuirkSet). insert'.Post tt (s, (q, tt)) r (s, (q, tt)))
 insert-one s q = equation (with s q)
 
@@ -49,12 +43,6 @@ add-if-one s t q = equation (addIf t q s)
 
 pub difference-one : (a b : QuirkSet) → ExactlyOne QuirkSet (λ (r : QuirkSet). difference'.Post tt (a, (b, tt)) r (a, (b, tt)))
 difference-one a b = equation (difference a b)
-
-pub union-one : (a b : QuirkSet) → ExactlyOne QuirkSet (λ (r : QuirkSet). union'.Post tt (a, (b, tt)) r (a, (b, tt)))
-union-one a b = equation (union a b)
-
-pub intersection-one : (a b : QuirkSet) → ExactlyOne QuirkSet (λ (r : QuirkSet). intersection'.Post tt (a, (b, tt)) r (a, (b, tt)))
-intersection-one a b = equation (intersection a b)
 
 pub named-sets-one : ExactlyOne NamedSets (λ (r : NamedSets). named-sets'.Post tt tt r tt)
 named-sets-one = equation namedSets

@@ -52,7 +52,7 @@ contains s q = holds s (placeOf q)
 unfoldable pub isEmpty : QuirkSet → Bool
 isEmpty s = eqb (bitsOf s) 0
 
--- Bit by bit: one quirk more; in the first and not in the second; in either; in both.
+-- One quirk more.
 unfoldable pub with : QuirkSet → Quirk → QuirkSet
 with s q = setOf (bitOr (bitsOf s) (bitOf q))
 
@@ -60,14 +60,9 @@ with s q = setOf (bitOr (bitsOf s) (bitOf q))
 unfoldable pub addIf : Bool → Quirk → QuirkSet → QuirkSet
 addIf t q s = cond t (with s q) s
 
+-- What is in the first set and not in the second, bit by bit.
 unfoldable pub difference : QuirkSet → QuirkSet → QuirkSet
 difference a b = setOf (bitAnd (bitsOf a) (2 ^ 32 - 1 - bitsOf b))
-
-unfoldable pub union : QuirkSet → QuirkSet → QuirkSet
-union a b = setOf (bitOr (bitsOf a) (bitsOf b))
-
-unfoldable pub intersection : QuirkSet → QuirkSet → QuirkSet
-intersection a b = setOf (bitAnd (bitsOf a) (bitsOf b))
 
 -- Every place, and every quirk, of the first set is one of the second.
 unfoldable pub SubsetByPlaces : QuirkSet → QuirkSet → Type 0

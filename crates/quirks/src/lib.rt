@@ -1,7 +1,7 @@
 // quirks.rs: quirks of IP and TCP headers, and sets of them as the bits of p0f's QUIRK_*.
 ghost use mathlib.Core.Path.{_≡_};
 ghost use Prim.Native.Nat.{ℕ};
-ghost use Rattle.quirks.specs.Quirks.{bitOf, setOf, bitsOf, isEmpty, contains, with, addIf, difference, union, intersection};
+ghost use Rattle.quirks.specs.Quirks.{bitOf, setOf, bitsOf, isEmpty, contains, with, addIf, difference};
 ghost use Rattle.quirks.specs.Named.{namedSets};
 
 // A quirk, in the order of p0f's text form (the names are the original's, its spelling included).
@@ -108,26 +108,18 @@ impl QuirkSet {
         self.0 & quirk.bit() != 0
     }
 
-    // The set with one quirk more.
-    pub fn with(self, quirk: Quirk) -> Self
-        ensures { λ r. ⌜ r ≡ with self quirk ⌝ }
-    {
-        Self(self.0 | quirk.bit())
-    }
-
-    // The original changes the set in place; here the new set is handed back.
+    // The set with one quirk more. The original changes the set in place; here the new set is handed back.
     pub fn insert(self, quirk: Quirk) -> Self
         ensures { λ r. ⌜ r ≡ with self quirk ⌝ }
     {
-        let more = self.with(quirk);
-        more
+        Self(self.0 | quirk.bit())
     }
 
     // The set with one quirk more where a test holds: the original's `if test { quirks.insert(quirk) }`.
     pub fn add_if(self, test: bool, quirk: Quirk) -> Self
         ensures { λ r. ⌜ r ≡ addIf test quirk self ⌝ }
     {
-        if test { self.with(quirk) } else { self }
+        if test { self.insert(quirk) } else { self }
     }
 
     // The quirks of this set that the other lacks.
@@ -135,18 +127,6 @@ impl QuirkSet {
         ensures { λ r. ⌜ r ≡ difference self other ⌝ }
     {
         Self(self.0 & !other.0)
-    }
-
-    pub fn union(self, other: Self) -> Self
-        ensures { λ r. ⌜ r ≡ union self other ⌝ }
-    {
-        Self(self.0 | other.0)
-    }
-
-    pub fn intersection(self, other: Self) -> Self
-        ensures { λ r. ⌜ r ≡ intersection self other ⌝ }
-    {
-        Self(self.0 & other.0)
     }
 }
 

@@ -3,18 +3,13 @@ use mathlib.Core.Path.{_≡_, refl, ap₂}
 use mathlib.Core.Bool.{Bool}
 use Prim.Native.Nat.{ℕ}
 use mathlib.Core.List.{List}
-use lib.ListN.{length}
 use contract.Lifetimes.{Lfts}
 use denote.Ref.{RefT, now}
 use Rattle.basis.specs.Unique.{ExactlyOne}
 use Rattle.report.specs.declared.Progress.{Progress}
-use Rattle.report.specs.Pages.{written, Page, progressOf, firstPage, nextPage}
+use Rattle.report.specs.Pages.{written, Page, progressOf, firstPage, nextPage, left-with}
 use Rattle.report.proofs.first_page.Reads as first-page'
 use Rattle.report.proofs.next_page.Reads as next-page'
-
--- A page is left with other bytes: the same reference.
-abbrev pub left-with : RefT (List ℕ) → List ℕ → RefT (List ℕ)
-left-with page bytes = record { ptr = page .ptr; name = page .name; now = bytes }
 
 -- A progress and the bytes of a page, as a promise of both determines them.
 paged-one : (page : List ℕ) (p : Page) → ExactlyOne (Progress × List ℕ) (λ (r : Progress × List ℕ). (r .0 ≡ progressOf p) × (r .1 ≡ written page 0 (p .text)))
@@ -27,7 +22,7 @@ paged-one page p =
 
 module _ (κs : Lfts 2) (bundle page : RefT (List ℕ)) where
   pub first-page-one : (longer : Bool) → ExactlyOne (Progress × List ℕ) (λ (r : Progress × List ℕ). first-page'.Post κs (bundle, (longer, (page, tt))) (r .0) (bundle, (longer, (left-with page (r .1), tt))))
-  first-page-one longer = paged-one (now page) (firstPage (now bundle) longer (length (now page)))
+  first-page-one longer = paged-one (now page) (firstPage (now bundle) longer)
 
   pub next-page-one : (progress : Progress) → ExactlyOne (Progress × List ℕ) (λ (r : Progress × List ℕ). next-page'.Post κs (bundle, (progress, (page, tt))) (r .0) (bundle, (progress, (left-with page (r .1), tt))))
-  next-page-one progress = paged-one (now page) (nextPage (now bundle) (length (now page)) (progress .left) (progress .at))
+  next-page-one progress = paged-one (now page) (nextPage (now bundle) (progress .left) (progress .at))

@@ -59,7 +59,7 @@ decimal-length n = rw (length-drop) (omega arith)
 -- A found record's text: at most a word of six bytes and a number.
 pub found-length : (f : Found) → length (foundText f) ≤ 11
 unfolding foundText
-found-length found.Nothing = omega arith
+found-length found.None = omega arith
 found-length (found.Exact label) = omega (arith, length-append exactWord (decimal label), decimal-length label)
 found-length (found.Fuzzy label reason) = omega (arith, length-append fuzzyWord (decimal label), decimal-length label)
 

@@ -1,10 +1,11 @@
--- The output of a bundle, and how it is cut into pages of the caller's size.
+-- The output of a bundle, and how it is cut into pages of one size.
 use mathlib.Core.Path.{_≡_}
 use Prim.Native.Nat.{ℕ, zero, suc, _+_}
 use mathlib.Core.Bool.{Bool, cond}
 use mathlib.Core.List.{List, [], _∷_, _++_}
 use lib.Dec.{leb}
 use lib.ListN.{length, take, drop}
+use denote.Ref.{RefT}
 use Rattle.bundle.specs.declared.BundleCheck.{BundleCheck}
 use Rattle.bundle.specs.declared.BundleCheck.the-variants as check
 use Rattle.packet_answer.specs.declared.PacketAnswer.{PacketAnswer}
@@ -35,6 +36,10 @@ outputOfInput b longer = cond longer (refusedLine 12) (outputOf b)
 
 -- ---- pages
 
+-- The bytes of a page: `PAGE`.
+abbrev pub pageSize : ℕ
+pageSize = 4096
+
 -- A page's bytes from a place on are written over.
 unfoldable pub written : List ℕ → ℕ → List ℕ → List ℕ
 written page at text = take at page ++ text ++ drop (at + length text) page
@@ -52,39 +57,35 @@ abbrev pub fullPage : ℕ → ℕ → Page
 fullPage left at = record { text = []; left = left; at = at }
 
 -- The lines of so many packets from a place on, as long as the longest line, of 19 bytes, finds room behind what fills the page.
-unfoldable pub pageFrom : List ℕ → ℕ → ℕ → ℕ → ℕ → Page
-pageFrom b size filled at zero = fullPage 0 at
-pageFrom b size filled at (suc n) =
-    cond (leb (filled + 19) size)
+unfoldable pub pageFrom : List ℕ → ℕ → ℕ → ℕ → Page
+pageFrom b filled at zero = fullPage 0 at
+pageFrom b filled at (suc n) =
+    cond (leb (filled + 19) pageSize)
     (cond (packetLies b at)
-    (behind (lineOf (answerAt b at)) (pageFrom b size (filled + length (lineOf (answerAt b at))) (packetEnd b at) n))
+    (behind (lineOf (answerAt b at)) (pageFrom b (filled + length (lineOf (answerAt b at))) (packetEnd b at) n))
     (fullPage 0 at))
     (fullPage (suc n) at)
 
 -- A page of the packets that are left.
-abbrev pub nextPage : List ℕ → ℕ → ℕ → ℕ → Page
-nextPage b size left at = pageFrom b size 0 at left
+abbrev pub nextPage : List ℕ → ℕ → ℕ → Page
+nextPage b left at = pageFrom b 0 at left
 
 abbrev pub refusedPage : ℕ → Page
 refusedPage n = record { text = refusedLine n; left = 0; at = 0 }
 
 -- The first page: the line that comes first, and as many of the packets' as find room.
-abbrev pub headPage : List ℕ → ℕ → Page
-headPage b size =
-    behind (headLine (packetCount b)) (pageFrom b size (length (headLine (packetCount b))) (packetsOffset b) (packetCount b))
+abbrev pub headPage : List ℕ → Page
+headPage b =
+    behind (headLine (packetCount b)) (pageFrom b (length (headLine (packetCount b))) (packetsOffset b) (packetCount b))
 
-abbrev pub firstOf : BundleCheck → List ℕ → ℕ → Page
-firstOf check.Good b size = headPage b size
-firstOf check.DoesNotFit b size = refusedPage 12
-firstOf check.ListDoesNotFit b size = refusedPage 9
-firstOf (check.BadRecord i) b size = refusedPage 10
+abbrev pub firstOf : BundleCheck → List ℕ → Page
+firstOf check.Good b = headPage b
+firstOf check.DoesNotFit b = refusedPage 12
+firstOf check.ListDoesNotFit b = refusedPage 9
+firstOf (check.BadRecord i) b = refusedPage 10
 
--- A page of under 19 bytes takes nothing.
-unfoldable pub firstPage : List ℕ → Bool → ℕ → Page
-firstPage b longer size =
-    cond (leb 19 size)
-    (cond longer (refusedPage 12) (firstOf (checkBundle b) b size))
-    (fullPage 0 0)
+unfoldable pub firstPage : List ℕ → Bool → Page
+firstPage b longer = cond longer (refusedPage 12) (firstOf (checkBundle b) b)
 
 -- What a function hands back of a page: how many bytes it has, and what is left.
 abbrev pub progressOf : Page → Progress
@@ -105,13 +106,17 @@ Paged page p r page' = (r ≡ progressOf p) × (page' ≡ written page 0 (p .tex
 -- ---- the pages of a whole output
 
 -- The text of so many pages after the first, each with what the one before it left.
-unfoldable pub laterPages : List ℕ → ℕ → ℕ → ℕ → ℕ → List ℕ
-laterPages b size zero left at = []
-laterPages b size (suc pages) left at =
-    pageFrom b size 0 at left .text ++ laterPages b size pages (pageFrom b size 0 at left .left) (pageFrom b size 0 at left .at)
+unfoldable pub laterPages : List ℕ → ℕ → ℕ → ℕ → List ℕ
+laterPages b zero left at = []
+laterPages b (suc pages) left at =
+    nextPage b left at .text ++ laterPages b pages (nextPage b left at .left) (nextPage b left at .at)
 
 -- The pages that a program writes which asks for as many later ones as the first leaves packets.
-unfoldable pub allPages : List ℕ → Bool → ℕ → List ℕ
-allPages b longer size =
-    firstPage b longer size .text
-    ++ laterPages b size (firstPage b longer size .left) (firstPage b longer size .left) (firstPage b longer size .at)
+unfoldable pub allPages : List ℕ → Bool → List ℕ
+allPages b longer = firstPage b longer .text ++ laterPages b (firstPage b longer .left) (firstPage b longer .left) (firstPage b longer .at)
+
+-- ---- the caller's page
+
+-- A page is left with other bytes: the same reference.
+abbrev pub left-with : RefT (List ℕ) → List ℕ → RefT (List ℕ)
+left-with page bytes = record { ptr = page .ptr; name = page .name; now = bytes }

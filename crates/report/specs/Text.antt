@@ -65,7 +65,7 @@ decimal n = drop (5 - width n) (fiveDigits n)
 -- ---- lines
 
 unfoldable pub foundText : Found → List ℕ
-foundText found.Nothing = noneWord
+foundText found.None = noneWord
 foundText (found.Exact label) = exactWord ++ decimal label
 foundText (found.Fuzzy label reason) = fuzzyWord ++ decimal label
 

@@ -1,7 +1,8 @@
 // The output of a bundle, page by page: as many lines as find room, then the program writes the page and asks for the next.
+// A page is an array of one size, so that no caller can lend one in which no line finds room.
 ghost use Prim.Native.Nat.{_≤_};
 ghost use lib.ListN.{length};
-ghost use Rattle.report.specs.Pages.{Filled, Paged, pageFrom, refusedPage, headPage, firstPage, nextPage};
+ghost use Rattle.report.specs.Pages.{Filled, Paged, pageSize, pageFrom, refusedPage, headPage, firstPage, nextPage};
 use bundle::PacketAt;
 use bundle::bundle_refusal;
 use bundle::check_bundle;
@@ -20,19 +21,22 @@ pub struct Progress {
     pub at: usize,
 }
 
+// The bytes of a page.
+pub const PAGE: usize = 4096;
+
 // The longest line: `synack exact 65535`, or `fuzzy`, and its end.
 const LINE: usize = 19;
 
 // The lines of the packets that are left, as long as the longest line finds room.
-fn put_lines(bundle: &[u8], progress: Progress, page: &mut [u8]) -> Progress
-    requires { ⌜ progress .filled ≤ length (now page) ⌝ }
-    ensures { λ r. ⌜ Filled (now (page .entry)) (progress .filled) (pageFrom (now (bundle .entry)) (length (now (page .entry))) (progress .filled) (progress .at) (progress .left)) r (now (page .exit)) ⌝ }
+fn put_lines(bundle: &[u8], progress: Progress, page: &mut [u8; PAGE]) -> Progress
+    requires { ⌜ progress .filled ≤ pageSize ⌝ }
+    ensures { λ r. ⌜ Filled (now (page .entry)) (progress .filled) (pageFrom (now (bundle .entry)) (progress .filled) (progress .at) (progress .left)) r (now (page .exit)) ⌝ }
 {
     let mut filled = progress.filled;
     let mut left = progress.left;
     let mut at = progress.at;
     while 0 < left {
-        if page.len() - filled < LINE {
+        if PAGE - filled < LINE {
             return Progress { filled, left, at };
         }
         let PacketAt::Packet(answer, end) = packet_at(bundle, at) else {
@@ -54,8 +58,7 @@ fn put_lines(bundle: &[u8], progress: Progress, page: &mut [u8]) -> Progress
 }
 
 // The first page of a refusal.
-fn refused_page(page: &mut [u8], number: u16) -> Progress
-    requires { ⌜ 19 ≤ length (now page) ⌝ }
+fn refused_page(page: &mut [u8; PAGE], number: u16) -> Progress
     ensures { λ r. ⌜ Paged (now (page .entry)) (refusedPage number) r (now (page .exit)) ⌝ }
 {
     let filled = put_numbered(page, 0, b"refused ", number);
@@ -67,9 +70,9 @@ fn refused_page(page: &mut [u8], number: u16) -> Progress
 }
 
 // The first page of a bundle that passed its check.
-fn head_page(bundle: &[u8], page: &mut [u8]) -> Progress
-    requires { ⌜ (8 ≤ length (now bundle)) × (19 ≤ length (now page)) ⌝ }
-    ensures { λ r. ⌜ Paged (now (page .entry)) (headPage (now (bundle .entry)) (length (now (page .entry)))) r (now (page .exit)) ⌝ }
+fn head_page(bundle: &[u8], page: &mut [u8; PAGE]) -> Progress
+    requires { ⌜ 8 ≤ length (now bundle) ⌝ }
+    ensures { λ r. ⌜ Paged (now (page .entry)) (headPage (now (bundle .entry))) r (now (page .exit)) ⌝ }
 {
     let count = be16(bundle[0], bundle[1]);
     let filled = put_numbered(page, 0, b"packets ", count);
@@ -82,17 +85,10 @@ fn head_page(bundle: &[u8], page: &mut [u8]) -> Progress
 }
 
 // The first page of a bundle's output; `longer`: the input goes on past the bundle. A page takes a line while 19 bytes are left, the
-// longest line; a shorter page takes nothing, and says that nothing is left.
-pub fn first_page(bundle: &[u8], longer: bool, page: &mut [u8]) -> Progress
-    ensures { λ r. ⌜ Paged (now (page .entry)) (firstPage (now (bundle .entry)) longer (length (now (page .entry)))) r (now (page .exit)) ⌝ }
+// longest line.
+pub fn first_page(bundle: &[u8], longer: bool, page: &mut [u8; PAGE]) -> Progress
+    ensures { λ r. ⌜ Paged (now (page .entry)) (firstPage (now (bundle .entry)) longer) r (now (page .exit)) ⌝ }
 {
-    if page.len() < LINE {
-        return Progress {
-            filled: 0,
-            left: 0,
-            at: 0,
-        };
-    }
     if longer {
         return refused_page(page, 12);
     }
@@ -104,8 +100,8 @@ pub fn first_page(bundle: &[u8], longer: bool, page: &mut [u8]) -> Progress
 }
 
 // The next page of a bundle's output, after the progress that the page before it left.
-pub fn next_page(bundle: &[u8], progress: Progress, page: &mut [u8]) -> Progress
-    ensures { λ r. ⌜ Paged (now (page .entry)) (nextPage (now (bundle .entry)) (length (now (page .entry))) (progress .left) (progress .at)) r (now (page .exit)) ⌝ }
+pub fn next_page(bundle: &[u8], progress: Progress, page: &mut [u8; PAGE]) -> Progress
+    ensures { λ r. ⌜ Paged (now (page .entry)) (nextPage (now (bundle .entry)) (progress .left) (progress .at)) r (now (page .exit)) ⌝ }
 {
     let left = progress.left;
     let at = progress.at;

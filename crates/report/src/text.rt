@@ -77,7 +77,7 @@ fn put_found(page: &mut [u8], at: usize, found: Found) -> usize
     ensures { λ r. ⌜ (r ≡ at + length (foundText found ++ newline)) × (now (page .exit) ≡ written (now (page .entry)) at (foundText found ++ newline)) ⌝ }
 {
     match found {
-        Found::Nothing => put(page, at, b"none\n"),
+        Found::None => put(page, at, b"none\n"),
         Found::Exact(label) => put_numbered(page, at, b"exact ", label),
         Found::Fuzzy(label, _) => put_numbered(page, at, b"fuzzy ", label),
     }

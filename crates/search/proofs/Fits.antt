@@ -17,7 +17,7 @@ use Rattle.siglist.specs.declared.Areas.{Areas}
 use Rattle.sigrecord.specs.Record.{signatureOf, firstEntry, entryCount, scalarsGood}
 use Rattle.siglist.specs.List.{recordCount, layoutCount, AreasFit, recordAt, entriesOf, layoutLies, recordGood}
 use Rattle.sigrecord.specs.Record.{scalarsWellFormed}
-use Rattle.found.specs.Keep.{fitsNothing}
+use Rattle.found.specs.Keep.{isNone}
 use Rattle.search.specs.Search.{fitAt}
 use Rattle.siglist.proofs.List.{list-fits}
 
@@ -37,20 +37,20 @@ second-holds : (c g : Bool) → c && g ≡ true → g ≡ true
 second-holds true g e = e
 second-holds false g e = absurd (false≢true e)
 
-is-nothing : (x : SignatureFit) → fitsNothing x ≡ true → x ≡ fit.Nothing
-unfolding fitsNothing
-is-nothing fit.Nothing e = refl
-is-nothing fit.Exact e = absurd (false≢true e)
-is-nothing (fit.Fuzzy r) e = absurd (false≢true e)
+is-none : (x : SignatureFit) → isNone x ≡ true → x ≡ fit.None
+unfolding isNone
+is-none fit.None e = refl
+is-none fit.Exact e = absurd (false≢true e)
+is-none (fit.Fuzzy r) e = absurd (false≢true e)
 
 falls-through
-    : (g c x : Bool) (t : SignatureFit) → c && x ≡ false → cond x (cond (g && c) t fit.Nothing) fit.Nothing ≡ fit.Nothing
+    : (g c x : Bool) (t : SignatureFit) → c && x ≡ false → cond x (cond (g && c) t fit.None) fit.None ≡ fit.None
 falls-through g true true t e = absurd (true≢false e)
 falls-through true false true t e = refl
 falls-through false false true t e = refl
 falls-through g c false t e = refl
 
-either-way : (t : Bool) → cond t fit.Nothing fit.Nothing ≡ fit.Nothing
+either-way : (t : Bool) → cond t fit.None fit.None ≡ fit.None
 either-way true = refl
 either-way false = refl
 
@@ -59,33 +59,33 @@ module _ (f : Features) (kinds bytes l : List ℕ) (a : Areas) (i : ℕ) (fits :
       : fitAt f kinds bytes l i
       ≡ cond (recordGood l i)
       (fitOf f kinds bytes (signatureOf (recordAt l i)) (entryCount (recordAt l i)) (entriesOf l (recordAt l i)))
-      fit.Nothing
+      fit.None
   unfolding fitAt
   here = simp (list-fits l a fits, lt-ltb i (recordCount l) (omega arith))
 
-  fits-nothing
-      : fitOf f kinds bytes (signatureOf (recordAt l i)) (entryCount (recordAt l i)) (entriesOf l (recordAt l i)) ≡ fit.Nothing
-      → fitAt f kinds bytes l i ≡ fit.Nothing
-  fits-nothing e = rw (here, e) (either-way (recordGood l i))
+  fits-none
+      : fitOf f kinds bytes (signatureOf (recordAt l i)) (entryCount (recordAt l i)) (entriesOf l (recordAt l i)) ≡ fit.None
+      → fitAt f kinds bytes l i ≡ fit.None
+  fits-none e = rw (here, e) (either-way (recordGood l i))
 
   pub gate-fails
       : eqb (f .count) (entryCount (recordAt l i)) && scalarGates f (signatureOf (recordAt l i)) ≡ false
-      → fitAt f kinds bytes l i ≡ fit.Nothing
+      → fitAt f kinds bytes l i ≡ fit.None
   unfolding fitOf layoutMatches
-  gate-fails e = fits-nothing (rw (not-both (eqb (f .count) (entryCount (recordAt l i))) (scalarGates f (signatureOf (recordAt l i))) _ _ e))
+  gate-fails e = fits-none (rw (not-both (eqb (f .count) (entryCount (recordAt l i))) (scalarGates f (signatureOf (recordAt l i))) _ _ e))
 
-  pub not-tolerated : fitsNothing (toleranceOf f (signatureOf (recordAt l i))) ≡ true → fitAt f kinds bytes l i ≡ fit.Nothing
+  pub not-tolerated : isNone (toleranceOf f (signatureOf (recordAt l i))) ≡ true → fitAt f kinds bytes l i ≡ fit.None
   unfolding fitOf
   not-tolerated e =
-      fits-nothing
-      (rw (is-nothing (toleranceOf f (signatureOf (recordAt l i))) e)
+      fits-none
+      (rw (is-none (toleranceOf f (signatureOf (recordAt l i))) e)
       (either-way
       (scalarGates f (signatureOf (recordAt l i))
       && layoutMatches (f .count) kinds bytes (entryCount (recordAt l i)) (entriesOf l (recordAt l i)))))
 
   pub not-held
       : layoutMatches (f .count) kinds bytes (entryCount (recordAt l i)) (entriesOf l (recordAt l i)) && recordGood l i ≡ false
-      → fitAt f kinds bytes l i ≡ fit.Nothing
+      → fitAt f kinds bytes l i ≡ fit.None
   unfolding fitOf
   not-held e =
       here

@@ -1,7 +1,6 @@
-pub mod Codes
 pub mod Fits
 pub mod Order
-pub mod Refusals
+pub mod SearchOrder
 pub mod Rows
 pub mod Scalars
 pub mod Unique

@@ -39,10 +39,10 @@ module _ (f : Features) (kinds bytes l : List ℕ) where
         : (k : ℕ) (reason : FuzzyReason)
         → k < length is
         → fitOfPlace is k ≡ fit.Fuzzy reason
-        → ((j : ℕ) → j < k → fitOfPlace is j ≡ fit.Nothing)
+        → ((j : ℕ) → j < k → fitOfPlace is j ≡ fit.None)
         → NoneExact is (length is)
         → Outcome is (found.Fuzzy (labelOf (recordAt l (getD is k 0))) reason)
-    none : ((k : ℕ) → k < length is → fitOfPlace is k ≡ fit.Nothing) → Outcome is found.Nothing
+    none : ((k : ℕ) → k < length is → fitOfPlace is k ≡ fit.None) → Outcome is found.None
 
   -- With a fuzzy record held, a later exact one is taken, and nothing else.
   data Held (is : List ℕ) (label : ℕ) (reason : FuzzyReason) : Found → Type 0 where
@@ -72,25 +72,25 @@ module _ (f : Features) (kinds bytes l : List ℕ) where
           → fitAt f kinds bytes l i ≡ x
           → Held is label reason (searchFrom (found.Fuzzy label reason) f kinds bytes l is)
           → Held (i ∷ is) label reason (searchFrom (keep (found.Fuzzy label reason) (labelOf (recordAt l i)) x) f kinds bytes l is)
-      by-fit fit.Nothing e rest = later (λ x. let z : _≡_ {A = ℕ} 0 1 = cc in omega arith) rest
+      by-fit fit.None e rest = later (λ x. let z : _≡_ {A = ℕ} 0 1 = cc in omega arith) rest
       by-fit fit.Exact e rest =
           rw (stays f kinds bytes l (labelOf (recordAt l i)) is) (then-exact 0 (omega arith) e (λ k h x. omega arith))
       by-fit (fit.Fuzzy r) e rest = later (λ x. let z : _≡_ {A = ℕ} 0 1 = cc in omega arith) rest
 
   -- The search of a row of record numbers has one of the three outcomes.
-  pub outcome : (is : List ℕ) → Outcome is (searchFrom found.Nothing f kinds bytes l is)
+  pub outcome : (is : List ℕ) → Outcome is (searchFrom found.None f kinds bytes l is)
   unfolding searchFrom keep
   outcome [] = none (λ k h. absurd (omega arith))
   outcome (i ∷ is) = by-fit (fitAt f kinds bytes l i) refl (outcome is)
     where
-      before : {n : ℕ} → fitAt f kinds bytes l i ≡ fit.Nothing → ((j : ℕ) → j < n → fitOfPlace is j ≡ fit.Nothing) → (j : ℕ) → j < suc n → fitOfPlace (i ∷ is) j ≡ fit.Nothing
+      before : {n : ℕ} → fitAt f kinds bytes l i ≡ fit.None → ((j : ℕ) → j < n → fitOfPlace is j ≡ fit.None) → (j : ℕ) → j < suc n → fitOfPlace (i ∷ is) j ≡ fit.None
       before e there zero h = e
       before e there (suc j) h = there j (omega arith)
 
-      not-it : fitAt f kinds bytes l i ≡ fit.Nothing → fitAt f kinds bytes l i ≡ fit.Exact → ⊥
+      not-it : fitAt f kinds bytes l i ≡ fit.None → fitAt f kinds bytes l i ≡ fit.Exact → ⊥
       not-it e x = let z : _≡_ {A = ℕ} 0 1 = cc in omega arith
 
-      later : {x : Found} → fitAt f kinds bytes l i ≡ fit.Nothing → Outcome is x → Outcome (i ∷ is) x
+      later : {x : Found} → fitAt f kinds bytes l i ≡ fit.None → Outcome is x → Outcome (i ∷ is) x
       later e (first-exact k h x there) = first-exact (suc k) (omega arith) x (not-exact i is k (not-it e) there)
       later e (first-fuzzy k r h x there exact) =
           first-fuzzy (suc k) r (omega arith) x (before e there) (not-exact i is (length is) (not-it e) exact)
@@ -106,9 +106,9 @@ module _ (f : Features) (kinds bytes l : List ℕ) where
       by-fit
           : (x : SignatureFit)
           → fitAt f kinds bytes l i ≡ x
-          → Outcome is (searchFrom found.Nothing f kinds bytes l is)
-          → Outcome (i ∷ is) (searchFrom (keep found.Nothing (labelOf (recordAt l i)) x) f kinds bytes l is)
-      by-fit fit.Nothing e rest = later e rest
+          → Outcome is (searchFrom found.None f kinds bytes l is)
+          → Outcome (i ∷ is) (searchFrom (keep found.None (labelOf (recordAt l i)) x) f kinds bytes l is)
+      by-fit fit.None e rest = later e rest
       by-fit fit.Exact e rest =
           rw (stays f kinds bytes l (labelOf (recordAt l i)) is) (first-exact 0 (omega arith) e (λ k h x. omega arith))
       by-fit (fit.Fuzzy r) e rest = fuzzy-held r e (held (labelOf (recordAt l i)) r is)
@@ -118,6 +118,6 @@ pub single
     : (o : TcpObservation) (l : List ℕ)
     → recordCount l ≡ 1
     → searchAll o l
-    ≡ keep found.Nothing (labelOf (recordAt l 0)) (fitAt (featuresOf o) (o .olayout .kinds) (o .olayout .bytes) l 0)
+    ≡ keep found.None (labelOf (recordAt l 0)) (fitAt (featuresOf o) (o .olayout .kinds) (o .olayout .bytes) l 0)
 unfolding searchAll searchOver searchFrom numbersFrom
 single o l one = rw one

@@ -11,21 +11,21 @@ use Rattle.found.specs.declared.Found.{Found}
 use Rattle.found.specs.declared.Found.the-variants as found
 use Rattle.sigrecord.specs.Record.{labelOf}
 use Rattle.siglist.specs.List.{recordAt, listFits}
-use Rattle.found.specs.Keep.{fitsNothing, keep, isExact}
+use Rattle.found.specs.Keep.{isNone, keep, isExact}
 use Rattle.search.specs.Search.{fitAt, searchFrom, numbersFrom}
 
--- A record that fits nothing changes nothing.
-pub keep-nothing : (held : Found) (label : ℕ) (x : SignatureFit) → fitsNothing x ≡ true → keep held label x ≡ held
-unfolding keep fitsNothing
-keep-nothing found.Nothing label fit.Nothing e = refl
-keep-nothing (found.Exact l) label fit.Nothing e = refl
-keep-nothing (found.Fuzzy l r) label fit.Nothing e = refl
-keep-nothing held label fit.Exact e = absurd (false≢true e)
-keep-nothing held label (fit.Fuzzy r) e = absurd (false≢true e)
+-- A record that does not fit changes nothing.
+pub keep-none : (held : Found) (label : ℕ) (x : SignatureFit) → isNone x ≡ true → keep held label x ≡ held
+unfolding keep isNone
+keep-none found.None label fit.None e = refl
+keep-none (found.Exact l) label fit.None e = refl
+keep-none (found.Fuzzy l r) label fit.None e = refl
+keep-none held label fit.Exact e = absurd (false≢true e)
+keep-none held label (fit.Fuzzy r) e = absurd (false≢true e)
 
-fits-nothing-nothing : fitsNothing fit.Nothing ≡ true
-unfolding fitsNothing
-fits-nothing-nothing = refl
+none-is-none : isNone fit.None ≡ true
+unfolding isNone
+none-is-none = refl
 
 module _ (f : Features) (kinds bytes l : List ℕ) where
   -- An exact record ends the search.
@@ -36,7 +36,7 @@ module _ (f : Features) (kinds bytes l : List ℕ) where
 
   pub exact-ends : (held : Found) (is : List ℕ) → isExact held ≡ true → searchFrom held f kinds bytes l is ≡ held
   unfolding isExact
-  exact-ends found.Nothing is e = absurd (false≢true e)
+  exact-ends found.None is e = absurd (false≢true e)
   exact-ends (found.Exact label) is e = stays label is
   exact-ends (found.Fuzzy label r) is e = absurd (false≢true e)
 
@@ -49,15 +49,15 @@ module _ (f : Features) (kinds bytes l : List ℕ) where
   unfolding searchFrom numbersFrom
   one-record held i n inside = let more : n - i ≡ suc (n - (i + 1)) = omega arith in rw more
 
-  -- A record that fits nothing is passed over.
+  -- A record that does not fit is passed over.
   pub passed-over
       : (held : Found) (i n : ℕ)
       → i < n
-      → fitAt f kinds bytes l i ≡ fit.Nothing
+      → fitAt f kinds bytes l i ≡ fit.None
       → searchFrom held f kinds bytes l (numbersFrom (i + 1) (n - (i + 1))) ≡ searchFrom held f kinds bytes l (numbersFrom i (n - i))
   passed-over held i n inside e =
       ap (λ (h : Found). searchFrom h f kinds bytes l (numbersFrom (i + 1) (n - (i + 1))))
-      (sym (keep-nothing held (labelOf (recordAt l i)) (fitAt f kinds bytes l i) (rw e (fits-nothing-nothing))))
+      (sym (keep-none held (labelOf (recordAt l i)) (fitAt f kinds bytes l i) (rw e (none-is-none))))
       ∙ one-record held i n inside
 
   pub no-record : (held : Found) (i n : ℕ) → n ≤ i → searchFrom held f kinds bytes l (numbersFrom i (n - i)) ≡ held
@@ -65,11 +65,11 @@ module _ (f : Features) (kinds bytes l : List ℕ) where
   no-record held i n h = let none : n - i ≡ 0 = omega arith in rw none
 
   -- A list that does not fit has no record that fits.
-  nothing-there : listFits l ≡ false → (i : ℕ) → fitAt f kinds bytes l i ≡ fit.Nothing
+  none-there : listFits l ≡ false → (i : ℕ) → fitAt f kinds bytes l i ≡ fit.None
   unfolding fitAt
-  nothing-there e i = rw e
+  none-there e i = rw e
 
-  pub nothing-found : listFits l ≡ false → (is : List ℕ) → searchFrom found.Nothing f kinds bytes l is ≡ found.Nothing
+  pub none-found : listFits l ≡ false → (is : List ℕ) → searchFrom found.None f kinds bytes l is ≡ found.None
   unfolding searchFrom keep
-  nothing-found e [] = refl
-  nothing-found e (i ∷ is) = rw (nothing-there e i) (nothing-found e is)
+  none-found e [] = refl
+  none-found e (i ∷ is) = rw (none-there e i) (none-found e is)

@@ -4,7 +4,7 @@ use mathlib.Core.Bool.{true, false}
 use Rattle.basis.proofs.Tests.{and-false, and-true}
 use Rattle.matching.specs.declared.Features.{Features}
 use Rattle.matching.specs.declared.Signature.{Signature}
-use Rattle.distances.specs.Gates.{versionMatches, windowMatches, payloadMatches}
+use Rattle.distances.specs.DistanceGates.{versionMatches, windowMatches, payloadMatches}
 use Rattle.gates.specs.Gates.{olenMatches, mssMatches, scaleMatches}
 use Rattle.matching.specs.Fit.{scalarGates}
 

@@ -19,12 +19,12 @@ use Rattle.search.specs.declared.SearchAnswer.the-variants as answer
 use Rattle.sigrecord.specs.Record.{signatureOf, entryCount, labelOf}
 use Rattle.siglist.specs.List.{recordCount, listFits, recordAt, entriesOf, recordGood, checkList}
 
--- How record i fits: what is not a well-formed record of the list fits nothing.
+-- How record i fits: what is not a well-formed record of the list does not fit.
 unfoldable pub fitAt : Features → List ℕ → List ℕ → List ℕ → ℕ → SignatureFit
 fitAt f kinds bytes l i =
     cond (listFits l && ltb i (recordCount l) && recordGood l i)
     (fitOf f kinds bytes (signatureOf (recordAt l i)) (entryCount (recordAt l i)) (entriesOf l (recordAt l i)))
-    fit.Nothing
+    fit.None
 
 -- The search of a row of record numbers, with what was found before it.
 unfoldable pub searchFrom : Found → Features → List ℕ → List ℕ → List ℕ → List ℕ → Found
@@ -39,19 +39,19 @@ numbersFrom i (suc n) = i ∷ numbersFrom (i + 1) n
 
 -- The search of a row of record numbers for an observation, and the plain search: of all records in list order.
 unfoldable pub searchOver : List ℕ → TcpObservation → List ℕ → Found
-searchOver is o l = searchFrom found.Nothing (featuresOf o) (o .olayout .kinds) (o .olayout .bytes) l is
+searchOver is o l = searchFrom found.None (featuresOf o) (o .olayout .kinds) (o .olayout .bytes) l is
 
 unfoldable pub searchAll : TcpObservation → List ℕ → Found
 searchAll o l = searchOver (numbersFrom 0 (recordCount l)) o l
 
 -- "a search [meets] 11, then 9, then 10"; 11: "observation's layout count over 40"
-abbrev pub afterCheck : ListAnswer → TcpObservation → List ℕ → SearchAnswer
-afterCheck list.DoesNotFit o l = answer.DoesNotFit
-afterCheck (list.BadRecord i) o l = answer.BadRecord i
-afterCheck list.Good o l = answer.Found (searchAll o l)
+abbrev pub afterListCheck : ListAnswer → TcpObservation → List ℕ → SearchAnswer
+afterListCheck list.DoesNotFit o l = answer.DoesNotFit
+afterListCheck (list.BadRecord i) o l = answer.BadRecord i
+afterListCheck list.Good o l = answer.Found (searchAll o l)
 
 unfoldable pub searchList : TcpObservation → List ℕ → SearchAnswer
-searchList o l = cond (ltb 40 (o .olayout .count)) answer.LayoutTooLong (afterCheck (checkList l) o l)
+searchList o l = cond (ltb 40 (o .olayout .count)) answer.LayoutTooLong (afterListCheck (checkList l) o l)
 
 -- The number of a search's refusal; 0 if it is none. Refusal 10 gives the index of the first bad record.
 unfoldable pub searchRefusal : SearchAnswer → ℕ

@@ -3,12 +3,12 @@ ghost use mathlib.Core.Path.{_≡_};
 ghost use mathlib.Core.Bool.{true, _&&_};
 ghost use lib.Dec.{eqb, leb};
 ghost use Rattle.matching.specs.Fit.{scalarGates};
-ghost use Rattle.distances.specs.Gates.{versionMatches, windowMatches, payloadMatches};
+ghost use Rattle.distances.specs.DistanceGates.{windowMatches};
 ghost use Rattle.gates.specs.Gates.{mssMatches, scaleMatches, layoutMatches};
 ghost use Prim.Native.Nat.{ℕ, _+_, _*_, _-_, _≤_, _<_};
 ghost use mathlib.Core.List.{List};
 ghost use lib.ListN.{length};
-ghost use Rattle.sigrecord.specs.Record.{entryCount, labelOf, versionOf, mssOf, scaleOf, windowOf, payloadOf, signatureOf};
+ghost use Rattle.sigrecord.specs.Record.{entryCount, labelOf, mssOf, scaleOf, windowOf, signatureOf};
 ghost use Rattle.siglist.specs.List.{recordAt, entriesOf, AreasFit, recordGood};
 ghost use Rattle.found.specs.Keep.{keep};
 ghost use Rattle.search.specs.Search.{fitAt, searchFrom, numbersFrom};
@@ -20,7 +20,7 @@ use distances::WindowSize;
 use distances::window_size_matches;
 use found::Found;
 use found::is_exact;
-use found::is_nothing;
+use found::is_none;
 use found::keep_fit;
 use gates::mss_matches;
 use gates::olayout_matches;
@@ -33,32 +33,14 @@ use numbers::be16;
 use numbers::wide;
 use siglist::Areas;
 use sigrecord::RECORD;
+use sigrecord::ip_version_matches;
+use sigrecord::payload_size_matches;
 use sigrecord::scalars_well_formed;
-use tcp::IpVersion;
 use tcp::Mss;
-use tcp::PayloadSize;
 use tcp::Wscale;
 use window_size::Multiplier;
 
-// The gates of a record, each read off its bytes.
-pub(crate) fn payload_gate(observed: PayloadSize, code: u8) -> bool
-    ensures { λ r. ⌜ r ≡ payloadMatches observed (payloadOf code) ⌝ }
-{
-    match observed {
-        PayloadSize::Zero => code != 1,
-        PayloadSize::NonZero => code != 0,
-    }
-}
-
-pub(crate) fn version_gate(observed: IpVersion, code: u8) -> bool
-    ensures { λ r. ⌜ r ≡ versionMatches observed (versionOf code) ⌝ }
-{
-    match observed {
-        IpVersion::V4 => code != 6,
-        IpVersion::V6 => code != 4,
-    }
-}
-
+// Gates of a record, each read off its bytes.
 pub(crate) fn mss_gate(observed: Mss, present: u8, high: u8, low: u8) -> bool
     ensures { λ r. ⌜ r ≡ mssMatches observed (mssOf present (high * 256 + low)) ⌝ }
 {
@@ -107,11 +89,11 @@ pub(crate) fn gates_at(observed: Features, raw: &[u8]) -> bool
         return false;
     }
     let pclass = observed.pclass;
-    if !payload_gate(pclass, raw[13]) {
+    if !payload_size_matches(pclass, raw[13]) {
         return false;
     }
     let version = observed.version;
-    if !version_gate(version, raw[0]) {
+    if !ip_version_matches(version, raw[0]) {
         return false;
     }
     let multiplier = observed.multiplier;
@@ -175,11 +157,11 @@ pub(crate) fn fit_at(
     let end_of_record = at + RECORD;
     let raw = &list[at..end_of_record];
     let fit = tolerance(observed, signature_of(raw));
-    if is_nothing(fit) {
-        return SignatureFit::Nothing;
+    if is_none(fit) {
+        return SignatureFit::None;
     }
     if !holds_at(observed.count, kinds, bytes, list, areas, i) {
-        return SignatureFit::Nothing;
+        return SignatureFit::None;
     }
     fit
 }
@@ -208,7 +190,7 @@ pub(crate) fn search_step(
     ensures { λ r. ⌜ r ≡ keep held (labelOf (recordAt (now (list .entry)) i)) (fitAt observed (now (kinds .entry)) (now (bytes .entry)) (now (list .entry)) i) ⌝ }
 {
     let fit = fit_at(observed, kinds, bytes, list, areas, i);
-    if is_nothing(fit) {
+    if is_none(fit) {
         return held;
     }
     keep_fit(held, label_at(list, areas, i), fit)
@@ -241,10 +223,10 @@ pub(crate) fn search_records(
     areas: Areas,
 ) -> Found
     requires { ⌜ AreasFit (now list) areas ⌝ }
-    ensures { λ r. ⌜ r ≡ searchFrom Found.Nothing observed (now (kinds .entry)) (now (bytes .entry)) (now (list .entry)) (numbersFrom 0 (areas .records)) ⌝ }
+    ensures { λ r. ⌜ r ≡ searchFrom Found.None observed (now (kinds .entry)) (now (bytes .entry)) (now (list .entry)) (numbersFrom 0 (areas .records)) ⌝ }
 {
     let count = areas.records;
-    let mut held = Found::Nothing;
+    let mut held = Found::None;
     let mut i = 0;
     while i < count {
         i = next_candidate(observed, list, areas, i);

@@ -21,12 +21,12 @@ pub enum SearchAnswer {
     BadRecord(usize),
 }
 
-// The search of a list that was checked before. It is total: what is not a well-formed record of the list fits nothing.
+// The search of a list that was checked before. It is total: what is not a well-formed record of the list does not fit.
 pub fn search_checked(observed: TcpObservation, list: &[u8]) -> Found
     ensures { λ r. ⌜ r ≡ searchAll observed (now (list .entry)) ⌝ }
 {
     let Header::Fits(areas) = read_header(list) else {
-        return Found::Nothing;
+        return Found::None;
     };
     let features = features_of(observed);
     let layout = observed.olayout;

@@ -1,3 +1,3 @@
 pub mod List
-pub mod Refusals
+pub mod FirstBad
 pub mod Unique

@@ -1,2 +1,3 @@
+pub mod Codes
 pub mod Scalars
 pub mod Unique

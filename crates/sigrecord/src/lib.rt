@@ -1,11 +1,14 @@
 // A record of the signature list (document 01, "The signature list"): when it is well formed, its layout apart. Added by the port.
 ghost use mathlib.Core.Path.{_≡_};
 ghost use lib.ListN.{length};
-ghost use Rattle.sigrecord.specs.Record.{versionGood, ttlGood, presenceGood, windowGood, quirksGood, scalarsGood, scalarsWellFormed};
+ghost use Rattle.distances.specs.DistanceGates.{versionMatches, payloadMatches};
+ghost use Rattle.sigrecord.specs.Record.{versionOf, payloadOf, versionGood, ttlGood, presenceGood, windowGood, quirksGood, scalarsGood, scalarsWellFormed};
 use numbers::be16;
 use numbers::be32;
 use numbers::wide;
 use quirks::QuirkSet;
+use tcp::IpVersion;
+use tcp::PayloadSize;
 
 // The bytes of a record.
 pub const RECORD: usize = 24;
@@ -106,4 +109,24 @@ pub fn scalars_well_formed(raw: &[u8]) -> bool
         return false;
     }
     scalars_good(raw)
+}
+
+// ---- two gates of distances.rs, read off a record's codes: a code that is not listed means any, as the record's meaning has it
+
+pub fn ip_version_matches(observed: IpVersion, code: u8) -> bool
+    ensures { λ r. ⌜ r ≡ versionMatches observed (versionOf code) ⌝ }
+{
+    match observed {
+        IpVersion::V4 => code != 6,
+        IpVersion::V6 => code != 4,
+    }
+}
+
+pub fn payload_size_matches(observed: PayloadSize, code: u8) -> bool
+    ensures { λ r. ⌜ r ≡ payloadMatches observed (payloadOf code) ⌝ }
+{
+    match observed {
+        PayloadSize::Zero => code != 1,
+        PayloadSize::NonZero => code != 0,
+    }
 }

@@ -14,7 +14,6 @@ use Rattle.window_size.specs.declared.Multiplier.{Multiplier}
 use Rattle.window_size.specs.declared.Multiplier.the-variants.{Absent, Present}
 use Rattle.window_size.specs.Divisors.{Candidate, divides}
 use Rattle.window_size.specs.Multiplier.{quotient, firstMultiple}
-use Rattle.window_size.specs.Held.{held, firstHeld}
 
 -- A divisor of the peer's MSS needs no test of the peer: it is 0 where the peer is.
 pub of-peer : (peer n : ℕ) → (peer ≡ 0 → n ≡ 0) → cond (not (eqb peer 0)) n 0 ≡ n
@@ -27,6 +26,13 @@ divides-nonzero zero window e z = false≢true e
 divides-nonzero (suc size) window e z = omega arith
 
 -- ---- 0 stands for a divisor that does not apply
+
+-- What the code holds of a candidate, and what it takes of a divisor that it holds: one that applies.
+abbrev pub held : Candidate → Divisor
+held c = record { size = cond (c .applies) (c .size) 0; «of_mtu» = c .ofMtu }
+
+abbrev pub holding : Divisor → Candidate
+holding d = record { applies = true; size = d .size; ofMtu = d .«of_mtu» }
 
 one-held
     : (window : ℕ) (c : Candidate) (rest : Multiplier)
@@ -42,8 +48,8 @@ one-held window c rest = by-applies (c .applies)
     by-applies true = refl
     by-applies false = refl
 
-pub first-held : (window : ℕ) (cs : List Candidate) → firstHeld window (map held cs) ≡ firstMultiple window cs
-unfolding firstHeld firstMultiple
+pub first-held : (window : ℕ) (cs : List Candidate) → firstMultiple window (map holding (map held cs)) ≡ firstMultiple window cs
+unfolding firstMultiple
 first-held window [] = refl
 first-held window (c ∷ cs) = rw (first-held window cs) (one-held window c (firstMultiple window cs))
 
@@ -56,16 +62,16 @@ divisorAt ds i = getD ds i (record { size = 0; «of_mtu» = false })
 module _ (window : ℕ) (ds : List Divisor) (i : ℕ) (inside : i < length ds) where
   pub turn-hit
       : divides (divisorAt ds i .size) window ≡ true
-      → firstHeld window (drop i ds) ≡ Present (quotient window (divisorAt ds i .size) (divisorAt ds i .«of_mtu»))
-  unfolding firstHeld
+      → firstMultiple window (map holding (drop i ds)) ≡ Present (quotient window (divisorAt ds i .size) (divisorAt ds i .«of_mtu»))
+  unfolding firstMultiple
   turn-hit e = rw (drop-cons ds i (record { size = 0; «of_mtu» = false }) inside, e)
 
   pub turn-miss
       : divides (divisorAt ds i .size) window ≡ false
-      → firstHeld window (drop (i + 1) ds) ≡ firstHeld window (drop i ds)
-  unfolding firstHeld
+      → firstMultiple window (map holding (drop (i + 1) ds)) ≡ firstMultiple window (map holding (drop i ds))
+  unfolding firstMultiple
   turn-miss e = rw (drop-cons ds i (record { size = 0; «of_mtu» = false }) inside, e, add-one)
 
-pub turns-end : (window : ℕ) (ds : List Divisor) (i : ℕ) → length ds ≤ i → firstHeld window (drop i ds) ≡ Absent
-unfolding firstHeld
+pub turns-end : (window : ℕ) (ds : List Divisor) (i : ℕ) → length ds ≤ i → firstMultiple window (map holding (drop i ds)) ≡ Absent
+unfolding firstMultiple
 turns-end window ds i h = rw (drop-of-length-le ds h)

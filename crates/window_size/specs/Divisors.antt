@@ -17,11 +17,11 @@ pub record Candidate : Type 0 where
   pub ofMtu : Bool
 
 -- An MSS, or an MTU, of a size, where it applies.
-abbrev pub mssOf : Bool → ℕ → Candidate
-mssOf a n = record { applies = a; size = n; ofMtu = false }
+abbrev pub mssDivisor : Bool → ℕ → Candidate
+mssDivisor a n = record { applies = a; size = n; ofMtu = false }
 
-abbrev pub mtuOf : Bool → ℕ → Candidate
-mtuOf a n = record { applies = a; size = n; ofMtu = true }
+abbrev pub mtuDivisor : Bool → ℕ → Candidate
+mtuDivisor a n = record { applies = a; size = n; ofMtu = true }
 
 -- A sum that stops at the largest 16-bit number. (A difference that stops at 0 is the `-` of natural numbers.)
 abbrev pub upTo65535 : ℕ → ℕ
@@ -41,23 +41,23 @@ peerSize (mss.Present n) = n
 -- IPv4 and IPv6, 12 a timestamps option with its padding.
 unfoldable pub twelve : ℕ → ℕ → Bool → Bool → ℕ → List Candidate
 twelve own headers stamped v6 peer =
-    mssOf true own
-    ∷ mssOf stamped (own - 12)
-    ∷ mssOf true (1500 - 40)
-    ∷ mssOf true (1500 - 40 - 12)
-    ∷ mssOf v6 (1500 - 60)
-    ∷ mssOf v6 (1500 - 60 - 12)
-    ∷ mtuOf true (upTo65535 (own + 40))
-    ∷ mtuOf true (upTo65535 (own + headers))
-    ∷ mtuOf v6 (upTo65535 (own + 60))
-    ∷ mtuOf true 1500
-    ∷ mssOf (not (eqb peer 0)) peer
-    ∷ mssOf (not (eqb peer 0)) (peer - 12)
+    mssDivisor true own
+    ∷ mssDivisor stamped (own - 12)
+    ∷ mssDivisor true (1500 - 40)
+    ∷ mssDivisor true (1500 - 40 - 12)
+    ∷ mssDivisor v6 (1500 - 60)
+    ∷ mssDivisor v6 (1500 - 60 - 12)
+    ∷ mtuDivisor true (upTo65535 (own + 40))
+    ∷ mtuDivisor true (upTo65535 (own + headers))
+    ∷ mtuDivisor v6 (upTo65535 (own + 60))
+    ∷ mtuDivisor true 1500
+    ∷ mssDivisor (not (eqb peer 0)) peer
+    ∷ mssDivisor (not (eqb peer 0)) (peer - 12)
     ∷ []
 
 -- The candidate at a place of a row; past its end, one that does not apply.
 abbrev pub candidateAt : List Candidate → ℕ → Candidate
-candidateAt cs i = getD cs i (mssOf false 0)
+candidateAt cs i = getD cs i (mssDivisor false 0)
 
 -- The test of a size: it is nonzero and divides the window.
 unfoldable pub divides : ℕ → ℕ → Bool

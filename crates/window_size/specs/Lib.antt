@@ -1,3 +1,2 @@
 pub mod Divisors
-pub mod Held
 pub mod Multiplier

@@ -6,7 +6,7 @@ use denote.Ref.{RefT, now}
 use Rattle.basis.specs.Unique.{ExactlyOne}
 use Rattle.basis.proofs.Unique.{equation}
 use Rattle.witness.specs.Reading.{packetNumber, plainOf, optionsNumber}
-use Rattle.witness.specs.Searching.{hopsOf, foundNumber, searchNumber}
+use Rattle.witness.specs.Searching.{witnessHops, foundNumber, searchNumber}
 use Rattle.flow.specs.declared.Reading.{Reading}
 use Rattle.found.specs.declared.Found.{Found}
 use Rattle.witness.specs.declared.Plain.{Plain}
@@ -34,7 +34,7 @@ witness-search-one κs observation list which = equation (searchNumber (now obse
 
 pub witness-hops-one
     : (κs : Lfts 1) (ttls : RefT (List ℕ)) → ExactlyOne ℕ (λ (r : ℕ). witness-hops'.Post κs (ttls, tt) r (ttls, tt))
-witness-hops-one κs ttls = equation (hopsOf (now ttls))
+witness-hops-one κs ttls = equation (witnessHops (now ttls))
 
 pub plain-of-one : (κs : Lfts 0) (reading : Reading) → ExactlyOne Plain (λ (r : Plain). plain-of'.Post κs (reading, tt) r (reading, tt))
 plain-of-one κs reading = equation (plainOf reading)

@@ -32,7 +32,7 @@ fuzzyNumber label r w =
     0)))
 
 abbrev pub foundNumber : Found → ℕ → ℕ
-foundNumber found.Nothing w = firstOnly 65536 w
+foundNumber found.None w = firstOnly 65536 w
 foundNumber (found.Exact label) w = firstOnly (131072 + label) w
 foundNumber (found.Fuzzy label reason) w = fuzzyNumber label reason w
 
@@ -49,5 +49,5 @@ unfoldable pub searchNumber : List ℕ → List ℕ → ℕ → ℕ
 searchNumber o l w = answerOfSearch (searchList (observationAt o) l) w
 
 -- The hop distance that is reported for an observed TTL against a signature's.
-unfoldable pub hopsOf : List ℕ → ℕ
-hopsOf s = reportedHops (ttlFrom s 0) (ttlFrom s 3)
+unfoldable pub witnessHops : List ℕ → ℕ
+witnessHops s = reportedHops (ttlFrom s 0) (ttlFrom s 3)

@@ -1,7 +1,7 @@
 // Outside witnesses: the answers as numbers, for C drivers; not part of the product.
 ghost use mathlib.Core.Path.{_≡_};
 ghost use Rattle.witness.specs.Reading.{packetNumber, optionsNumber};
-ghost use Rattle.witness.specs.Searching.{hopsOf, searchNumber};
+ghost use Rattle.witness.specs.Searching.{witnessHops, searchNumber};
 use decoded::mss_of;
 use decoded::observation_of;
 use decoded::ttl_from;
@@ -70,7 +70,7 @@ pub extern "C" fn witness_search(observation: &[u8], list: &[u8], which: u32) ->
 // The hop distance that is reported for two TTLs of three bytes each (form, TTL, distance): an observed one, then a signature's.
 #[no_mangle]
 pub extern "C" fn witness_hops(ttls: &[u8]) -> u64
-    ensures { λ r. ⌜ r ≡ hopsOf (now (ttls .entry)) ⌝ }
+    ensures { λ r. ⌜ r ≡ witnessHops (now (ttls .entry)) ⌝ }
 {
     wide8(distances::report_hop_distance(ttl_from(ttls, 0), ttl_from(ttls, 3)))
 }

@@ -52,7 +52,7 @@ pub fn found_number(found: Found, which: u32) -> u64
     ensures { λ r. ⌜ r ≡ foundNumber found which ⌝ }
 {
     match found {
-        Found::Nothing => first_only(65536, which),
+        Found::None => first_only(65536, which),
         Found::Exact(label) => first_only(131072 + (label as u64), which),
         Found::Fuzzy(label, reason) => fuzzy_number(label, reason, which),
     }

@@ -1,5 +1,5 @@
 -- `counted::counted_answer` meets its contract.
-use Rattle.counted.specs.Counted.{found}
+use Rattle.counted.specs.Counted.{countedAnswer}
 use borrow.Author.Needs.{needs}
 use Rattle.counted.proofs.counted_answer.Statement.{statement}
 use Rattle.counted.proofs.counted_answer.Tie as tie
@@ -17,7 +17,7 @@ found-number-requires : tie.Need-found-number-requires
 found-number-requires c κs = search needs
 
 returns : tie.Need-returns
-unfolding found
+unfolding countedAnswer
 returns c = simp (← c .before .before .before .before .peer-of .ensures, ← c .before .before .before .read-packet .ensures, ← c .before .search-checked .ensures, ← c .found-number .ensures)
 
 pub counted-answer-spec : {M : Type 1} → statement M

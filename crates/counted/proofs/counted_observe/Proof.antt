@@ -1,5 +1,5 @@
 -- `counted::counted_observe` meets its contract.
-use Rattle.counted.specs.Counted.{observed}
+use Rattle.counted.specs.Counted.{countedReading}
 use borrow.Author.Needs.{needs}
 use Rattle.counted.proofs.counted_observe.Statement.{statement}
 use Rattle.counted.proofs.counted_observe.Tie as tie
@@ -14,7 +14,7 @@ plain-of-requires : tie.Need-plain-of-requires
 plain-of-requires c κs = search needs
 
 returns : tie.Need-returns
-unfolding observed
+unfolding countedReading
 returns c = simp (← c .before .before .peer-of .ensures, ← c .before .read-packet .ensures, ← c .plain-of .ensures)
 
 pub counted-observe-spec : {M : Type 1} → statement M

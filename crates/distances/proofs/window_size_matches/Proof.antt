@@ -1,6 +1,6 @@
 -- `distances::window_size_matches` meets its contract.
 use Rattle.basis.proofs.Rules.{cases}
-use Rattle.distances.specs.Gates.{windowMatches}
+use Rattle.distances.specs.DistanceGates.{windowMatches}
 use borrow.Author.Needs.{needs}
 use Rattle.distances.proofs.window_size_matches.Statement.{statement}
 use Rattle.distances.proofs.window_size_matches.Tie as tie

@@ -1,6 +1,6 @@
 -- `flow::observe` meets its contract.
 use Rattle.flow.proofs.Parts.{part-raised}
-use Rattle.flow.specs.Tcp.{observed}
+use Rattle.flow.specs.Tcp.{observationFrom}
 use Rattle.rfc.specs.Rfc9293.{optionsEnd}
 use borrow.Author.Needs.{needs}
 use Rattle.flow.proofs.observe.Statement.{statement}
@@ -28,7 +28,7 @@ tcp-observation-requires : tie.Need-tcp-observation-requires
 tcp-observation-requires c κs = search needs
 
 returns : tie.Need-returns
-unfolding observed
+unfolding observationFrom
 returns c =
     let t = c .before .before .before .before .before .before .before .args .tcp .now in
     simp (

@@ -1,5 +1,5 @@
 -- `flow::shown_quirks` meets its contract.
-use Rattle.flow.specs.Tcp.{shownQuirks}
+use Rattle.flow.specs.Tcp.{quirksOfHeaders}
 use Rattle.basis.specs.Bytes.{be16, be32}
 use borrow.Author.Needs.{needs}
 use Rattle.flow.proofs.shown_quirks.Statement.{statement}
@@ -63,7 +63,7 @@ header-quirks-requires : tie.Need-header-quirks-requires
 header-quirks-requires c κs = search needs
 
 returns : tie.Need-returns
-unfolding shownQuirks be16 be32
+unfolding quirksOfHeaders be16 be32
 returns c =
     simp (
       c .header-quirks .ensures,

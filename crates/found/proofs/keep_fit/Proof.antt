@@ -9,10 +9,10 @@ use borrow.Author.Needs.{needs}
 use Rattle.found.proofs.keep_fit.Statement.{statement}
 use Rattle.found.proofs.keep_fit.Tie as tie
 
--- A record that fits nothing changes nothing.
-nothing-kept : (held : Found) (label : ℕ) → keep held label fit.Nothing ≡ held
+-- A record that does not fit changes nothing.
+nothing-kept : (held : Found) (label : ℕ) → keep held label fit.None ≡ held
 unfolding keep
-nothing-kept found.Nothing label = refl
+nothing-kept found.None label = refl
 nothing-kept (found.Exact kept) label = refl
 nothing-kept (found.Fuzzy kept why) label = refl
 

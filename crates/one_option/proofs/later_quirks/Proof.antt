@@ -1,6 +1,6 @@
 -- `one_option::later_quirks` meets its contract.
 use Rattle.one_option.proofs.See.{opt, other-quirks}
-use Rattle.one_option.specs.See.{shownQuirks}
+use Rattle.one_option.specs.See.{laterQuirks}
 use Prim.Native.Nat.{ℕ}
 use mathlib.Core.Path.{sym, _∙_, ap}
 use borrow.Author.Needs.{needs}
@@ -13,7 +13,7 @@ stamp-quirks-requires c κs = search needs
 returns : tie.Need-returns
 returns c =
     let a = c .before .before .before .args in
-    c .stamp-quirks .ensures ∙ sym (ap (λ (k : ℕ). shownQuirks (a .syn) (a .quirks) (opt k (a .own .now))) (c .before .if1 .taken))
+    c .stamp-quirks .ensures ∙ sym (ap (λ (k : ℕ). laterQuirks (a .syn) (a .quirks) (opt k (a .own .now))) (c .before .if1 .taken))
 
 scale-quirks-requires : tie.Need-scale-quirks-requires
 scale-quirks-requires c κs = search needs
@@ -21,7 +21,7 @@ scale-quirks-requires c κs = search needs
 returns-2 : tie.Need-returns-2
 returns-2 c =
     let a = c .before .before .before .before .args in
-    c .scale-quirks .ensures ∙ sym (ap (λ (k : ℕ). shownQuirks (a .syn) (a .quirks) (opt k (a .own .now))) (c .before .if2 .taken))
+    c .scale-quirks .ensures ∙ sym (ap (λ (k : ℕ). laterQuirks (a .syn) (a .quirks) (opt k (a .own .now))) (c .before .if2 .taken))
 
 end-quirks-requires : tie.Need-end-quirks-requires
 end-quirks-requires c κs = search needs
@@ -29,7 +29,7 @@ end-quirks-requires c κs = search needs
 returns-3 : tie.Need-returns-3
 returns-3 c =
     let a = c .before .before .before .before .before .args in
-    c .end-quirks .ensures ∙ sym (ap (λ (k : ℕ). shownQuirks (a .syn) (a .quirks) (opt k (a .own .now))) (c .before .if3 .taken))
+    c .end-quirks .ensures ∙ sym (ap (λ (k : ℕ). laterQuirks (a .syn) (a .quirks) (opt k (a .own .now))) (c .before .if3 .taken))
 
 returns-4 : tie.Need-returns-4
 returns-4 c =

@@ -4,7 +4,7 @@ use Rattle.basis.specs.Bytes.{be16}
 use mathlib.Core.Path.{_∙_}
 use native.Mathlib.Nat.{zero-add}
 use native.Mathlib.Omega.{arith}
-use Rattle.report.proofs.Turns.{head-room, head-paged}
+use Rattle.report.proofs.Turns.{head-paged}
 use borrow.Author.Needs.{needs}
 use Rattle.report.proofs.head_page.Statement.{statement}
 use Rattle.report.proofs.head_page.Tie as tie
@@ -40,14 +40,11 @@ cast-t19 : tie.Need-cast-t19
 cast-t19 c = search needs
 
 put-lines-requires : tie.Need-put-lines-requires
-put-lines-requires c κs = let p = c .before .before .before .before .before .before .put-numbered in omega (arith, p .ensures .0, numbered-length packetsWord (c .before .before .before .before .before .before .before .before .before .be16 .result), head-room (c .before .before .before .before .before .before .before .before .before .before .before .before .before .before .args .bundle .now) (c .before .before .before .before .before .before .before .before .before .before .before .before .before .before .args .page .now) (p .last .0) (p .last .0) (c .before .before .before .before .before .before .before .before .before .be16 .result) 0 (p .result) (record { filled = 0; left = 0; at = 0 }) (search needs) (p .ensures .0 ∙ zero-add _) (p .ensures .1))
-
-same-length : tie.Need-same-length
-same-length c = search needs
+put-lines-requires c κs = omega (arith, c .before .before .before .before .put-numbered .ensures .0, numbered-length packetsWord (c .before .before .before .before .before .before .before .be16 .result))
 
 returns : tie.Need-returns
 unfolding be16
-returns c = head-paged (c .before .before .before .before .before .before .before .before .before .before .before .before .before .before .before .before .before .args .bundle .now) _ _ _ _ _ _ _ (search needs) (c .before .before .before .before .before .before .before .before .before .before .before .before .be16 .ensures) (c .before .before .before .before .be162 .ensures) (c .before .before .before .before .before .before .before .before .before .put-numbered .ensures .0 ∙ zero-add _) (c .before .before .before .before .before .before .before .before .before .put-numbered .ensures .1) (c .before .before .put-lines .ensures)
+returns c = head-paged (c .before .before .before .before .before .before .before .before .before .before .before .before .args .bundle .now) _ _ _ _ _ _ _ (c .before .before .before .before .before .before .before .before .be16 .ensures) (c .before .before .be162 .ensures) (c .before .before .before .before .before .put-numbered .ensures .0 ∙ zero-add _) (c .before .before .before .before .before .put-numbered .ensures .1) (c .put-lines .ensures)
 
 pub head-page-spec : {M : Type 1} → statement M
 head-page-spec =
@@ -64,5 +61,4 @@ head-page-spec =
     be16-requires-2
     cast-t19
     put-lines-requires
-    same-length
     returns)

@@ -6,11 +6,8 @@ use Rattle.report.proofs.next_page.Tie as tie
 put-lines-requires : tie.Need-put-lines-requires
 put-lines-requires c κs = search needs
 
-same-length : tie.Need-same-length
-same-length c = search needs
-
 returns : tie.Need-returns
-returns c = paged _ _ _ _ (c .before .before .put-lines .ensures)
+returns c = paged _ _ _ _ (c .put-lines .ensures)
 
 pub next-page-spec : {M : Type 1} → statement M
-next-page-spec = tie.close (tie.spec put-lines-requires same-length returns)
+next-page-spec = tie.close (tie.spec put-lines-requires returns)

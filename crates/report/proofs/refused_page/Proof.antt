@@ -11,14 +11,10 @@ slice-aggregate-put-numbered c = search needs
 put-numbered-requires : tie.Need-put-numbered-requires
 put-numbered-requires c κs = search needs
 
-same-length : tie.Need-same-length
-same-length c = search needs
-
 returns : tie.Need-returns
 unfolding refusedLine
-returns c = let p = c .before .before .put-numbered .ensures in (rw (p .0 ∙ zero-add _), p .1)
+returns c = let p = c .put-numbered .ensures in (rw (p .0 ∙ zero-add _), p .1)
 
 pub refused-page-spec : {M : Type 1} → statement M
 refused-page-spec =
-    tie.close
-    (tie.spec slice-aggregate-put-numbered put-numbered-requires same-length returns)
+    tie.close (tie.spec slice-aggregate-put-numbered put-numbered-requires returns)

@@ -1,5 +1,5 @@
 -- `search::search_checked` meets its contract.
-use Rattle.search.proofs.Rows.{nothing-found}
+use Rattle.search.proofs.Rows.{none-found}
 use Rattle.siglist.proofs.List.{header-areas, header-none}
 use Rattle.search.specs.Search.{numbersFrom, searchOver, searchAll}
 use Rattle.siglist.specs.List.{recordCount}
@@ -22,7 +22,7 @@ returns : tie.Need-returns
 unfolding searchAll searchOver
 returns c =
     let a = c .before .before .before .before .args in
-    sym (nothing-found (featuresOf (a .observed)) (a .observed .olayout .kinds) (a .observed .olayout .bytes) (a .list .now) (header-none (a .list .now) (sym (c .before .before .read-header .ensures) ∙ c .enum-told .given .1)) (numbersFrom 0 (recordCount (a .list .now))))
+    sym (none-found (featuresOf (a .observed)) (a .observed .olayout .kinds) (a .observed .olayout .bytes) (a .list .now) (header-none (a .list .now) (sym (c .before .before .read-header .ensures) ∙ c .enum-told .given .1)) (numbersFrom 0 (recordCount (a .list .now))))
 
 features-of-requires : tie.Need-features-of-requires
 features-of-requires c κs = search needs

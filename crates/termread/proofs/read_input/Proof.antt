@@ -1,18 +1,31 @@
-use lib.ListN.{length}
-use Prim.Native.Nat.{_≤_, _-_}
-use mathlib.Core.Path.{_≡_, refl}
+use lib.ListN.{length, take, drop}
+use lib.IntN.{ℤ, pos}
+use lib.Signed.{ltZ}
+use Prim.Native.Nat.{ℕ, _+_, _-_, _≤_}
+use mathlib.Core.Path.{_≡_, refl, sym, _∙_, subst}
+use mathlib.Core.Bool.{true, false}
+use mathlib.Core.List.{List}
+use native.Mathlib.Omega.{arith}
 use borrow.Author.Needs.{needs}
+use denote.Ref.{now}
+use Rattle.termread.specs.Came.{Came, EndsAs, nothing-came}
+use Rattle.termread.proofs.AnswerTests.{of-bits, count-of-bits, said-failed, counts-none, room}
 use Rattle.termread.proofs.read_input.Statement.{statement}
 use Rattle.termread.proofs.read_input.Tie as tie
 
+-- How many bytes are asked for behind those that came.
+abbrev part : List ℕ → ℕ → ℕ
+part buffer count = length (take (length buffer - count) (drop count buffer))
+
 abbrev Inv-loop : tie.InvT-loop
-Inv-loop buffer₀ count₀ buffer count = (count ≤ length buffer) × (length buffer ≡ length buffer₀)
+Inv-loop buffer₀ count₀ buffer count =
+    (count ≤ length buffer) × (length buffer ≡ length buffer₀) × Came count
 
 abbrev μ-loop : tie.MeasureT-loop
 μ-loop buffer₀ count₀ buffer count = length buffer - count
 
 loop-holds : tie.Need-loop-holds Inv-loop μ-loop
-loop-holds c = (search needs, refl)
+loop-holds c = (search needs, refl, nothing-came)
 
 sub-rest : tie.Need-sub-rest Inv-loop μ-loop
 sub-rest c = search needs
@@ -23,23 +36,39 @@ part-rest-start c = search needs
 part-rest-end : tie.Need-part-rest-end Inv-loop μ-loop
 part-rest-end c = search needs
 
-read-requires : tie.Need-read-requires Inv-loop μ-loop
-read-requires c κs = search needs
+read-some-requires : tie.Need-read-some-requires Inv-loop μ-loop
+read-some-requires c κs =
+    let at = c .before .before .before in
+    (at .loop .inv .2, room (at .loop .buffer) (at .loop .count) (c .before .before .loop-test .taken))
 
 same-length : tie.Need-same-length Inv-loop μ-loop
 same-length c = search needs
 
 returns : tie.Need-returns Inv-loop μ-loop
-returns c = search needs
+returns c =
+    let call = c .before .before .before .before .before .read-some in
+    let at = c .before .before .before .before .before .before .before .before .before in
+    let under = of-bits (λ (z : ℤ). ltZ z (pos 0)) true (call .result) (search needs) (c .before .before .if1 .taken) in
+    (search needs, (at .loop .inv .2, said-failed (at .loop .count) (part (at .loop .buffer) (at .loop .count)) (call .result) (call .ensures) under))
 
 count-requires : tie.Need-count-requires Inv-loop μ-loop
-count-requires c κs = search needs
+count-requires c κs = tt
 
 same-length-2 : tie.Need-same-length-2 Inv-loop μ-loop
 same-length-2 c = search needs
 
 returns-2 : tie.Need-returns-2 Inv-loop μ-loop
-returns-2 c = search needs
+returns-2 c =
+    let counted = c .before .before .before .count in
+    let at-if = c .before .before .before .before .before in
+    let call = at-if .before .before .before .read-some in
+    let at = at-if .before .before .before .before .before .before .before in
+    let from = at .loop .count in
+    let size = part (at .loop .buffer) from in
+    let not-under = of-bits (λ (z : ℤ). ltZ z (pos 0)) false (call .result) (search needs) (at-if .if1 .left) in
+    let none = sym (count-of-bits (call .result) size _ (counted .result) (search needs) (search needs) (counted .ensures .1)) ∙ c .if2 .taken in
+    let some = room (at .loop .buffer) from (at-if .before .before .before .before .before .before .loop-test .taken) in
+    (search needs, (at .loop .inv .2, counts-none from size (call .result) (call .ensures) not-under some none))
 
 add-count : tie.Need-add-count Inv-loop μ-loop
 add-count c = search needs
@@ -48,16 +77,28 @@ loop-less : tie.Need-loop-less Inv-loop μ-loop
 loop-less c = search needs
 
 loop-again : tie.Need-loop-again Inv-loop μ-loop
-loop-again c = (search needs, search needs)
+loop-again c =
+    let counted = c .before .before .before .count in
+    let at-if = c .before .before .before .before .before in
+    let call = at-if .before .before .before .read-some in
+    let at = at-if .before .before .before .before .before .before .before in
+    let from = at .loop .count in
+    let size = part (at .loop .buffer) from in
+    let more = count-of-bits (call .result) size _ (counted .result) (search needs) (search needs) (counted .ensures .1) in
+    (search needs, search needs, subst (λ (n : ℕ). Came (from + n)) (sym more) (call .ensures .2))
 
 after-full-requires : tie.Need-after-full-requires Inv-loop μ-loop
-after-full-requires c κs = search needs
+after-full-requires c κs = c .before .loop .inv .2
 
 same-length-3 : tie.Need-same-length-3 Inv-loop μ-loop
 same-length-3 c = search needs
 
 returns-3 : tie.Need-returns-3 Inv-loop μ-loop
-returns-3 c = search needs
+returns-3 c =
+    let at = c .before .before in
+    let held = at .loop .inv in
+    let full : at .loop .count ≡ length (now (at .before .before .args .buffer)) = omega (arith, held .0, held .1, c .before .loop-test .left) in
+    (held .0, (held .2, subst (λ (n : ℕ). EndsAs (c .after-full .result) (at .loop .count) n) full (c .after-full .ensures)))
 
 pub read-input-spec : {M : Type 1} → statement M
 read-input-spec =
@@ -69,7 +110,7 @@ read-input-spec =
     sub-rest
     part-rest-start
     part-rest-end
-    read-requires
+    read-some-requires
     same-length
     returns
     count-requires

@@ -4,16 +4,16 @@ use borrow.Author.Needs.{needs}
 use Rattle.quirks.proofs.QuirkSet.add_if.Statement.{statement}
 use Rattle.quirks.proofs.QuirkSet.add_if.Tie as tie
 
-with-requires : tie.Need-with-requires
-with-requires c κs = search needs
+insert-requires : tie.Need-insert-requires
+insert-requires c κs = search needs
 
 returns : tie.Need-returns
 unfolding addIf
-returns c = simp (← c .with .ensures, c .before .if1 .taken)
+returns c = simp (← c .insert .ensures, c .before .if1 .taken)
 
 returns-2 : tie.Need-returns-2
 unfolding addIf
 returns-2 c = simp (c .if1 .left)
 
 pub add-if-spec : {M : Type 1} → statement M
-add-if-spec = tie.close (tie.spec with-requires returns returns-2)
+add-if-spec = tie.close (tie.spec insert-requires returns returns-2)

@@ -1,6 +1,6 @@
 -- `search::fit_at` meets its contract.
 use Rattle.search.proofs.Fits.{not-tolerated, not-held, held-fit}
-use Rattle.found.specs.Keep.{fitsNothing}
+use Rattle.found.specs.Keep.{isNone}
 use Rattle.matching.specs.Fit.{toleranceOf}
 use borrow.Author.Tests.{not-true, not-false}
 use mathlib.Core.Path.{sym, _∙_, ap}
@@ -32,15 +32,15 @@ signature-of-requires c κs = search needs
 tolerance-requires : tie.Need-tolerance-requires
 tolerance-requires c κs = search needs
 
-is-nothing-requires : tie.Need-is-nothing-requires
-is-nothing-requires c κs = search needs
+is-none-requires : tie.Need-is-none-requires
+is-none-requires c κs = search needs
 
 returns : tie.Need-returns
 returns c =
     let a = c .before .before .before .before .before .before .before .before .before .args in
     let fits = c .before .before .before .before .before .before .before .before .before .pre .0 in
     let inside = c .before .before .before .before .before .before .before .before .before .pre .1 in
-    sym (not-tolerated (a .observed) (a .kinds .now) (a .bytes .now) (a .list .now) (a .areas) (a .i) fits inside (rw (← fits .recordsAt) (ap fitsNothing (sym (c .before .before .tolerance .ensures ∙ ap (toleranceOf (a .observed)) (c .before .before .before .signature-of .ensures))) ∙ sym (c .before .is-nothing .ensures) ∙ c .if1 .taken)))
+    sym (not-tolerated (a .observed) (a .kinds .now) (a .bytes .now) (a .list .now) (a .areas) (a .i) fits inside (rw (← fits .recordsAt) (ap isNone (sym (c .before .before .tolerance .ensures ∙ ap (toleranceOf (a .observed)) (c .before .before .before .signature-of .ensures))) ∙ sym (c .before .is-none .ensures) ∙ c .if1 .taken)))
 
 holds-at-requires : tie.Need-holds-at-requires
 holds-at-requires c κs = search needs
@@ -77,7 +77,7 @@ fit-at-spec =
     part-raw-end
     signature-of-requires
     tolerance-requires
-    is-nothing-requires
+    is-none-requires
     returns
     holds-at-requires
     returns-2

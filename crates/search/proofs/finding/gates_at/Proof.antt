@@ -67,29 +67,29 @@ returns-4 c =
     let a = c .before .before .before .before .before .before .before .before .before .before .before .before .before .before .before .before .before .args in
     rw (fails-olen (a .observed) (signatureOf (a .raw .now)) (sym (c .before .olen-matches .ensures) ∙ not-true (c .before .olen-matches .result) (c .if4 .taken))) (sym (and-false (eqb (a .observed .count) (entryCount (a .raw .now)))))
 
-shared-slice-read-payload-gate : tie.Need-shared-slice-read-payload-gate
-shared-slice-read-payload-gate c = search needs
+shared-slice-read-payload-size-matches : tie.Need-shared-slice-read-payload-size-matches
+shared-slice-read-payload-size-matches c = search needs
 
-payload-gate-requires : tie.Need-payload-gate-requires
-payload-gate-requires c κs = search needs
+payload-size-matches-requires : tie.Need-payload-size-matches-requires
+payload-size-matches-requires c κs = search needs
 
 returns-5 : tie.Need-returns-5
 unfolding signatureOf be16
 returns-5 c =
     let a = c .before .before .before .before .before .before .before .before .before .before .before .before .before .before .before .before .before .before .before .before .args in
-    rw (fails-payload (a .observed) (signatureOf (a .raw .now)) (sym (c .before .payload-gate .ensures) ∙ not-true (c .before .payload-gate .result) (c .if5 .taken))) (sym (and-false (eqb (a .observed .count) (entryCount (a .raw .now)))))
+    rw (fails-payload (a .observed) (signatureOf (a .raw .now)) (sym (c .before .payload-size-matches .ensures) ∙ not-true (c .before .payload-size-matches .result) (c .if5 .taken))) (sym (and-false (eqb (a .observed .count) (entryCount (a .raw .now)))))
 
-shared-slice-read-version-gate : tie.Need-shared-slice-read-version-gate
-shared-slice-read-version-gate c = search needs
+shared-slice-read-ip-version-matches : tie.Need-shared-slice-read-ip-version-matches
+shared-slice-read-ip-version-matches c = search needs
 
-version-gate-requires : tie.Need-version-gate-requires
-version-gate-requires c κs = search needs
+ip-version-matches-requires : tie.Need-ip-version-matches-requires
+ip-version-matches-requires c κs = search needs
 
 returns-6 : tie.Need-returns-6
 unfolding signatureOf be16
 returns-6 c =
     let a = c .before .before .before .before .before .before .before .before .before .before .before .before .before .before .before .before .before .before .before .before .before .before .before .args in
-    rw (fails-version (a .observed) (signatureOf (a .raw .now)) (sym (c .before .version-gate .ensures) ∙ not-true (c .before .version-gate .result) (c .if6 .taken))) (sym (and-false (eqb (a .observed .count) (entryCount (a .raw .now)))))
+    rw (fails-version (a .observed) (signatureOf (a .raw .now)) (sym (c .before .ip-version-matches .ensures) ∙ not-true (c .before .ip-version-matches .result) (c .if6 .taken))) (sym (and-false (eqb (a .observed .count) (entryCount (a .raw .now)))))
 
 shared-slice-read-window-gate : tie.Need-shared-slice-read-window-gate
 shared-slice-read-window-gate c = search needs
@@ -109,11 +109,11 @@ returns-7 c =
     let a = c .before .before .before .before .before .before .before .before .before .before .before .before .before .before .before .before .before .before .before .before .before .before .before .before .before .before .before .args in
     rw (
       window-decides (a .observed) (signatureOf (a .raw .now))
-          (sym (c .before .before .before .before .before .version-gate .ensures) ∙ not-false (c .before .before .before .before .before .version-gate .result) (c .before .before .before .before .if6 .left))
+          (sym (c .before .before .before .before .before .ip-version-matches .ensures) ∙ not-false (c .before .before .before .before .before .ip-version-matches .result) (c .before .before .before .before .if6 .left))
           (sym (c .before .before .before .before .before .before .before .before .before .before .before .olen-matches .ensures) ∙ not-false (c .before .before .before .before .before .before .before .before .before .before .before .olen-matches .result) (c .before .before .before .before .before .before .before .before .before .before .if4 .left))
           (sym (c .before .before .before .before .before .before .before .before .before .before .before .before .before .before .mss-gate .ensures) ∙ not-false (c .before .before .before .before .before .before .before .before .before .before .before .before .before .before .mss-gate .result) (c .before .before .before .before .before .before .before .before .before .before .before .before .before .if3 .left))
           (sym (c .before .before .before .before .before .before .before .before .before .before .before .before .before .before .before .before .before .before .before .scale-gate .ensures) ∙ not-false (c .before .before .before .before .before .before .before .before .before .before .before .before .before .before .before .before .before .before .before .scale-gate .result) (c .before .before .before .before .before .before .before .before .before .before .before .before .before .before .before .before .before .before .if2 .left))
-          (sym (c .before .before .before .before .before .before .before .before .payload-gate .ensures) ∙ not-false (c .before .before .before .before .before .before .before .before .payload-gate .result) (c .before .before .before .before .before .before .before .if5 .left)),
+          (sym (c .before .before .before .before .before .before .before .before .payload-size-matches .ensures) ∙ not-false (c .before .before .before .before .before .before .before .before .payload-size-matches .result) (c .before .before .before .before .before .before .before .if5 .left)),
       eq-eqb (a .observed .count) (entryCount (a .raw .now)) (c .before .before .before .before .before .before .before .before .before .before .before .before .before .before .before .before .before .before .before .before .before .before .if1 .left ∙ c .before .before .before .before .before .before .before .before .before .before .before .before .before .before .before .before .before .before .before .before .before .before .before .before .wide .ensures),
       c .window-gate .ensures,
     )
@@ -138,11 +138,11 @@ gates-at-spec =
     shared-slice-read-olen-matches
     olen-matches-requires
     returns-4
-    shared-slice-read-payload-gate
-    payload-gate-requires
+    shared-slice-read-payload-size-matches
+    payload-size-matches-requires
     returns-5
-    shared-slice-read-version-gate
-    version-gate-requires
+    shared-slice-read-ip-version-matches
+    ip-version-matches-requires
     returns-6
     shared-slice-read-window-gate
     shared-slice-read-window-gate-2

@@ -2,7 +2,7 @@
 use Rattle.search.proofs.Rows.{one-record, exact-ends, no-record}
 use Rattle.search.specs.Search.{searchFrom, numbersFrom}
 use Rattle.siglist.specs.List.{AreasFit}
-use Rattle.found.specs.declared.Found.the-variants.{Nothing}
+use Rattle.found.specs.declared.Found.the-variants.{None}
 use Rattle.found.specs.declared.Found.{Found}
 use native.Mathlib.Nat.{sub-zero}
 use Prim.Native.Nat.{_+_, _-_, _≤_}
@@ -14,7 +14,7 @@ use Rattle.search.proofs.finding.search_records.Tie as tie
 abbrev Inv-loop : tie.InvT-loop
 Inv-loop observed kinds bytes list areas count held₀ i₀ held i =
     (i ≤ count) × (count ≡ areas .records) × AreasFit list areas
-    × (searchFrom held observed kinds bytes list (numbersFrom i (count - i)) ≡ searchFrom Nothing observed kinds bytes list (numbersFrom 0 count))
+    × (searchFrom held observed kinds bytes list (numbersFrom i (count - i)) ≡ searchFrom None observed kinds bytes list (numbersFrom 0 count))
 
 abbrev μ-loop : tie.MeasureT-loop
 μ-loop observed kinds bytes list areas count held₀ i₀ held i = count - i

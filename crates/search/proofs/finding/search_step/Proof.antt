@@ -1,5 +1,5 @@
 -- `search::search_step` meets its contract.
-use Rattle.search.proofs.Rows.{keep-nothing}
+use Rattle.search.proofs.Rows.{keep-none}
 use Rattle.found.specs.Keep.{keep}
 use Rattle.siglist.specs.List.{recordAt}
 use Rattle.sigrecord.specs.Record.{labelOf}
@@ -12,14 +12,14 @@ use Rattle.search.proofs.finding.search_step.Tie as tie
 fit-at-requires : tie.Need-fit-at-requires
 fit-at-requires c κs = search needs
 
-is-nothing-requires : tie.Need-is-nothing-requires
-is-nothing-requires c κs = search needs
+is-none-requires : tie.Need-is-none-requires
+is-none-requires c κs = search needs
 
 returns : tie.Need-returns
 returns c =
     let e = c .before .before .fit-at .ensures in
     sym (ap (λ (x : SignatureFit). keep (c .before .before .before .before .before .before .args .held) (labelOf (recordAt (c .before .before .before .before .before .before .args .list .now) (c .before .before .before .before .before .before .args .i))) x) (sym e)
-    ∙ keep-nothing _ _ _ (sym (c .before .is-nothing .ensures) ∙ c .if1 .taken))
+    ∙ keep-none _ _ _ (sym (c .before .is-none .ensures) ∙ c .if1 .taken))
 
 label-at-requires : tie.Need-label-at-requires
 label-at-requires c κs = search needs
@@ -35,7 +35,7 @@ search-step-spec =
     tie.close
     (tie.spec
     fit-at-requires
-    is-nothing-requires
+    is-none-requires
     returns
     label-at-requires
     keep-fit-requires

@@ -1,0 +1,176 @@
+-- What the functions that do not refuse answer.
+use mathlib.Core.Path.{_≡_, refl, _∙_, ap}
+use mathlib.Core.Bool.{Bool, true, false, cond, _&&_}
+use mathlib.Core.List.{List, [], _∷_}
+use Prim.Native.Nat.{ℕ, _<_, _≤_}
+use native.Mathlib.Omega.{arith}
+use lib.Dec.{eqb, ltb, leb}
+use lib.ListN.{length}
+use lib.Seq.{take-take}
+use borrow.Author.Tests.{le-ltb, ne-eqb, leb-true}
+use Rattle.basis.proofs.Tests.{and-left, and-right, and-false}
+use Rattle.syn_options.specs.Walk.{walkOf, parseOptionsRaw}
+use Rattle.gates.specs.Gates.{layoutMatches}
+use Rattle.matching.specs.declared.Features.{Features}
+use Rattle.matching.specs.declared.SignatureFit.{SignatureFit}
+use Rattle.matching.specs.declared.SignatureFit.the-variants as fit
+use Rattle.matching.specs.Fit.{featuresOf, fitOf}
+use Rattle.sigrecord.specs.Record.{entryCount, labelOf, scalarsGood}
+use Rattle.siglist.specs.declared.ListAnswer.{ListAnswer}
+use Rattle.siglist.specs.declared.ListAnswer.the-variants as list
+use Rattle.siglist.specs.List.{recordCount, recordAt, listFits, layoutLies, recordGood, checkList}
+use Rattle.siglist.proofs.FirstBad.{Checked, first-bad-named}
+use Rattle.found.specs.declared.Found.{Found}
+use Rattle.found.specs.declared.Found.the-variants as found
+use Rattle.found.specs.Keep.{isNone, keep}
+use Rattle.search.specs.Search.{fitAt, searchFrom, numbersFrom, searchOver, searchAll, searchList}
+use Rattle.search.proofs.Rows.{keep-none, none-found}
+use Rattle.flow.specs.Reading.{readPacket}
+use Rattle.packet_answer.specs.declared.PacketAnswer.the-variants as packet
+use Rattle.bundle.specs.declared.BundleCheck.the-variants as check
+use Rattle.bundle.specs.Bundle.{packetCount, checkBundle}
+use Rattle.bundle.specs.Answers.{answerAt, packetLies, packetAt, startOf}
+use Rattle.bundle.proofs.Packets.{good-fits, fits-lies, packets-within, start-first}
+use Rattle.bundle.proofs.BundleOrder.{each-within}
+use Rattle.gateway.specs.Code.{fieldsOf, codeOf, gatewayAnswer, listCode}
+use Rattle.acceptance.specs.Unchecked.{goodOnes, SearchUnchecked, PacketUnchecked, BundleUnchecked, OptionsUnchecked, Unchecked}
+use Rattle.acceptance.proofs.Honesty.{honesty}
+
+-- ---- a record that is not well formed
+
+module _ (f : Features) (kinds bytes l : List ℕ) where
+  bad-fits-not : (i : ℕ) → recordGood l i ≡ false → fitAt f kinds bytes l i ≡ fit.None
+  unfolding fitAt
+  bad-fits-not i e = simp (e, and-false)
+
+  passed : (held : Found) (label : ℕ) (x : SignatureFit) → x ≡ fit.None → keep held label x ≡ held
+  unfolding isNone
+  passed held label x e = keep-none held label x (rw e refl)
+
+  -- The bad records of a row may be left out.
+  good-row : (held : Found) (is : List ℕ) → searchFrom held f kinds bytes l is ≡ searchFrom held f kinds bytes l (goodOnes l is)
+  unfolding searchFrom goodOnes
+  good-row held [] = refl
+  good-row held (i ∷ is) =
+      by-test (recordGood l i) refl (good-row (keep held (labelOf (recordAt l i)) (fitAt f kinds bytes l i)) is)
+    where
+      by-test
+          : (t : Bool)
+          → recordGood l i ≡ t
+          → searchFrom (keep held (labelOf (recordAt l i)) (fitAt f kinds bytes l i)) f kinds bytes l is
+          ≡ searchFrom (keep held (labelOf (recordAt l i)) (fitAt f kinds bytes l i)) f kinds bytes l (goodOnes l is)
+          → searchFrom held f kinds bytes l (i ∷ is) ≡ searchFrom held f kinds bytes l (cond t (i ∷ goodOnes l is) (goodOnes l is))
+      by-test true e rest = rest
+      by-test false e rest =
+          rest ∙ ap (λ (h : Found). searchFrom h f kinds bytes l (goodOnes l is)) (passed held _ _ (bad-fits-not i e))
+
+  all-none : ((i : ℕ) → fitAt f kinds bytes l i ≡ fit.None) → (is : List ℕ) → searchFrom found.None f kinds bytes l is ≡ found.None
+  unfolding searchFrom keep
+  all-none none [] = refl
+  all-none none (i ∷ is) = rw (none i) (all-none none is)
+
+-- ---- an observation with too long a layout
+
+few-entries : (l : List ℕ) (i : ℕ) → recordGood l i ≡ true → entryCount (recordAt l i) ≤ 40
+unfolding recordGood layoutLies
+few-entries l i good =
+    leb-true (entryCount (recordAt l i)) 40
+    (and-left (leb (entryCount (recordAt l i)) 40) _
+    (and-left _ _ (and-right (scalarsGood (recordAt l i)) _ good)))
+
+either-none : (t : Bool) → cond t fit.None fit.None ≡ fit.None
+either-none true = refl
+either-none false = refl
+
+module _ (f : Features) (kinds bytes l : List ℕ) (long : 40 < f .count) where
+  other-count : (i : ℕ) → recordGood l i ≡ true → eqb (f .count) (entryCount (recordAt l i)) ≡ false
+  other-count i good =
+      let few = few-entries l i good in
+      ne-eqb (f .count) (entryCount (recordAt l i)) (λ (e : f .count ≡ entryCount (recordAt l i)). omega arith)
+
+  long-fits-not : (i : ℕ) → fitAt f kinds bytes l i ≡ fit.None
+  unfolding fitAt fitOf layoutMatches
+  long-fits-not i = by-test (recordGood l i) refl
+    where
+      by-test : (t : Bool) → recordGood l i ≡ t → fitAt f kinds bytes l i ≡ fit.None
+      by-test false e = bad-fits-not f kinds bytes l i e
+      by-test true e = simp (other-count i e, and-false) (either-none (listFits l && ltb i (recordCount l) && recordGood l i))
+
+-- ---- a list that does not fit
+
+never-unfit : {l : List ℕ} {a : ListAnswer} → Checked l 0 (recordCount l) a → a ≡ list.DoesNotFit → ⊥
+never-unfit (Checked.all-good all) e = let z : _≡_ {A = ℕ} 0 1 = cc in omega arith
+never-unfit (Checked.first-bad k b u bad before) e = let z : _≡_ {A = ℕ} 0 1 = cc in omega arith
+
+unfit : (l : List ℕ) → checkList l ≡ list.DoesNotFit → listFits l ≡ false
+unfit l e = by-test (listFits l) refl
+  where
+    by-test : (t : Bool) → listFits l ≡ t → t ≡ false
+    by-test true fits = absurd (never-unfit (first-bad-named l fits) e)
+    by-test false fits = refl
+
+good-code : (a : ListAnswer) → listCode a ≡ 0 → a ≡ list.Good
+unfolding listCode codeOf fieldsOf
+good-code list.Good e = refl
+good-code list.DoesNotFit e = absurd (omega arith)
+good-code (list.BadRecord i) e = absurd (omega arith)
+
+-- ---- the statements
+
+search-unchecked : SearchUnchecked
+unfolding searchAll searchOver searchList checkList featuresOf
+search-unchecked =
+    record {
+      same = λ o l few good. rw (le-ltb 40 (o .olayout .count) few, good);
+      bad-record = λ o l. good-row (featuresOf o) (o .olayout .kinds) (o .olayout .bytes) l found.None (numbersFrom 0 (recordCount l));
+      does-not-fit = λ o l e. none-found (featuresOf o) (o .olayout .kinds) (o .olayout .bytes) l (unfit l e) (numbersFrom 0 (recordCount l));
+      layout-too-long = λ o l long.
+          all-none (featuresOf o) (o .olayout .kinds) (o .olayout .bytes) l
+          (long-fits-not (featuresOf o) (o .olayout .kinds) (o .olayout .bytes) l long) (numbersFrom 0 (recordCount l));
+    }
+
+packet-unchecked : PacketUnchecked
+unfolding gatewayAnswer listCode fieldsOf
+packet-unchecked =
+    record {
+      same = λ p peer l good. rw good;
+      same-code = λ p peer l good. rw good;
+      checked = λ l. (good-code (checkList l), λ good. rw good);
+      syn = λ p peer l e.
+          honesty .syn-answer p peer l e ∙ ap packet.Syn (search-unchecked .bad-record (readPacket p peer .observation) l);
+      syn-ack = λ p peer l e.
+          honesty .syn-ack-answer p peer l e ∙ ap packet.SynAck (search-unchecked .bad-record (readPacket p peer .observation) l);
+      syn-unfit = λ p peer l e unfits.
+          honesty .syn-answer p peer l e ∙ ap packet.Syn (search-unchecked .does-not-fit (readPacket p peer .observation) l unfits);
+      syn-ack-unfit = λ p peer l e unfits.
+          honesty .syn-ack-answer p peer l e ∙ ap packet.SynAck (search-unchecked .does-not-fit (readPacket p peer .observation) l unfits);
+    }
+
+good-lies : (b : List ℕ) (i : ℕ) → checkBundle b ≡ check.Good → i < packetCount b → packetLies b (startOf b i) ≡ true
+unfolding packetLies
+good-lies b i good inside =
+    let fits = good-fits b good in
+    rw (
+      fits-lies b fits,
+      each-within b (packetCount b) 0 i (rw (start-first b) (packets-within b fits)) (omega arith) (omega arith),
+    )
+
+bundle-unchecked : BundleUnchecked
+unfolding packetAt answerAt startOf
+bundle-unchecked =
+    record {
+      same = λ b i good inside. rw (good-lies b i good inside);
+      lies = λ b at e. rw e;
+      lies-not = λ b at e. rw e;
+    }
+
+options-unchecked : OptionsUnchecked
+unfolding parseOptionsRaw walkOf
+options-unchecked =
+    record {
+      same = λ s few. rw (le-ltb 40 (length s) few);
+      over-40 = λ stop syn q s. rw (take-take 40 40 s (omega arith));
+    }
+
+pub unchecked : Unchecked
+unchecked = record { search = search-unchecked; packet = packet-unchecked; bundle = bundle-unchecked; options = options-unchecked }

@@ -1,0 +1,144 @@
+-- Demand 1, a line for each public function. The fit and the search: distances.rs, matching.rs, the signature list.
+use mathlib.Core.Bool.{_&&_}
+use mathlib.Core.List.{List}
+use Prim.Native.Nat.{ℕ}
+use contract.Lifetimes.{Lfts}
+use denote.Ref.{RefT, now}
+use Rattle.tcp.specs.declared.IpVersion.{IpVersion}
+use Rattle.tcp.specs.declared.Mss.{Mss}
+use Rattle.tcp.specs.declared.PayloadSize.{PayloadSize}
+use Rattle.tcp.specs.declared.Wscale.{Wscale}
+use Rattle.quirks.specs.declared.QuirkSet.{QuirkSet}
+use Rattle.ttl.specs.declared.Ttl.{Ttl}
+use Rattle.window_size.specs.declared.Multiplier.{Multiplier}
+use Rattle.observable.specs.declared.TcpObservation.{TcpObservation}
+use Rattle.distances.specs.declared.WindowSize.{WindowSize}
+use Rattle.distances.specs.DistanceGates.{versionMatches, windowMatches, payloadMatches}
+use Rattle.distances.specs.Distances.{ttlFit, reportedHops}
+use Rattle.distances.proofs.ttl_fit as ttl-fit'
+use Rattle.distances.proofs.report_hop_distance as report-hop-distance'
+use Rattle.distances.proofs.window_size_matches as window-size-matches'
+use Rattle.matching.specs.declared.Features.{Features}
+use Rattle.matching.specs.declared.Signature.{Signature}
+use Rattle.gates.specs.Gates.{olenMatches, mssMatches, scaleMatches, entryGood, entriesGood, layoutMatches}
+use Rattle.matching.specs.Tolerance.{quirksFit}
+use Rattle.matching.specs.Fit.{featuresOf, toleranceOf}
+use Rattle.gates.proofs.olen_matches as olen-matches'
+use Rattle.gates.proofs.mss_matches as mss-matches'
+use Rattle.gates.proofs.wscale_matches as wscale-matches'
+use Rattle.matching.proofs.quirks_fit as quirks-fit'
+use Rattle.gates.proofs.entry_good as entry-good'
+use Rattle.gates.proofs.olayout_matches as olayout-matches'
+use Rattle.matching.proofs.features_of as features-of'
+use Rattle.matching.proofs.tolerance as tolerance'
+use Rattle.siglist.specs.List.{headerOf, checkList}
+use Rattle.sigrecord.specs.Record.{versionOf, payloadOf, scalarsWellFormed}
+use Rattle.siglist.proofs.read_header as read-header'
+use Rattle.sigrecord.proofs.ip_version_matches as ip-version-matches'
+use Rattle.sigrecord.proofs.payload_size_matches as payload-size-matches'
+use Rattle.sigrecord.proofs.scalars_well_formed as scalars-well-formed'
+use Rattle.siglist.proofs.check_list as check-list'
+use Rattle.matching.specs.declared.SignatureFit.{SignatureFit}
+use Rattle.found.specs.declared.Found.{Found}
+use Rattle.found.specs.Keep.{isNone, keep, isExact}
+use Rattle.found.proofs.is_exact as is-exact'
+use Rattle.found.proofs.is_none as is-none'
+use Rattle.found.proofs.keep_fit as keep-fit'
+use Rattle.search.specs.Search.{searchAll, searchList}
+use Rattle.search.proofs.search_checked as search-checked'
+use Rattle.search.proofs.search as search'
+use Rattle.acceptance.specs.Promised.{Answers}
+
+pub record Distances : Type 0 where
+  pub ttl-fit
+      : (o : ℕ) (s : Ttl)
+      → Answers ttl-fit'.signature tt (ttl-fit'.Reads.Pre tt) (ttl-fit'.Reads.Post tt)
+      (o, (s, tt)) (ttlFit o s)
+  pub report-hop-distance
+      : (o s : Ttl)
+      → Answers report-hop-distance'.signature tt (report-hop-distance'.Reads.Pre tt) (report-hop-distance'.Reads.Post tt)
+      (o, (s, tt)) (reportedHops o s)
+  pub window-size-matches
+      : (o : ℕ) (s : WindowSize) (m : Multiplier)
+      → Answers window-size-matches'.signature tt (window-size-matches'.Reads.Pre tt) (window-size-matches'.Reads.Post tt)
+      (o, (s, (m, tt))) (windowMatches o s m)
+
+pub record Matching : Type 0 where
+  pub olen-matches
+      : (o s : ℕ)
+      → Answers olen-matches'.signature tt (olen-matches'.Reads.Pre tt) (olen-matches'.Reads.Post tt)
+      (o, (s, tt)) (olenMatches o s)
+  pub mss-matches
+      : (o s : Mss)
+      → Answers mss-matches'.signature tt (mss-matches'.Reads.Pre tt) (mss-matches'.Reads.Post tt)
+      (o, (s, tt)) (mssMatches o s)
+  pub wscale-matches
+      : (o s : Wscale)
+      → Answers wscale-matches'.signature tt (wscale-matches'.Reads.Pre tt) (wscale-matches'.Reads.Post tt)
+      (o, (s, tt)) (scaleMatches o s)
+  pub quirks-fit
+      : (o s : QuirkSet)
+      → Answers quirks-fit'.signature tt (quirks-fit'.Reads.Pre tt) (quirks-fit'.Reads.Post tt)
+      (o, (s, tt)) (quirksFit o s)
+  pub olayout-matches
+      : (κs : Lfts 3) (kinds bytes : RefT (List ℕ)) (count : ℕ) (entries : RefT (List ℕ)) (declared : ℕ)
+      → Answers olayout-matches'.signature κs (olayout-matches'.Reads.Pre κs) (olayout-matches'.Reads.Post κs)
+      (kinds, (bytes, (count, (entries, (declared, tt)))))
+      (layoutMatches count (now kinds) (now bytes) declared (now entries) && entriesGood (now entries) declared)
+  pub entry-good
+      : (kind byte : ℕ)
+      → Answers entry-good'.signature tt (entry-good'.Reads.Pre tt) (entry-good'.Reads.Post tt)
+      (kind, (byte, tt)) (entryGood kind byte)
+  pub features-of
+      : (o : TcpObservation)
+      → Answers features-of'.signature tt (features-of'.Reads.Pre tt) (features-of'.Reads.Post tt)
+      (o, tt) (featuresOf o)
+  pub tolerance
+      : (f : Features) (s : Signature)
+      → Answers tolerance'.signature tt (tolerance'.Reads.Pre tt) (tolerance'.Reads.Post tt)
+      (f, (s, tt)) (toleranceOf f s)
+
+pub record Siglist : Type 0 where
+  pub read-header
+      : (κs : Lfts 1) (list : RefT (List ℕ))
+      → Answers read-header'.signature κs (read-header'.Reads.Pre κs) (read-header'.Reads.Post κs)
+      (list, tt) (headerOf (now list))
+  pub ip-version-matches
+      : (o : IpVersion) (code : ℕ)
+      → Answers ip-version-matches'.signature tt (ip-version-matches'.Reads.Pre tt) (ip-version-matches'.Reads.Post tt)
+      (o, (code, tt)) (versionMatches o (versionOf code))
+  pub payload-size-matches
+      : (o : PayloadSize) (code : ℕ)
+      → Answers payload-size-matches'.signature tt (payload-size-matches'.Reads.Pre tt) (payload-size-matches'.Reads.Post tt)
+      (o, (code, tt)) (payloadMatches o (payloadOf code))
+  pub scalars-well-formed
+      : (κs : Lfts 1) (raw : RefT (List ℕ))
+      → Answers scalars-well-formed'.signature κs (scalars-well-formed'.Reads.Pre κs) (scalars-well-formed'.Reads.Post κs)
+      (raw, tt) (scalarsWellFormed (now raw))
+  pub check-list
+      : (κs : Lfts 1) (list : RefT (List ℕ))
+      → Answers check-list'.signature κs (check-list'.Reads.Pre κs) (check-list'.Reads.Post κs)
+      (list, tt) (checkList (now list))
+
+pub record Held : Type 0 where
+  pub is-exact
+      : (f : Found)
+      → Answers is-exact'.signature tt (is-exact'.Reads.Pre tt) (is-exact'.Reads.Post tt)
+      (f, tt) (isExact f)
+  pub is-none
+      : (f : SignatureFit)
+      → Answers is-none'.signature tt (is-none'.Reads.Pre tt) (is-none'.Reads.Post tt)
+      (f, tt) (isNone f)
+  pub keep-fit
+      : (held : Found) (label : ℕ) (f : SignatureFit)
+      → Answers keep-fit'.signature tt (keep-fit'.Reads.Pre tt) (keep-fit'.Reads.Post tt)
+      (held, (label, (f, tt))) (keep held label f)
+
+pub record Search : Type 0 where
+  pub search-checked
+      : (κs : Lfts 1) (list : RefT (List ℕ)) (o : TcpObservation)
+      → Answers search-checked'.signature κs (search-checked'.Reads.Pre κs) (search-checked'.Reads.Post κs)
+      (o, (list, tt)) (searchAll o (now list))
+  pub search
+      : (κs : Lfts 1) (list : RefT (List ℕ)) (o : TcpObservation)
+      → Answers search'.signature κs (search'.Reads.Pre κs) (search'.Reads.Post κs) (o, (list, tt)) (searchList o (now list))

@@ -1,0 +1,113 @@
+-- "Exact, fuzzy and none stay three answers", for who reads the output: what a line prints of an answer, that lines which print different
+-- things differ, and every word of the output. `Lines` is the statement.
+use mathlib.Core.Path.{_≡_}
+use mathlib.Core.List.{List, [], _∷_}
+use mathlib.Core.Logic.{_↔_}
+use Prim.Native.Nat.{ℕ, _<_}
+use Prim.Native.Char.{Char, code}
+use Prim.Native.String.{String, [] as end, _∷_ as _then_}
+use Rattle.tcp.specs.declared.Mss.{Mss}
+use Rattle.ip.specs.declared.Refusal.the-variants as refusal
+use Rattle.ip.specs.Numbers.{number}
+use Rattle.matching.specs.declared.FuzzyReason.{FuzzyReason}
+use Rattle.found.specs.declared.Found.{Found}
+use Rattle.found.specs.declared.Found.the-variants as found
+use Rattle.packet_answer.specs.declared.PacketAnswer.{PacketAnswer}
+use Rattle.packet_answer.specs.declared.PacketAnswer.the-variants as packet
+use Rattle.packet_answer.specs.Packet.{answerOf}
+use Rattle.bundle.specs.declared.BundleCheck.{BundleCheck}
+use Rattle.bundle.specs.Bundle.{bundleRefusal}
+use Rattle.gateway.specs.Decode.{AllBytes}
+use Rattle.report.specs.Text.{lineOf, headLine, refusedLine}
+
+-- ---- what a line prints
+
+-- "syn exact 7", "syn fuzzy 7", "syn none": the endings of a line.
+pub data PrintedFound : Type 0 where
+  exact : ℕ → PrintedFound
+  fuzzy : ℕ → PrintedFound
+  none : PrintedFound
+
+-- "`syn none`, `synack` with the same endings, `nothing`, `refused 1` to `refused 7`": the lines.
+pub data Printed : Type 0 where
+  syn : PrintedFound → Printed
+  synack : PrintedFound → Printed
+  nothing : Printed
+  refused : ℕ → Printed
+
+-- Exact, fuzzy or none, with the label; the reason of a fuzzy answer is not printed.
+abbrev pub printedFound : Found → PrintedFound
+printedFound (found.Exact label) = PrintedFound.exact label
+printedFound (found.Fuzzy label reason) = PrintedFound.fuzzy label
+printedFound found.None = PrintedFound.none
+
+-- SYN or SYN+ACK with what was found, nothing, or a refusal by its number; the flags byte of refusal 7 is not printed.
+abbrev pub printed : PacketAnswer → Printed
+printed (packet.Syn f) = Printed.syn (printedFound f)
+printed (packet.SynAck f) = Printed.synack (printedFound f)
+printed packet.Nothing = Printed.nothing
+printed (packet.Refused r) = Printed.refused (number r)
+
+-- "22 label (two)": a label is a number of two bytes.
+abbrev pub TwoBytes : Found → Type 0
+TwoBytes (found.Exact label) = label < 65536
+TwoBytes (found.Fuzzy label reason) = label < 65536
+TwoBytes found.None = Unit {0}
+
+abbrev pub LabelFits : PacketAnswer → Type 0
+LabelFits (packet.Syn f) = TwoBytes f
+LabelFits (packet.SynAck f) = TwoBytes f
+LabelFits packet.Nothing = Unit {0}
+LabelFits (packet.Refused r) = Unit {0}
+
+-- ---- the words
+
+-- A text of ASCII characters, as bytes.
+abbrev pub ascii : String → List ℕ
+ascii end = []
+ascii (c then rest) = code c ∷ ascii rest
+
+-- "`packets N`, then a line each", "`refused N`", "`syn none`, `synack` with the same endings, `nothing`, `refused 1` to `refused 7`":
+-- every word, with numbers of one digit to five.
+pub record Words : Type 0 where
+  pub packets-0 : headLine 0 ≡ ascii "packets 0\n"
+  pub packets-16383 : headLine 16383 ≡ ascii "packets 16383\n"
+  pub syn-exact : lineOf (packet.Syn (found.Exact 7)) ≡ ascii "syn exact 7\n"
+  pub syn-fuzzy : (reason : FuzzyReason) → lineOf (packet.Syn (found.Fuzzy 10254 reason)) ≡ ascii "syn fuzzy 10254\n"
+  pub syn-none : lineOf (packet.Syn found.None) ≡ ascii "syn none\n"
+  pub synack-exact : lineOf (packet.SynAck (found.Exact 0)) ≡ ascii "synack exact 0\n"
+  pub synack-fuzzy : (reason : FuzzyReason) → lineOf (packet.SynAck (found.Fuzzy 65535 reason)) ≡ ascii "synack fuzzy 65535\n"
+  pub synack-none : lineOf (packet.SynAck found.None) ≡ ascii "synack none\n"
+  pub nothing : lineOf packet.Nothing ≡ ascii "nothing\n"
+  pub refused-1 : lineOf (packet.Refused refusal.Version) ≡ ascii "refused 1\n"
+  pub refused-2 : lineOf (packet.Refused refusal.TooShort) ≡ ascii "refused 2\n"
+  pub refused-3 : lineOf (packet.Refused refusal.HeaderLength) ≡ ascii "refused 3\n"
+  pub refused-4 : lineOf (packet.Refused refusal.UnsupportedProtocol) ≡ ascii "refused 4\n"
+  pub refused-5 : lineOf (packet.Refused refusal.Fragment) ≡ ascii "refused 5\n"
+  pub refused-6 : lineOf (packet.Refused refusal.TcpTooShort) ≡ ascii "refused 6\n"
+  pub refused-7 : (flags : ℕ) → lineOf (packet.Refused (refusal.InvalidTcpFlags flags)) ≡ ascii "refused 7\n"
+  pub refused-9 : refusedLine 9 ≡ ascii "refused 9\n"
+  pub refused-10 : refusedLine 10 ≡ ascii "refused 10\n"
+  pub refused-12 : refusedLine 12 ≡ ascii "refused 12\n"
+
+-- ---- the statement
+
+pub record Lines : Type 0 where
+  -- Two packets have the same line exactly when the same is printed of both.
+  pub lines : (a b : PacketAnswer) → LabelFits a → LabelFits b → (lineOf a ≡ lineOf b) ↔ (printed a ≡ printed b)
+  -- So of any two packets, each with its peer and list: the answers of byte strings have labels of two bytes.
+  pub answers
+      : (p q : List ℕ) (m n : Mss) (l k : List ℕ)
+      → AllBytes p
+      → AllBytes q
+      → AllBytes l
+      → AllBytes k
+      → (lineOf (answerOf p m l) ≡ lineOf (answerOf q n k)) ↔ (printed (answerOf p m l) ≡ printed (answerOf q n k))
+  -- The first line tells the count; it is no packet's line, and no refusal of a bundle or a list.
+  pub counts : (m n : ℕ) → m < 65536 → n < 65536 → headLine m ≡ headLine n → m ≡ n
+  pub no-packets-line : (a : PacketAnswer) (n : ℕ) → lineOf a ≡ headLine n → ⊥
+  pub no-count : (m n : ℕ) → headLine m ≡ refusedLine n → ⊥
+  -- The line of a bundle that is refused tells its number, and is no packet's line: 9, 10 and 12 are no packet's refusals.
+  pub bundles : (c d : BundleCheck) → refusedLine (bundleRefusal c) ≡ refusedLine (bundleRefusal d) → bundleRefusal c ≡ bundleRefusal d
+  pub packet-or-bundle : (a : PacketAnswer) (c : BundleCheck) → 0 < bundleRefusal c → lineOf a ≡ refusedLine (bundleRefusal c) → ⊥
+  pub words : Words

@@ -1,0 +1,35 @@
+-- What a line of demand 1 says of a function.
+use mathlib.Core.Path.{_≡_}
+use mathlib.Core.List.{List, [], _∷_}
+use Prim.Native.Nat.{ℕ}
+use contract.Lifetimes.{Lfts}
+use denote.Signature as kit
+use Rattle.basis.specs.Unique.{ExactlyOne}
+use Rattle.report.specs.declared.Progress.{Progress}
+use Rattle.report.specs.Pages.{written, Page, progressOf}
+use Rattle.acceptance.specs.Lent.{writable}
+
+-- On these arguments nothing is asked of the caller, exactly one result meets the promise (`post`, of the arguments at entry, the result
+-- and the arguments at exit), and it is this one. "All inputs are read only": by the function's signature, which the kit holds to its
+-- code, no parameter can be written through.
+pub record Answers
+    {A R : Type 0} (signature : kit.Signature) (κs : Lfts (signature .lifetimes))
+    (pre : A → Type 0) (post : A → R → A → Type 0) (arguments : A) (result : R)
+    : Type 0
+  where
+    pub asks-nothing : pre arguments
+    pub one : ExactlyOne R (λ (r : R). post arguments r arguments)
+    pub is : one .the ≡ result
+    pub only-reads : writable signature κs ≡ []
+
+-- A function that fills a page of the caller's, its parameter 2, counted from 0, and no other: exactly one result and one content of the
+-- page meet its contract. Of the page, what is not the text is as it was.
+pub record PageAnswers
+    {A E : Type 0} (signature : kit.Signature) (κs : Lfts (signature .lifetimes))
+    (pre : A → Type 0) (post : A → Progress → E → Type 0) (arguments : A) (exit : List ℕ → E) (page : List ℕ) (p : Page)
+    : Type 0
+  where
+    pub asks-nothing : pre arguments
+    pub one : ExactlyOne (Progress × List ℕ) (λ (r : Progress × List ℕ). post arguments (r .0) (exit (r .1)))
+    pub is : one .the ≡ (progressOf p, written page 0 (p .text))
+    pub writes-the-page : writable signature κs ≡ 2 ∷ []

@@ -1,0 +1,114 @@
+-- Public functions that do not refuse what document 01 refuses, for callers that have asked before or follow a function that has:
+-- `search_checked`, `answer_packet`, `termread_answer_checked`, `packet_at` and `walk_options`. What binds each to the function that
+-- refuses, and what it answers where that one does. docs/ANSWERS.md, "Exceptions", gives the grounds. `Unchecked` is the statement.
+use mathlib.Core.Path.{_≡_}
+use mathlib.Core.Bool.{Bool, true, false, cond}
+use mathlib.Core.List.{List, [], _∷_}
+use mathlib.Core.Logic.{_↔_}
+use Prim.Native.Nat.{ℕ, suc, _<_, _≤_}
+use lib.ListN.{length, take}
+use Rattle.tcp.specs.declared.Mss.{Mss}
+use Rattle.quirks.specs.declared.QuirkSet.{QuirkSet}
+use Rattle.quirks.specs.Named.{empty}
+use Rattle.observable.specs.declared.TcpObservation.{TcpObservation}
+use Rattle.syn_options.specs.declared.OptionsAnswer.the-variants as options
+use Rattle.syn_options.specs.Walk.{walkOf, parsedOf, parseOptionsRaw}
+use Rattle.flow.specs.declared.Answer.the-variants as reading
+use Rattle.flow.specs.Reading.{readPacket}
+use Rattle.siglist.specs.declared.ListAnswer.the-variants as list
+use Rattle.siglist.specs.List.{recordCount, recordGood, checkList}
+use Rattle.found.specs.declared.Found.the-variants as found
+use Rattle.search.specs.declared.SearchAnswer.the-variants as answer
+use Rattle.search.specs.Search.{numbersFrom, searchOver, searchAll, searchList}
+use Rattle.packet_answer.specs.declared.PacketAnswer.the-variants as packet
+use Rattle.packet_answer.specs.Packet.{peerOf, answerOf}
+use Rattle.bundle.specs.declared.BundleCheck.the-variants as check
+use Rattle.bundle.specs.declared.PacketAt.the-variants as there
+use Rattle.bundle.specs.Bundle.{packetCount, listOf, packetBytes, packetPeer, packetEnd, checkBundle}
+use Rattle.bundle.specs.Answers.{packetLies, packetAt, startOf}
+use Rattle.gateway.specs.declared.GatewayAnswer.the-variants as gateway
+use Rattle.gateway.specs.Code.{gatewayAnswer, listCode}
+use Rattle.acceptance.specs.Honesty.{codeAt, checkedCode}
+
+-- Of a row of record numbers, those of well-formed records; and all of a list: the list without its bad records.
+unfoldable pub goodOnes : List ℕ → List ℕ → List ℕ
+goodOnes l [] = []
+goodOnes l (i ∷ is) = cond (recordGood l i) (i ∷ goodOnes l is) (goodOnes l is)
+
+abbrev pub goodRecords : List ℕ → List ℕ
+goodRecords l = goodOnes l (numbersFrom 0 (recordCount l))
+
+-- `search_checked`, against `search` (refusals 11, 9 and 10).
+pub record SearchUnchecked : Type 0 where
+  -- What `search` does not refuse, both answer alike.
+  pub same
+      : (o : TcpObservation) (l : List ℕ)
+      → o .olayout .count ≤ 40
+      → checkList l ≡ list.Good
+      → searchList o l ≡ answer.Found (searchAll o l)
+  -- 10: the answer is that of the list without its bad records.
+  pub bad-record : (o : TcpObservation) (l : List ℕ) → searchAll o l ≡ searchOver (goodRecords l) o l
+  -- 9 and 11: none.
+  pub does-not-fit : (o : TcpObservation) (l : List ℕ) → checkList l ≡ list.DoesNotFit → searchAll o l ≡ found.None
+  pub layout-too-long : (o : TcpObservation) (l : List ℕ) → 40 < o .olayout .count → searchAll o l ≡ found.None
+
+-- `answer_packet` and `termread_answer_checked`, against `termread_answer` (refusals 9 and 10 before a packet's own).
+pub record PacketUnchecked : Type 0 where
+  pub same
+      : (p : List ℕ) (peer : ℕ) (l : List ℕ)
+      → checkList l ≡ list.Good
+      → gatewayAnswer p peer l ≡ gateway.Packet (answerOf p (peerOf peer) l)
+  pub same-code : (p : List ℕ) (peer : ℕ) (l : List ℕ) → checkList l ≡ list.Good → checkedCode p peer l ≡ codeAt p peer l
+  -- `termread_check_list` says 0 of a good list and of no other.
+  pub checked : (l : List ℕ) → (listCode (checkList l) ≡ 0) ↔ (checkList l ≡ list.Good)
+  -- 10: that of the list without its bad records.
+  pub syn
+      : (p : List ℕ) (peer : Mss) (l : List ℕ)
+      → readPacket p peer .answer ≡ reading.Syn
+      → answerOf p peer l ≡ packet.Syn (searchOver (goodRecords l) (readPacket p peer .observation) l)
+  pub syn-ack
+      : (p : List ℕ) (peer : Mss) (l : List ℕ)
+      → readPacket p peer .answer ≡ reading.SynAck
+      → answerOf p peer l ≡ packet.SynAck (searchOver (goodRecords l) (readPacket p peer .observation) l)
+  -- 9: none.
+  pub syn-unfit
+      : (p : List ℕ) (peer : Mss) (l : List ℕ)
+      → readPacket p peer .answer ≡ reading.Syn
+      → checkList l ≡ list.DoesNotFit
+      → answerOf p peer l ≡ packet.Syn found.None
+  pub syn-ack-unfit
+      : (p : List ℕ) (peer : Mss) (l : List ℕ)
+      → readPacket p peer .answer ≡ reading.SynAck
+      → checkList l ≡ list.DoesNotFit
+      → answerOf p peer l ≡ packet.SynAck found.None
+
+-- `packet_at`, against `check_bundle` (refusals 12, 9 and 10).
+pub record BundleUnchecked : Type 0 where
+  -- Of a bundle that is not refused: each packet's answer, and where the next starts.
+  pub same
+      : (b : List ℕ) (i : ℕ)
+      → checkBundle b ≡ check.Good
+      → i < packetCount b
+      → packetAt b (startOf b i)
+      ≡ there.Packet (answerOf (packetBytes b (startOf b i)) (packetPeer b (startOf b i)) (listOf b)) (startOf b (suc i))
+  -- Of any other: the same of a packet that lies within the bundle, as does the list; else that there is none.
+  pub lies
+      : (b : List ℕ) (at : ℕ)
+      → packetLies b at ≡ true
+      → packetAt b at ≡ there.Packet (answerOf (packetBytes b at) (packetPeer b at) (listOf b)) (packetEnd b at)
+  pub lies-not : (b : List ℕ) (at : ℕ) → packetLies b at ≡ false → packetAt b at ≡ there.NoPacket
+
+-- `walk_options`, against `parse_options_raw` (refusal 8).
+pub record OptionsUnchecked : Type 0 where
+  pub same
+      : (s : List ℕ)
+      → length s ≤ 40
+      → parseOptionsRaw s ≡ record { answer = options.Parsed; options = parsedOf (walkOf true false empty s) }
+  -- 8: the walk of the first forty bytes.
+  pub over-40 : (stop syn : Bool) (q : QuirkSet) (s : List ℕ) → walkOf stop syn q s ≡ walkOf stop syn q (take 40 s)
+
+pub record Unchecked : Type 0 where
+  pub search : SearchUnchecked
+  pub packet : PacketUnchecked
+  pub bundle : BundleUnchecked
+  pub options : OptionsUnchecked

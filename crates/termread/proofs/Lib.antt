@@ -1,0 +1,2 @@
+pub mod AnswerTests
+pub mod Laws
