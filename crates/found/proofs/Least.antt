@@ -181,15 +181,18 @@ module _ (rank : ℕ → ℕ) where
   pub data Without : List ℕ → List ℕ → Type 0 where
     end : Without [] []
     stays-in : {i : ℕ} {is js : List ℕ} → Without is js → Without (i ∷ is) (i ∷ js)
-    left-out : {i : ℕ} {is js : List ℕ} → unranked ≤ rank i → Without is js → Without is (i ∷ js)
+    left-out : {i : ℕ} {is js : List ℕ} → rank i ≡ unranked → Without is js → Without is (i ∷ js)
 
   pub without
-      : ((k : ℕ) → rank k ≤ unranked) → {is js : List ℕ} (held : Place) → Without is js → leastFrom rank held is ≡ leastFrom rank held js
+      : ((k : ℕ) → rank k ≤ unranked)
+      → {is js : List ℕ} (held : Place)
+      → Without is js
+      → leastFrom rank held is ≡ leastFrom rank held js
   unfolding leastFrom
   without last held end = refl
   without last held (stays-in {i} w) = without last (prefer (rankThere rank) held (number i)) w
   without last held (left-out {i} none w) = rw (kept (rankThere rank) held (number i) (worse held)) (without last held w)
     where
       worse : (p : Place) → rankThere rank p ≤ rank i
-      worse nowhere = none
+      worse nowhere = omega arith
       worse (number k) = let h = last k in omega arith

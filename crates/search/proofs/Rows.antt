@@ -42,7 +42,7 @@ one-farther f l from i before here k start end =
 module _ (f : Features) (kinds bytes l : List ℕ) where
   -- ---- a record's rank, and that of what is read at a place
 
-  no-rank : (i : ℕ) → fitAt f kinds bytes l i ≡ fit.None → rankAt f kinds bytes l i ≡ unranked
+  pub no-rank : (i : ℕ) → fitAt f kinds bytes l i ≡ fit.None → rankAt f kinds bytes l i ≡ unranked
   unfolding rankAt candidateAt foundOf rankOf
   no-rank i e = rw e
 
@@ -98,9 +98,9 @@ module _ (f : Features) (kinds bytes l : List ℕ) where
       by-place {old} {new} (inr less) = inr (rw (rank-there old, rank-there new) less)
 
   -- Records that do not fit may be left out of a row.
-  pub left-out : {is js : List ℕ} → least.Without (rankAt f kinds bytes l) is js → searchRow f kinds bytes l is ≡ searchRow f kinds bytes l js
+  pub without : {is js : List ℕ} → least.Without (rankAt f kinds bytes l) is js → searchRow f kinds bytes l is ≡ searchRow f kinds bytes l js
   unfolding searchRow firstLeast
-  left-out w = ap (foundAt f kinds bytes l) (least.without (rankAt f kinds bytes l) rank-last nowhere w)
+  without w = ap (foundAt f kinds bytes l) (least.without (rankAt f kinds bytes l) rank-last nowhere w)
 
   -- ---- the loop
 
