@@ -164,9 +164,10 @@ of-siglist =
 of-held : Held
 of-held =
     record {
-      is-exact = λ f. answered tt (found.is-exact-one f) (λ m. m) refl;
       is-none = λ f. answered tt (found.is-none-one f) (λ m. m) refl;
-      keep-fit = λ held label f. answered tt (found.keep-fit-one held label f) (λ m. m) refl;
+      found-of = λ label f. answered tt (found.found-of-one label f) (λ m. m) refl;
+      rank-of = λ f. answered tt (found.rank-of-one f) (λ m. m) refl;
+      prefer-found = λ held other. answered tt (found.prefer-found-one held other) (λ m. m) refl;
     }
 
 of-search : Search

@@ -33,8 +33,8 @@ use Rattle.siglist.specs.List.{recordCount, recordAt, listFits, recordGood, che
 use Rattle.siglist.proofs.FirstBad.{does-not-fit, Checked, first-bad-named}
 use Rattle.found.specs.declared.Found.the-variants as found
 use Rattle.search.specs.declared.SearchAnswer.the-variants as answer
-use Rattle.found.specs.Keep.{keep}
-use Rattle.search.specs.Search.{fitAt, searchList}
+use Rattle.found.specs.Rank.{foundOf}
+use Rattle.search.specs.Search.{fitAt, candidateAt, searchList}
 use Rattle.search.proofs.Order.{single}
 use Rattle.acceptance.specs.Values.{packetA, exampleList}
 use Rattle.acceptance.specs.Demand2.{MultiplierTheorem, ofOne, SingleFit, ShutOut, Demand2}
@@ -61,11 +61,11 @@ multiplier-theorem =
 
 -- ---- the single fit
 
-keep-one : (label : ℕ) (x : SignatureFit) → keep found.None label x ≡ ofOne label x
-unfolding keep
-keep-one label fit.None = refl
-keep-one label fit.Exact = refl
-keep-one label (fit.Fuzzy r) = refl
+of-one : (label : ℕ) (x : SignatureFit) → foundOf label x ≡ ofOne label x
+unfolding foundOf
+of-one label fit.None = refl
+of-one label fit.Exact = refl
+of-one label (fit.Fuzzy r) = refl
 
 module _ (l : List ℕ) (good : checkList l ≡ list.Good) where
   -- A good list fits, and its records are good.
@@ -84,12 +84,12 @@ module _ (l : List ℕ) (good : checkList l ≡ list.Good) where
       by-check (Checked.first-bad k b u bad before) e = let z : _≡_ {A = ℕ} 0 1 = cc in absurd (omega arith)
 
 single-fit : SingleFit
-unfolding searchList fitAt
+unfolding searchList candidateAt fitAt
 single-fit o l few good one =
     rw (le-ltb 40 (o .olayout .count) few, good)
     (ap answer.Found
     (single o l one
-    ∙ rw (fits l good, lt-ltb 0 (recordCount l) (omega arith), record-good l good 0 (omega arith)) (keep-one (labelOf (recordAt l 0)) _)))
+    ∙ rw (fits l good, lt-ltb 0 (recordCount l) (omega arith), record-good l good 0 (omega arith)) (of-one (labelOf (recordAt l 0)) _)))
 
 -- ---- what is shut out
 

@@ -2,7 +2,7 @@
 use mathlib.Core.Path.{_≡_, refl, sym, _∙_, ap}
 use mathlib.Core.Bool.{Bool, true, false, cond}
 use mathlib.Core.List.{List}
-use Prim.Native.Nat.{ℕ, zero, suc, _+_, _%_, _<_}
+use Prim.Native.Nat.{ℕ, _%_, _<_}
 use native.Mathlib.Omega.{arith}
 use lib.Dec.{ltb}
 use lib.ListN.{length, getD}
@@ -19,8 +19,11 @@ use Rattle.found.specs.declared.Found.{Found}
 use Rattle.found.specs.declared.Found.the-variants as found
 use Rattle.search.specs.declared.SearchAnswer.{SearchAnswer}
 use Rattle.search.specs.declared.SearchAnswer.the-variants as answer
-use Rattle.search.specs.Search.{fitAt, numbersFrom, searchOver, searchAll, afterListCheck, searchList}
+use Rattle.found.specs.Least.{numbersFrom}
+use Rattle.found.proofs.Least.{numbers-length, numbers-at}
+use Rattle.search.specs.Search.{fitAt, searchOver, searchAll, afterListCheck, searchList}
 use Rattle.search.proofs.Order as order
+use Rattle.search.proofs.Rows.{longer-row}
 use Rattle.packet_answer.specs.declared.PacketAnswer.{PacketAnswer}
 use Rattle.packet_answer.specs.declared.PacketAnswer.the-variants as packet
 use Rattle.packet_answer.specs.Packet.{peerOf, answerOf}
@@ -35,18 +38,6 @@ use Rattle.acceptance.specs.Honesty.{fitOfRecord, Outcome, whichOf, outc
 use Rattle.acceptance.proofs.Fit.{exact-to, exact-from, fuzzy-to, fuzzy-from}
 
 -- ---- a search
-
--- The record numbers of the plain search: as many as there are, each at its own place.
-numbers-length : (i n : ℕ) → length (numbersFrom i n) ≡ n
-unfolding numbersFrom
-numbers-length i zero = refl
-numbers-length i (suc n) = ap suc (numbers-length (i + 1) n)
-
-numbers-at : (i n k : ℕ) → k < n → getD (numbersFrom i n) k 0 ≡ i + k
-unfolding numbersFrom
-numbers-at i zero k h = absurd (omega arith)
-numbers-at i (suc n) zero h = omega arith
-numbers-at i (suc n) (suc k) h = numbers-at (i + 1) n k (omega arith) ∙ omega arith
 
 module _ (o : TcpObservation) (l : List ℕ) where
   places : List ℕ
@@ -174,11 +165,13 @@ checked-codes-differ p q m n l k hp hq hl hk e =
     e)
 
 pub honesty : Honesty
+unfolding searchOver
 honesty =
     record {
       exact = λ f ks bs s n es. (exact-to f ks bs s n es, exact-from f ks bs s n es);
       fuzzy = λ f ks bs s n es r. (fuzzy-to f ks bs s n es r, fuzzy-from f ks bs s n es r);
       search = search-outcome;
+      longer-row = λ o l is js. longer-row (featuresOf o) (o .olayout .kinds) (o .olayout .bytes) l is js;
       answered = found-outcome;
       syn-answer = syn-answer;
       syn-ack-answer = syn-ack-answer;

@@ -40,10 +40,12 @@ use Rattle.sigrecord.proofs.scalars_well_formed as scalars-well-formed'
 use Rattle.siglist.proofs.check_list as check-list'
 use Rattle.matching.specs.declared.SignatureFit.{SignatureFit}
 use Rattle.found.specs.declared.Found.{Found}
-use Rattle.found.specs.Keep.{isNone, keep, isExact}
-use Rattle.found.proofs.is_exact as is-exact'
+use Rattle.found.specs.Least.{prefer}
+use Rattle.found.specs.Rank.{foundOf, rankOf, isNone}
 use Rattle.found.proofs.is_none as is-none'
-use Rattle.found.proofs.keep_fit as keep-fit'
+use Rattle.found.proofs.found_of as found-of'
+use Rattle.found.proofs.rank_of as rank-of'
+use Rattle.found.proofs.prefer_found as prefer-found'
 use Rattle.search.specs.Search.{searchAll, searchList}
 use Rattle.search.proofs.search_checked as search-checked'
 use Rattle.search.proofs.search as search'
@@ -121,18 +123,22 @@ pub record Siglist : Type 0 where
       (list, tt) (checkList (now list))
 
 pub record Held : Type 0 where
-  pub is-exact
-      : (f : Found)
-      → Answers is-exact'.signature tt (is-exact'.Reads.Pre tt) (is-exact'.Reads.Post tt)
-      (f, tt) (isExact f)
   pub is-none
       : (f : SignatureFit)
       → Answers is-none'.signature tt (is-none'.Reads.Pre tt) (is-none'.Reads.Post tt)
       (f, tt) (isNone f)
-  pub keep-fit
-      : (held : Found) (label : ℕ) (f : SignatureFit)
-      → Answers keep-fit'.signature tt (keep-fit'.Reads.Pre tt) (keep-fit'.Reads.Post tt)
-      (held, (label, (f, tt))) (keep held label f)
+  pub found-of
+      : (label : ℕ) (f : SignatureFit)
+      → Answers found-of'.signature tt (found-of'.Reads.Pre tt) (found-of'.Reads.Post tt)
+      (label, (f, tt)) (foundOf label f)
+  pub rank-of
+      : (f : Found)
+      → Answers rank-of'.signature tt (rank-of'.Reads.Pre tt) (rank-of'.Reads.Post tt)
+      (f, tt) (rankOf f)
+  pub prefer-found
+      : (held other : Found)
+      → Answers prefer-found'.signature tt (prefer-found'.Reads.Pre tt) (prefer-found'.Reads.Post tt)
+      (held, (other, tt)) (prefer rankOf held other)
 
 pub record Search : Type 0 where
   pub search-checked

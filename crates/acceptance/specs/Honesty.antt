@@ -2,8 +2,8 @@
 -- module 7 and "The signature list"), and that they stay three as the numbers that a gateway gets. `Honesty` is the statement.
 use mathlib.Core.Path.{_≡_}
 use mathlib.Core.Bool.{true, false}
-use mathlib.Core.List.{List}
-use mathlib.Core.Logic.{_↔_}
+use mathlib.Core.List.{List, _++_}
+use mathlib.Core.Logic.{_↔_, _⊎_}
 use Prim.Native.Nat.{ℕ, _%_, _<_}
 use Rattle.tcp.specs.declared.Mss.{Mss}
 use Rattle.quirks.specs.Quirks.{isEmpty}
@@ -30,8 +30,9 @@ use Rattle.sigrecord.specs.Record.{labelOf}
 use Rattle.siglist.specs.List.{recordCount, recordAt}
 use Rattle.found.specs.declared.Found.{Found}
 use Rattle.found.specs.declared.Found.the-variants as found
+use Rattle.found.specs.Rank.{rankOf}
 use Rattle.search.specs.declared.SearchAnswer.the-variants as answer
-use Rattle.search.specs.Search.{fitAt, searchAll, searchList}
+use Rattle.search.specs.Search.{fitAt, searchOver, searchAll, searchList}
 use Rattle.packet_answer.specs.declared.PacketAnswer.{PacketAnswer}
 use Rattle.packet_answer.specs.declared.PacketAnswer.the-variants as packet
 use Rattle.packet_answer.specs.Packet.{peerOf, answerOf}
@@ -144,6 +145,10 @@ pub record Honesty : Type 0 where
       → (fitOf f kinds bytes s count entries ≡ fit.Fuzzy reason) ↔ FitsFuzzily f kinds bytes s count entries reason
   -- What a search finds is one of the three outcomes.
   pub search : (o : TcpObservation) (l : List ℕ) (x : Found) → searchList o l ≡ answer.Found x → Outcome o l x
+  -- Over a longer row of record numbers a search finds the same, or what has strictly less rank: exact before fuzzy before none.
+  pub longer-row
+      : (o : TcpObservation) (l is js : List ℕ)
+      → (searchOver (is ++ js) o l ≡ searchOver is o l) ⊎ (rankOf (searchOver (is ++ js) o l) < rankOf (searchOver is o l))
   -- What the program and the gateway answer of a SYN or SYN+ACK is the search for its observation, and is one of the three outcomes
   -- on any list, checked or not.
   pub answered : (o : TcpObservation) (l : List ℕ) → Outcome o l (searchAll o l)

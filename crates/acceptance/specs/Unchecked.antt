@@ -19,7 +19,8 @@ use Rattle.siglist.specs.declared.ListAnswer.the-variants as list
 use Rattle.siglist.specs.List.{recordCount, recordGood, checkList}
 use Rattle.found.specs.declared.Found.the-variants as found
 use Rattle.search.specs.declared.SearchAnswer.the-variants as answer
-use Rattle.search.specs.Search.{numbersFrom, searchOver, searchAll, searchList}
+use Rattle.found.specs.Least.{numbersFrom}
+use Rattle.search.specs.Search.{searchOver, searchAll, searchList}
 use Rattle.packet_answer.specs.declared.PacketAnswer.the-variants as packet
 use Rattle.packet_answer.specs.Packet.{peerOf, answerOf}
 use Rattle.bundle.specs.declared.BundleCheck.the-variants as check

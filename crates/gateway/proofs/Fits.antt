@@ -19,10 +19,9 @@ use Rattle.siglist.specs.declared.ListAnswer.the-variants as list
 use Rattle.sigrecord.specs.Record.{signatureOf, entryCount, labelOf}
 use Rattle.siglist.specs.List.{recordCount, listFits, recordStart, recordAt, entriesOf, recordGood, checkList}
 use Rattle.siglist.proofs.FirstBad.{Checked, does-not-fit, first-bad-named}
-use Rattle.found.specs.declared.Found.{Found}
-use Rattle.found.specs.declared.Found.the-variants as found
-use Rattle.found.specs.Keep.{keep}
-use Rattle.search.specs.Search.{fitAt, searchFrom, numbersFrom, searchOver, searchAll}
+use Rattle.found.specs.Least.{Place, nowhere, number}
+use Rattle.found.specs.Rank.{foundOf}
+use Rattle.search.specs.Search.{fitAt, candidateAt, foundAt, searchRow, searchOver, searchAll}
 use Rattle.packet_answer.specs.Packet.{peerOf, judged, answerOf}
 use Rattle.gateway.specs.Code.{fieldsOf, codeOf, afterList, gatewayAnswer}
 use Rattle.gateway.specs.Decode.{AllBytes}
@@ -33,21 +32,12 @@ use Rattle.gateway.proofs.Tolerated.{FitSmall, or-none, fit-small}
 
 -- ---- the search
 
--- One record more: what is held is what was held before, or the record's label with its reason.
-keep-fits
-    : (held : Found) (label : ℕ) (x : SignatureFit)
-    → label < 65536
-    → FoundFits held
-    → FitSmall x
-    → FoundFits (keep held label x)
-unfolding keep
-keep-fits (found.Exact kept) label x hl hf hx = hf
-keep-fits found.None label fit.None hl hf hx = tt
-keep-fits found.None label fit.Exact hl hf hx = hl
-keep-fits found.None label (fit.Fuzzy r) hl hf hx = (hl, hx .0, hx .1, hx .2)
-keep-fits (found.Fuzzy kept why) label fit.None hl hf hx = hf
-keep-fits (found.Fuzzy kept why) label fit.Exact hl hf hx = hl
-keep-fits (found.Fuzzy kept why) label (fit.Fuzzy r) hl hf hx = hf
+-- What is found in one record fits.
+found-one : (label : ℕ) (x : SignatureFit) → label < 65536 → FitSmall x → FoundFits (foundOf label x)
+unfolding foundOf
+found-one label fit.None hl hx = tt
+found-one label fit.Exact hl hx = hl
+found-one label (fit.Fuzzy r) hl hx = (hl, hx .0, hx .1, hx .2)
 
 module _ (l : List ℕ) (lent : AllBytes l) where
   -- A record of a byte string is one.
@@ -62,25 +52,17 @@ module _ (l : List ℕ) (lent : AllBytes l) where
       (fitOf f kinds bytes (signatureOf (recordAt l i)) (entryCount (recordAt l i)) (entriesOf l (recordAt l i)))
       (fit-small f kinds bytes (recordAt l i) (entryCount (recordAt l i)) (entriesOf l (recordAt l i)) (record-bytes i))
 
-  -- What a search holds fits, if it did before.
-  search-fits
-      : (held : Found) (f : Features) (kinds bytes is : List ℕ) → FoundFits held → FoundFits (searchFrom held f kinds bytes l is)
-  unfolding searchFrom
-  search-fits held f kinds bytes [] h = h
-  search-fits held f kinds bytes (i ∷ is) h =
-      search-fits (keep held (labelOf (recordAt l i)) (fitAt f kinds bytes l i)) f kinds bytes is
-      (keep-fits held (labelOf (recordAt l i)) (fitAt f kinds bytes l i)
-      (two-bytes (recordAt l i) 22 (record-bytes i))
-      h
-      (record-small f kinds bytes i))
+  -- What is read at any place fits, and so what the plain search finds.
+  read-fits : (f : Features) (kinds bytes : List ℕ) (p : Place) → FoundFits (foundAt f kinds bytes l p)
+  unfolding foundAt candidateAt
+  read-fits f kinds bytes nowhere = tt
+  read-fits f kinds bytes (number i) =
+      found-one (labelOf (recordAt l i)) (fitAt f kinds bytes l i) (two-bytes (recordAt l i) 22 (record-bytes i))
+      (record-small f kinds bytes i)
 
-  -- What the plain search finds fits.
   found-fits : (r : Reading) → FoundFits (searchAll (r .observation) l)
-  unfolding searchAll searchOver
-  found-fits r =
-      search-fits found.None (featuresOf (r .observation)) (r .observation .olayout .kinds) (r .observation .olayout .bytes)
-      (numbersFrom 0 (recordCount l))
-      tt
+  unfolding searchAll searchOver searchRow
+  found-fits r = read-fits (featuresOf (r .observation)) (r .observation .olayout .kinds) (r .observation .olayout .bytes) _
 
 -- ---- the answer
 

@@ -17,8 +17,8 @@ use Rattle.siglist.specs.declared.Areas.{Areas}
 use Rattle.sigrecord.specs.Record.{signatureOf, firstEntry, entryCount, scalarsGood}
 use Rattle.siglist.specs.List.{recordCount, layoutCount, AreasFit, recordAt, entriesOf, layoutLies, recordGood}
 use Rattle.sigrecord.specs.Record.{scalarsWellFormed}
-use Rattle.found.specs.Keep.{isNone}
-use Rattle.search.specs.Search.{fitAt}
+use Rattle.found.specs.Rank.{isNone}
+use Rattle.search.specs.Search.{passes, fitAt}
 use Rattle.siglist.proofs.List.{list-fits}
 
 -- A conjunction in which two parts do not both hold.
@@ -37,7 +37,7 @@ second-holds : (c g : Bool) → c && g ≡ true → g ≡ true
 second-holds true g e = e
 second-holds false g e = absurd (false≢true e)
 
-is-none : (x : SignatureFit) → isNone x ≡ true → x ≡ fit.None
+pub is-none : (x : SignatureFit) → isNone x ≡ true → x ≡ fit.None
 unfolding isNone
 is-none fit.None e = refl
 is-none fit.Exact e = absurd (false≢true e)
@@ -69,9 +69,9 @@ module _ (f : Features) (kinds bytes l : List ℕ) (a : Areas) (i : ℕ) (fits :
   fits-none e = rw (here, e) (either-way (recordGood l i))
 
   pub gate-fails
-      : eqb (f .count) (entryCount (recordAt l i)) && scalarGates f (signatureOf (recordAt l i)) ≡ false
+      : passes f (recordAt l i) ≡ false
       → fitAt f kinds bytes l i ≡ fit.None
-  unfolding fitOf layoutMatches
+  unfolding passes fitOf layoutMatches
   gate-fails e = fits-none (rw (not-both (eqb (f .count) (entryCount (recordAt l i))) (scalarGates f (signatureOf (recordAt l i))) _ _ e))
 
   pub not-tolerated : isNone (toleranceOf f (signatureOf (recordAt l i))) ≡ true → fitAt f kinds bytes l i ≡ fit.None
@@ -96,10 +96,10 @@ module _ (f : Features) (kinds bytes l : List ℕ) (a : Areas) (i : ℕ) (fits :
       e
 
   pub held-fit
-      : eqb (f .count) (entryCount (recordAt l i)) && scalarGates f (signatureOf (recordAt l i)) ≡ true
+      : passes f (recordAt l i) ≡ true
       → layoutMatches (f .count) kinds bytes (entryCount (recordAt l i)) (entriesOf l (recordAt l i)) && recordGood l i ≡ true
       → fitAt f kinds bytes l i ≡ toleranceOf f (signatureOf (recordAt l i))
-  unfolding fitOf
+  unfolding passes fitOf
   held-fit gates holds =
       let open-gates = second-holds (eqb (f .count) (entryCount (recordAt l i))) (scalarGates f (signatureOf (recordAt l i))) gates in
       let layout = and-left (layoutMatches (f .count) kinds bytes (entryCount (recordAt l i)) (entriesOf l (recordAt l i))) (recordGood l i) holds in

@@ -1,17 +1,19 @@
 -- The search (document 01, "The signature list"): "the first exact record in list order; else the first fuzzy one, with its
--- reason; else none". It goes over a row of record numbers; the plain search takes 0, 1, .. to the last.
-use Prim.Native.Nat.{ℕ, zero, suc, _+_}
-use mathlib.Core.Bool.{cond, _&&_}
-use mathlib.Core.List.{List, [], _∷_}
-use lib.Dec.{ltb}
+-- reason; else none", as the first record of least rank. It goes over a row of record numbers; the plain search takes 0, 1, .. to
+-- the last.
+use Prim.Native.Nat.{ℕ}
+use mathlib.Core.Bool.{Bool, cond, _&&_}
+use mathlib.Core.List.{List}
+use lib.Dec.{ltb, eqb}
 use Rattle.observable.specs.declared.TcpObservation.{TcpObservation}
 use Rattle.matching.specs.declared.Features.{Features}
 use Rattle.matching.specs.declared.SignatureFit.{SignatureFit}
 use Rattle.matching.specs.declared.SignatureFit.the-variants as fit
-use Rattle.matching.specs.Fit.{featuresOf, fitOf}
+use Rattle.matching.specs.Fit.{featuresOf, scalarGates, fitOf}
 use Rattle.found.specs.declared.Found.{Found}
 use Rattle.found.specs.declared.Found.the-variants as found
-use Rattle.found.specs.Keep.{keep}
+use Rattle.found.specs.Least.{Place, nowhere, number, firstLeast, numbersFrom}
+use Rattle.found.specs.Rank.{foundOf, rankOf}
 use Rattle.siglist.specs.declared.ListAnswer.{ListAnswer}
 use Rattle.siglist.specs.declared.ListAnswer.the-variants as list
 use Rattle.search.specs.declared.SearchAnswer.{SearchAnswer}
@@ -26,20 +28,29 @@ fitAt f kinds bytes l i =
     (fitOf f kinds bytes (signatureOf (recordAt l i)) (entryCount (recordAt l i)) (entriesOf l (recordAt l i)))
     fit.None
 
--- The search of a row of record numbers, with what was found before it.
-unfoldable pub searchFrom : Found → Features → List ℕ → List ℕ → List ℕ → List ℕ → Found
-searchFrom held f kinds bytes l [] = held
-searchFrom held f kinds bytes l (i ∷ is) =
-    searchFrom (keep held (labelOf (recordAt l i)) (fitAt f kinds bytes l i)) f kinds bytes l is
+-- A record passes the gates, the entries of its layout apart.
+unfoldable pub passes : Features → List ℕ → Bool
+passes f r = eqb (f .count) (entryCount r) && scalarGates f (signatureOf r)
 
--- So many numbers from this one on.
-unfoldable pub numbersFrom : ℕ → ℕ → List ℕ
-numbersFrom i zero = []
-numbersFrom i (suc n) = i ∷ numbersFrom (i + 1) n
+-- What is found in record i alone, and the record's rank.
+unfoldable pub candidateAt : Features → List ℕ → List ℕ → List ℕ → ℕ → Found
+candidateAt f kinds bytes l i = foundOf (labelOf (recordAt l i)) (fitAt f kinds bytes l i)
+
+unfoldable pub rankAt : Features → List ℕ → List ℕ → List ℕ → ℕ → ℕ
+rankAt f kinds bytes l i = rankOf (candidateAt f kinds bytes l i)
+
+-- What is read at a place: label, fitness and reason of its record.
+unfoldable pub foundAt : Features → List ℕ → List ℕ → List ℕ → Place → Found
+foundAt f kinds bytes l nowhere = found.None
+foundAt f kinds bytes l (number i) = candidateAt f kinds bytes l i
+
+-- The search of a row of record numbers: what is read at the first number of least rank.
+unfoldable pub searchRow : Features → List ℕ → List ℕ → List ℕ → List ℕ → Found
+searchRow f kinds bytes l is = foundAt f kinds bytes l (firstLeast (rankAt f kinds bytes l) is)
 
 -- The search of a row of record numbers for an observation, and the plain search: of all records in list order.
 unfoldable pub searchOver : List ℕ → TcpObservation → List ℕ → Found
-searchOver is o l = searchFrom found.None (featuresOf o) (o .olayout .kinds) (o .olayout .bytes) l is
+searchOver is o l = searchRow (featuresOf o) (o .olayout .kinds) (o .olayout .bytes) l is
 
 unfoldable pub searchAll : TcpObservation → List ℕ → Found
 searchAll o l = searchOver (numbersFrom 0 (recordCount l)) o l

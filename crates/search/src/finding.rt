@@ -1,17 +1,17 @@
 // The search: how a record fits, and the row of records.
 ghost use mathlib.Core.Path.{_≡_};
 ghost use mathlib.Core.Bool.{true, _&&_};
-ghost use lib.Dec.{eqb, leb};
-ghost use Rattle.matching.specs.Fit.{scalarGates};
+ghost use lib.Dec.{leb};
 ghost use Rattle.distances.specs.DistanceGates.{windowMatches};
 ghost use Rattle.gates.specs.Gates.{mssMatches, scaleMatches, layoutMatches};
-ghost use Prim.Native.Nat.{ℕ, _+_, _*_, _-_, _≤_, _<_};
-ghost use mathlib.Core.List.{List};
+ghost use Prim.Native.Nat.{_+_, _*_, _≤_, _<_};
 ghost use lib.ListN.{length};
-ghost use Rattle.sigrecord.specs.Record.{entryCount, labelOf, mssOf, scaleOf, windowOf, signatureOf};
+ghost use Rattle.sigrecord.specs.Record.{entryCount, labelOf, mssOf, scaleOf, windowOf};
 ghost use Rattle.siglist.specs.List.{recordAt, entriesOf, AreasFit, recordGood};
-ghost use Rattle.found.specs.Keep.{keep};
-ghost use Rattle.search.specs.Search.{fitAt, searchFrom, numbersFrom};
+ghost use Rattle.found.specs.Least.{prefer, numbersFrom};
+ghost use Rattle.found.specs.Rank.{rankOf};
+ghost use Rattle.search.specs.Next.{Next};
+ghost use Rattle.search.specs.Search.{passes, fitAt, candidateAt, searchRow};
 use crate::raw::mss_of;
 use crate::raw::scale_of;
 use crate::raw::signature_of;
@@ -19,9 +19,10 @@ use crate::raw::window_of;
 use distances::WindowSize;
 use distances::window_size_matches;
 use found::Found;
-use found::is_exact;
+use found::found_of;
 use found::is_none;
-use found::keep_fit;
+use found::prefer_found;
+use found::rank_of;
 use gates::mss_matches;
 use gates::olayout_matches;
 use gates::olen_matches;
@@ -72,7 +73,7 @@ pub(crate) fn window_gate(
 // The gates of a record but for the entries of its layout, those first that reject most.
 pub(crate) fn gates_at(observed: Features, raw: &[u8]) -> bool
     requires { ⌜ length (now raw) ≡ 24 ⌝ }
-    ensures { λ r. ⌜ r ≡ eqb (observed .count) (entryCount (now (raw .entry))) && scalarGates observed (signatureOf (now (raw .entry))) ⌝ }
+    ensures { λ r. ⌜ r ≡ passes observed (now (raw .entry)) ⌝ }
 {
     if observed.count != wide(raw[20]) as usize {
         return false;
@@ -150,7 +151,7 @@ pub(crate) fn fit_at(
     areas: Areas,
     i: usize,
 ) -> SignatureFit
-    requires { ⌜ AreasFit (now list) areas × (i < areas .records) × (eqb (observed .count) (entryCount (recordAt (now list) i)) && scalarGates observed (signatureOf (recordAt (now list) i)) ≡ true) ⌝ }
+    requires { ⌜ AreasFit (now list) areas × (i < areas .records) × (passes observed (recordAt (now list) i) ≡ true) ⌝ }
     ensures { λ r. ⌜ r ≡ fitAt observed (now (kinds .entry)) (now (bytes .entry)) (now (list .entry)) i ⌝ }
 {
     let at = areas.records_offset + RECORD * i;
@@ -186,20 +187,20 @@ pub(crate) fn search_step(
     areas: Areas,
     i: usize,
 ) -> Found
-    requires { ⌜ AreasFit (now list) areas × (i < areas .records) × (eqb (observed .count) (entryCount (recordAt (now list) i)) && scalarGates observed (signatureOf (recordAt (now list) i)) ≡ true) ⌝ }
-    ensures { λ r. ⌜ r ≡ keep held (labelOf (recordAt (now (list .entry)) i)) (fitAt observed (now (kinds .entry)) (now (bytes .entry)) (now (list .entry)) i) ⌝ }
+    requires { ⌜ AreasFit (now list) areas × (i < areas .records) × (passes observed (recordAt (now list) i) ≡ true) ⌝ }
+    ensures { λ r. ⌜ r ≡ prefer rankOf held (candidateAt observed (now (kinds .entry)) (now (bytes .entry)) (now (list .entry)) i) ⌝ }
 {
     let fit = fit_at(observed, kinds, bytes, list, areas, i);
     if is_none(fit) {
         return held;
     }
-    keep_fit(held, label_at(list, areas, i), fit)
+    prefer_found(held, found_of(label_at(list, areas, i), fit))
 }
 
-// The first record from one on that passes the gates, or the end: those before it leave a search as it is.
+// The first record from one on that passes the gates, or the end.
 pub(crate) fn next_candidate(observed: Features, list: &[u8], areas: Areas, from: usize) -> usize
     requires { ⌜ AreasFit (now list) areas × (from ≤ areas .records) ⌝ }
-    ensures { λ r. ⌜ (from ≤ r) × (r ≤ areas .records) × (r < areas .records → eqb (observed .count) (entryCount (recordAt (now (list .entry)) r)) && scalarGates observed (signatureOf (recordAt (now (list .entry)) r)) ≡ true) × ((held : Found) (kinds bytes : List ℕ) → searchFrom held observed kinds bytes (now (list .entry)) (numbersFrom r (areas .records - r)) ≡ searchFrom held observed kinds bytes (now (list .entry)) (numbersFrom from (areas .records - from))) ⌝ }
+    ensures { λ r. ⌜ Next observed (now (list .entry)) (areas .records) from r ⌝ }
 {
     let mut i = from;
     while i < areas.records {
@@ -214,7 +215,7 @@ pub(crate) fn next_candidate(observed: Features, list: &[u8], areas: Areas, from
     i
 }
 
-// The records in list order; an exact one ends the search.
+// The records in list order; one of rank 0 ends the search.
 pub(crate) fn search_records(
     observed: Features,
     kinds: &[u8; 40],
@@ -223,7 +224,7 @@ pub(crate) fn search_records(
     areas: Areas,
 ) -> Found
     requires { ⌜ AreasFit (now list) areas ⌝ }
-    ensures { λ r. ⌜ r ≡ searchFrom Found.None observed (now (kinds .entry)) (now (bytes .entry)) (now (list .entry)) (numbersFrom 0 (areas .records)) ⌝ }
+    ensures { λ r. ⌜ r ≡ searchRow observed (now (kinds .entry)) (now (bytes .entry)) (now (list .entry)) (numbersFrom 0 (areas .records)) ⌝ }
 {
     let count = areas.records;
     let mut held = Found::None;
@@ -234,7 +235,7 @@ pub(crate) fn search_records(
             return held;
         }
         held = search_step(held, observed, kinds, bytes, list, areas, i);
-        if is_exact(held) {
+        if rank_of(held) == 0 {
             return held;
         }
         i += 1;

@@ -1,5 +1,5 @@
 -- `found::is_none` meets its contract.
-use Rattle.found.specs.Keep.{isNone}
+use Rattle.found.specs.Rank.{isNone}
 use borrow.Author.Needs.{needs}
 use Rattle.found.proofs.is_none.Statement.{statement}
 use Rattle.found.proofs.is_none.Tie as tie

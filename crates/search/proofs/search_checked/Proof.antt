@@ -1,7 +1,8 @@
 -- `search::search_checked` meets its contract.
 use Rattle.search.proofs.Rows.{none-found}
 use Rattle.siglist.proofs.List.{header-areas, header-none}
-use Rattle.search.specs.Search.{numbersFrom, searchOver, searchAll}
+use Rattle.found.specs.Least.{numbersFrom}
+use Rattle.search.specs.Search.{searchOver, searchAll}
 use Rattle.siglist.specs.List.{recordCount}
 use Rattle.matching.specs.Fit.{featuresOf}
 use mathlib.Core.Path.{sym, _∙_}

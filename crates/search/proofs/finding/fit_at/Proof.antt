@@ -1,6 +1,6 @@
 -- `search::fit_at` meets its contract.
 use Rattle.search.proofs.Fits.{not-tolerated, not-held, held-fit}
-use Rattle.found.specs.Keep.{isNone}
+use Rattle.found.specs.Rank.{isNone}
 use Rattle.matching.specs.Fit.{toleranceOf}
 use borrow.Author.Tests.{not-true, not-false}
 use mathlib.Core.Path.{sym, _∙_, ap}

@@ -1,5 +1,6 @@
 -- `search::gates_at` meets its contract.
 use lib.Dec.{eqb}
+use Rattle.search.specs.Search.{passes}
 use Rattle.sigrecord.specs.Record.{entryCount, signatureOf}
 use Rattle.basis.proofs.Tests.{and-false}
 use Rattle.search.proofs.Scalars.{fails-version, fails-olen, fails-mss, fails-scale, fails-payload, window-decides}
@@ -20,6 +21,7 @@ cast-if1 : tie.Need-cast-if1
 cast-if1 c = search needs
 
 returns : tie.Need-returns
+unfolding passes
 returns c = rw (ne-eqb (c .before .before .before .before .before .args .observed .count) (entryCount (c .before .before .before .before .before .args .raw .now)) (λ e. c .if1 .taken (e ∙ sym (c .before .before .wide .ensures))))
 
 shared-slice-read-scale-gate : tie.Need-shared-slice-read-scale-gate
@@ -32,7 +34,7 @@ scale-gate-requires : tie.Need-scale-gate-requires
 scale-gate-requires c κs = search needs
 
 returns-2 : tie.Need-returns-2
-unfolding signatureOf be16
+unfolding passes signatureOf be16
 returns-2 c =
     let a = c .before .before .before .before .before .before .before .before .before .args in
     rw (fails-scale (a .observed) (signatureOf (a .raw .now)) (sym (c .before .scale-gate .ensures) ∙ not-true (c .before .scale-gate .result) (c .if2 .taken))) (sym (and-false (eqb (a .observed .count) (entryCount (a .raw .now)))))
@@ -50,7 +52,7 @@ mss-gate-requires : tie.Need-mss-gate-requires
 mss-gate-requires c κs = search needs
 
 returns-3 : tie.Need-returns-3
-unfolding signatureOf be16
+unfolding passes signatureOf be16
 returns-3 c =
     let a = c .before .before .before .before .before .before .before .before .before .before .before .before .before .before .args in
     rw (fails-mss (a .observed) (signatureOf (a .raw .now)) (sym (c .before .mss-gate .ensures) ∙ not-true (c .before .mss-gate .result) (c .if3 .taken))) (sym (and-false (eqb (a .observed .count) (entryCount (a .raw .now)))))
@@ -62,7 +64,7 @@ olen-matches-requires : tie.Need-olen-matches-requires
 olen-matches-requires c κs = search needs
 
 returns-4 : tie.Need-returns-4
-unfolding signatureOf be16
+unfolding passes signatureOf be16
 returns-4 c =
     let a = c .before .before .before .before .before .before .before .before .before .before .before .before .before .before .before .before .before .args in
     rw (fails-olen (a .observed) (signatureOf (a .raw .now)) (sym (c .before .olen-matches .ensures) ∙ not-true (c .before .olen-matches .result) (c .if4 .taken))) (sym (and-false (eqb (a .observed .count) (entryCount (a .raw .now)))))
@@ -74,7 +76,7 @@ payload-size-matches-requires : tie.Need-payload-size-matches-requires
 payload-size-matches-requires c κs = search needs
 
 returns-5 : tie.Need-returns-5
-unfolding signatureOf be16
+unfolding passes signatureOf be16
 returns-5 c =
     let a = c .before .before .before .before .before .before .before .before .before .before .before .before .before .before .before .before .before .before .before .before .args in
     rw (fails-payload (a .observed) (signatureOf (a .raw .now)) (sym (c .before .payload-size-matches .ensures) ∙ not-true (c .before .payload-size-matches .result) (c .if5 .taken))) (sym (and-false (eqb (a .observed .count) (entryCount (a .raw .now)))))
@@ -86,7 +88,7 @@ ip-version-matches-requires : tie.Need-ip-version-matches-requires
 ip-version-matches-requires c κs = search needs
 
 returns-6 : tie.Need-returns-6
-unfolding signatureOf be16
+unfolding passes signatureOf be16
 returns-6 c =
     let a = c .before .before .before .before .before .before .before .before .before .before .before .before .before .before .before .before .before .before .before .before .before .before .before .args in
     rw (fails-version (a .observed) (signatureOf (a .raw .now)) (sym (c .before .ip-version-matches .ensures) ∙ not-true (c .before .ip-version-matches .result) (c .if6 .taken))) (sym (and-false (eqb (a .observed .count) (entryCount (a .raw .now)))))
@@ -104,7 +106,7 @@ window-gate-requires : tie.Need-window-gate-requires
 window-gate-requires c κs = search needs
 
 returns-7 : tie.Need-returns-7
-unfolding signatureOf be16
+unfolding passes signatureOf be16
 returns-7 c =
     let a = c .before .before .before .before .before .before .before .before .before .before .before .before .before .before .before .before .before .before .before .before .before .before .before .before .before .before .before .args in
     rw (

@@ -1,8 +1,8 @@
--- `found::is_exact` meets its contract.
-use Rattle.found.specs.Keep.{isExact}
+-- `found::rank_of` meets its contract.
+use Rattle.found.specs.Rank.{rankOf}
 use borrow.Author.Needs.{needs}
-use Rattle.found.proofs.is_exact.Statement.{statement}
-use Rattle.found.proofs.is_exact.Tie as tie
+use Rattle.found.proofs.rank_of.Statement.{statement}
+use Rattle.found.proofs.rank_of.Tie as tie
 
 enum-told : tie.Need-enum-told
 enum-told c = search needs
@@ -14,16 +14,16 @@ enum-told-3 : tie.Need-enum-told-3
 enum-told-3 c = search needs
 
 returns : tie.Need-returns
-unfolding isExact
+unfolding rankOf
 returns c = simp (c .enum-told .given .1)
 
 returns-2 : tie.Need-returns-2
-unfolding isExact
+unfolding rankOf
 returns-2 c = simp (c .enum-told2 .given .1)
 
 returns-3 : tie.Need-returns-3
-unfolding isExact
+unfolding rankOf
 returns-3 c = simp (c .enum-told3 .given .1)
 
-pub is-exact-spec : {M : Type 1} → statement M
-is-exact-spec = tie.close (tie.spec enum-told enum-told-2 enum-told-3 returns returns-2 returns-3)
+pub rank-of-spec : {M : Type 1} → statement M
+rank-of-spec = tie.close (tie.spec enum-told enum-told-2 enum-told-3 returns returns-2 returns-3)
