@@ -95,14 +95,14 @@ sound-tcp f t peer inside =
     (either (isSynType (control t)) _ _ (sound-observed f t true mss.Absent inside)
     (either (isSynAckType (control t)) _ _ (sound-observed f t false (knownPeer peer) inside) sound-empty))
 
-after-ip : (p : List ℕ) (peer : Mss) {r : IpRead} → Given p r → Sound (afterIp readTcp r p peer .observation)
+after-ip : (p : List ℕ) (peer : Mss) {n : ℕ} {r : IpRead} → Given p n r → Sound (afterIp readTcp r p peer .observation)
 unfolding ipv4Facts ipv4Quirks ipv6Facts ipv6Quirks placeOf
 after-ip p peer (Given.refused small) = sound-empty
-after-ip p peer (Given.four v words long) =
+after-ip p peer (Given.four long words) =
     sound-tcp _ _ peer
     (clean-add-if _ _ _ refl
     (clean-add-if _ _ _ refl (clean-add-if _ _ _ refl (clean-add-if _ _ _ refl (clean-add-if _ _ _ refl clean-empty)))))
-after-ip p peer (Given.six v long) =
+after-ip p peer (Given.six long) =
     sound-tcp _ _ peer (clean-add-if _ _ _ refl (clean-add-if _ _ _ refl clean-empty))
 
 -- Every reading's observation is sound, also the empty one beside a refusal.

@@ -55,22 +55,21 @@ module _ (p : List ℕ) (long : 40 ≤ length p) (tcp : v6.nextHeader p ≡ 6) w
 
 -- ---- what the stage gives
 
--- A refusal under 7; or the facts of an IPv4 or IPv6 header, with a TCP part of at least twenty bytes within the packet.
-pub data Given (p : List ℕ) : IpRead → Type 0 where
-  refused : {r : Refusal} → number r < 7 → Given p (ip.Refused r)
+-- Of a packet of this version: a refusal under 7; or the facts of its header, with a TCP part of at least twenty bytes within the packet.
+pub data Given (p : List ℕ) : ℕ → IpRead → Type 0 where
+  refused : {version : ℕ} {r : Refusal} → number r < 7 → Given p version (ip.Refused r)
   four
-      : v4.version p ≡ 4
+      : v4.dataStart p + 20 ≤ v4.dataEnd p
       → 5 ≤ v4.ihl p
-      → v4.dataStart p + 20 ≤ v4.dataEnd p
-      → Given p (ip.Facts (ipv4Facts p (v4.dataStart p) (v4.dataEnd p)))
-  six : v4.version p ≡ 6 → 60 ≤ v6.payloadEnd p → Given p (ip.Facts (ipv6Facts p (v6.payloadEnd p)))
+      → Given p 4 (ip.Facts (ipv4Facts p (v4.dataStart p) (v4.dataEnd p)))
+  six : 60 ≤ v6.payloadEnd p → Given p 6 (ip.Facts (ipv6Facts p (v6.payloadEnd p)))
 
 module _ (p : List ℕ) where
-  either : (t : Bool) {a b : IpRead} → (t ≡ true → Given p a) → (t ≡ false → Given p b) → Given p (cond t a b)
+  either : (t : Bool) {n : ℕ} {a b : IpRead} → (t ≡ true → Given p n a) → (t ≡ false → Given p n b) → Given p n (cond t a b)
   either true x y = x refl
   either false x y = y refl
 
-  no : (r : Refusal) → number r < 7 → Given p (ip.Refused r)
+  no : {version : ℕ} (r : Refusal) → number r < 7 → Given p version (ip.Refused r)
   no r h = refused h
 
   -- The last test of both versions: a part under twenty bytes is refused.
@@ -80,36 +79,36 @@ module _ (p : List ℕ) where
       let twenty = ltb-false (length (part start end p)) 20 e in
       omega arith
 
-  given4 : v4.version p ≡ 4 → Given p (readIpv4 p)
+  pub given4 : Given p 4 (readIpv4 p)
   unfolding readIpv4 number
-  given4 v =
+  given4 =
       either (ltb (length p) 20) (λ e. no refusal.TooShort (omega arith)) (λ e.
       either (ltb (v4.ihl p) 5) (λ e. no refusal.HeaderLength (omega arith)) (λ words.
       either (not (eqb (v4.protocol p) 6)) (λ e. no refusal.UnsupportedProtocol (omega arith)) (λ e.
       either (ltb 0 (v4.fragmentOffset p) || eqb (v4.moreFragments p) 1) (λ e. no refusal.Fragment (omega arith)) (λ e.
       either (ltb (length (part (v4.dataStart p) (v4.dataEnd p) p)) 20) (λ e. no refusal.TcpTooShort (omega arith)) (λ e.
-      four v (ltb-false (v4.ihl p) 5 words) (long (v4.dataStart p) (v4.dataEnd p) (omega arith) e))))))
+      four (long (v4.dataStart p) (v4.dataEnd p) (omega arith) e) (ltb-false (v4.ihl p) 5 words))))))
 
-  given6 : v4.version p ≡ 6 → Given p (readIpv6 p)
+  pub given6 : Given p 6 (readIpv6 p)
   unfolding readIpv6 number
-  given6 v =
+  given6 =
       either (ltb (length p) 40) (λ e. no refusal.TooShort (omega arith)) (λ e.
       either (not (eqb (v6.nextHeader p) 6)) (λ e. no refusal.UnsupportedProtocol (omega arith)) (λ e.
       either (ltb (length (v6.payload p)) 20) (λ e. no refusal.TcpTooShort (omega arith)) (λ e.
-      six v (long 40 (v6.payloadEnd p) (omega arith) e))))
+      six (long 40 (v6.payloadEnd p) (omega arith) e))))
 
-  pub given : Given p (readIp p)
+  pub given : Given p (v4.version p) (readIp p)
   unfolding readIp number
   given =
       either (eqb (length p) 0) (λ e. no refusal.Version (omega arith)) (λ e.
-      either (eqb (v4.version p) 4) (λ e. given4 (eqb-true (v4.version p) 4 e)) (λ e.
-      either (eqb (v4.version p) 6) (λ e. given6 (eqb-true (v4.version p) 6 e)) (λ e.
+      either (eqb (v4.version p) 4) (λ e. rw (eqb-true (v4.version p) 4 e) given4) (λ e.
+      either (eqb (v4.version p) 6) (λ e. rw (eqb-true (v4.version p) 6 e) given6) (λ e.
       no refusal.Version (omega arith))))
 
-  part-lies : {f : IpFacts} → Given p (ip.Facts f) → (f .start + 20 ≤ f .end) × (f .end ≤ length p)
+  part-lies : {n : ℕ} {f : IpFacts} → Given p n (ip.Facts f) → (f .start + 20 ≤ f .end) × (f .end ≤ length p)
   unfolding ipv4Facts ipv6Facts
-  part-lies (four v words h) = (h, omega arith)
-  part-lies (six v h) = (h, omega arith)
+  part-lies (four h words) = (h, omega arith)
+  part-lies (six h) = (h, omega arith)
 
   -- Of facts that the code holds.
   pub tcp-part-lies : (f : IpFacts) → readIp p ≡ ip.Facts f → (f .start + 20 ≤ f .end) × (f .end ≤ length p)
