@@ -7,7 +7,7 @@ ghost use lib.Dec.{eqb};
 ghost use lib.ListN.{length};
 ghost use Rattle.flow.specs.Flags.{maskedType, flagsInvalid};
 ghost use Rattle.flow.specs.Reading.{readPacket};
-ghost use Rattle.flow.specs.Tcp.{headerQuirks, quirksOfHeaders, payloadClass, observationOf, observationFrom, knownPeer, readTcp};
+ghost use Rattle.flow.specs.Tcp.{headerQuirks, quirksOfHeaders, payloadClass, observationOf, observationFrom, knownPeer, refusing, readTcp};
 use ip::IpFacts;
 use ip::IpRead;
 use ip::Refusal;
@@ -214,16 +214,24 @@ fn peer_taken(syn: bool, peer_mss: Mss) -> Mss
     known_peer(peer_mss)
 }
 
+// A refusal gives nothing beside.
+fn refuse(refusal: Refusal) -> Reading
+    ensures { λ r. ⌜ r ≡ refusing refusal ⌝ }
+{
+    Reading {
+        answer: Answer::Refused(refusal),
+        observation: TcpObservation::empty(),
+    }
+}
+
+// The TCP stage.
 fn visit_tcp(facts: IpFacts, tcp: &[u8], peer_mss: Mss) -> Reading
     requires { ⌜ 20 ≤ length (now tcp) ⌝ }
     ensures { λ r. ⌜ r ≡ readTcp facts (now (tcp .entry)) «peer_mss» ⌝ }
 {
     let flags = tcp[13];
     if !is_valid(flags) {
-        return Reading {
-            answer: Answer::Refused(Refusal::InvalidTcpFlags(flags)),
-            observation: TcpObservation::empty(),
-        };
+        return refuse(Refusal::InvalidTcpFlags(flags));
     }
     let masked = tcp_type(flags);
     if !is_opening(masked) {
@@ -239,15 +247,12 @@ fn visit_tcp(facts: IpFacts, tcp: &[u8], peer_mss: Mss) -> Reading
     }
 }
 
-// From a lent packet and the peer's MSS to an observation, nothing, or a refusal.
+// From a lent packet and the peer's MSS to an observation, nothing, or a refusal: the IP stage, then the TCP stage on its part.
 pub fn read_packet(packet: &[u8], peer_mss: Mss) -> Reading
     ensures { λ r. ⌜ r ≡ readPacket (now (packet .entry)) «peer_mss» ⌝ }
 {
     match read_ip(packet) {
-        IpRead::Refused(refusal) => Reading {
-            answer: Answer::Refused(refusal),
-            observation: TcpObservation::empty(),
-        },
+        IpRead::Refused(refusal) => refuse(refusal),
         IpRead::Facts(facts) => {
             let start = facts.start;
             let end = facts.end;

@@ -86,10 +86,13 @@ readIpv6 p =
 
 -- ---- either
 
--- Refusal 1: "packet empty, or top nibble of byte 0 not 4 or 6".
-unfoldable pub readIp : List ℕ → IpRead
-readIp p =
+-- Refusal 1: "packet empty, or top nibble of byte 0 not 4 or 6"; else the stage of the packet's version.
+abbrev pub byVersion : (List ℕ → IpRead) → (List ℕ → IpRead) → List ℕ → IpRead
+byVersion four six p =
     cond (eqb (length p) 0) (ip.Refused refusal.Version)
-    (cond (eqb (v4.version p) 4) (readIpv4 p)
-    (cond (eqb (v4.version p) 6) (readIpv6 p)
+    (cond (eqb (v4.version p) 4) (four p)
+    (cond (eqb (v4.version p) 6) (six p)
     (ip.Refused refusal.Version)))
+
+unfoldable pub readIp : List ℕ → IpRead
+readIp p = byVersion readIpv4 readIpv6 p

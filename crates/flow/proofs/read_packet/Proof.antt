@@ -14,8 +14,8 @@ read-ip-requires c κs = search needs
 enum-known-refusal : tie.Need-enum-known-refusal
 enum-known-refusal c = search needs
 
-empty-requires : tie.Need-empty-requires
-empty-requires c κs = search needs
+refuse-requires : tie.Need-refuse-requires
+refuse-requires c κs = search needs
 
 enum-known-facts : tie.Need-enum-known-facts
 enum-known-facts c = search needs
@@ -42,7 +42,7 @@ visit-tcp-requires c κs =
 
 returns : tie.Need-returns
 unfolding readPacket
-returns c = rw (sym (c .before .before .before .before .read-ip .ensures) ∙ c .before .before .refusal .given .1, c .empty .ensures)
+returns c = rw (sym (c .before .before .before .before .read-ip .ensures) ∙ c .before .before .refusal .given .1, c .refuse .ensures)
 
 returns-2 : tie.Need-returns-2
 unfolding readPacket
@@ -54,7 +54,7 @@ read-packet-spec =
     (tie.spec
     read-ip-requires
     enum-known-refusal
-    empty-requires
+    refuse-requires
     enum-known-facts
     sub-visit-tcp
     part-visit-tcp-start

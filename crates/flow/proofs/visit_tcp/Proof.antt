@@ -19,15 +19,15 @@ shared-slice-read-flags c = search needs
 is-valid-requires : tie.Need-is-valid-requires
 is-valid-requires c κs = search needs
 
-empty-requires : tie.Need-empty-requires
-empty-requires c κs = search needs
+refuse-requires : tie.Need-refuse-requires
+refuse-requires c κs = search needs
 
 returns : tie.Need-returns
 unfolding readTcp
 returns c =
     let flags = control (c .before .before .before .before .before .args .tcp .now) in
     let bad : flagsInvalid flags ≡ true = not-false (flagsInvalid flags) (sym (c .before .before .is-valid .ensures) ∙ not-true (c .before .before .is-valid .result) (c .before .if1 .taken)) in
-    simp (c .empty .ensures, bad)
+    simp (c .refuse .ensures, bad)
 
 tcp-type-requires : tie.Need-tcp-type-requires
 tcp-type-requires c κs = search needs
@@ -35,8 +35,8 @@ tcp-type-requires c κs = search needs
 is-opening-requires : tie.Need-is-opening-requires
 is-opening-requires c κs = search needs
 
-empty-requires-2 : tie.Need-empty-requires-2
-empty-requires-2 c κs = search needs
+empty-requires : tie.Need-empty-requires
+empty-requires c κs = search needs
 
 returns-2 : tie.Need-returns-2
 unfolding readTcp isSynType isSynAckType
@@ -45,7 +45,7 @@ returns-2 c =
     let sound : flagsInvalid flags ≡ false = not-true (flagsInvalid flags) (sym (c .before .before .before .before .before .is-valid .ensures) ∙ not-false (c .before .before .before .before .before .is-valid .result) (c .before .before .before .before .if1 .left)) in
     let neither : eqb (maskedType flags) 2 || eqb (maskedType flags) 18 ≡ false = rw (← c .before .before .before .tcp-type .ensures) (sym (c .before .before .is-opening .ensures) ∙ not-true (c .before .before .is-opening .result) (c .before .if2 .taken)) in
     simp (
-      c .empty2 .ensures,
+      c .empty .ensures,
       sound,
       neither-first (eqb (maskedType flags) 2) (eqb (maskedType flags) 18) neither,
       neither-second (eqb (maskedType flags) 2) (eqb (maskedType flags) 18) neither,
@@ -76,11 +76,11 @@ visit-tcp-spec =
     (tie.spec
     shared-slice-read-flags
     is-valid-requires
-    empty-requires
+    refuse-requires
     returns
     tcp-type-requires
     is-opening-requires
-    empty-requires-2
+    empty-requires
     returns-2
     opening-answer-requires
     peer-taken-requires
