@@ -26,7 +26,7 @@ use Rattle.ip.specs.declared.IpFacts.{IpFacts}
 use Rattle.ip.specs.declared.IpRead.{IpRead}
 use Rattle.ip.specs.declared.IpRead.the-variants as ip
 use Rattle.flow.specs.declared.Reading.{Reading}
-use Rattle.ip.specs.declared.Refusal.{Refusal}
+use Rattle.refusals.specs.declared.PacketRefusal.{PacketRefusal}
 use Rattle.flow.specs.Flags.{flagsInvalid, isSynType, isSynAckType}
 use Rattle.ip.specs.Ip.{ipv4Quirks, ipv4Facts, readIpv4, ipv6Quirks, ipv6Facts, readIpv6, readIp}
 use Rattle.flow.specs.Tcp.{headerQuirks, quirksOfHeaders, observationOf, observationFrom, knownPeer, readTcp}
@@ -102,7 +102,7 @@ sound-tcp f t peer inside =
 
 -- What the IP stage gives is refused, or has facts with clean quirks.
 data WithinIp : IpRead → Type 0 where
-  refused : {r : Refusal} → WithinIp (ip.Refused r)
+  refused : {r : PacketRefusal} → WithinIp (ip.Refused r)
   facts : {f : IpFacts} → Clean (f .quirks) → WithinIp (ip.Facts f)
 
 choose : (t : Bool) {a b : IpRead} → WithinIp a → WithinIp b → WithinIp (cond t a b)

@@ -11,7 +11,7 @@ use Rattle.ip.specs.declared.IpRead.{IpRead}
 use Rattle.ip.specs.declared.IpRead.the-variants as ip
 use Rattle.flow.specs.declared.Reading.{Reading}
 use Rattle.ip.specs.Ip.{readIp}
-use Rattle.ip.specs.Numbers.{number}
+use Rattle.refusals.specs.Refusals.{Verdict, packetRefused, numberOf}
 use Rattle.flow.specs.Tcp.{readTcp}
 
 -- The TCP part: "the part that begins after the IP header".
@@ -26,9 +26,12 @@ afterIp (ip.Facts f) p peer = readTcp f (tcpPart f p) peer
 unfoldable pub readPacket : List ℕ → Mss → Reading
 readPacket p peer = afterIp (readIp p) p peer
 
--- The number of an answer's refusal; 0 if it is none.
+-- Which refusal of the table the answer is, if any, and its number; 0 if it is none.
+abbrev pub answerVerdict : Answer → Verdict
+answerVerdict answer.Syn = Verdict.accepted
+answerVerdict answer.SynAck = Verdict.accepted
+answerVerdict answer.Nothing = Verdict.accepted
+answerVerdict (answer.Refused r) = packetRefused r
+
 unfoldable pub refusalOf : Answer → ℕ
-refusalOf answer.Syn = 0
-refusalOf answer.SynAck = 0
-refusalOf answer.Nothing = 0
-refusalOf (answer.Refused r) = number r
+refusalOf a = numberOf (answerVerdict a)

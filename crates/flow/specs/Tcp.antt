@@ -18,7 +18,7 @@ use Rattle.syn_options.specs.Walk.{walkOf}
 use Rattle.ip.specs.declared.IpFacts.{IpFacts}
 use Rattle.flow.specs.declared.Answer.the-variants as answer
 use Rattle.flow.specs.declared.Reading.{Reading}
-use Rattle.ip.specs.declared.Refusal.the-variants as refusal
+use Rattle.refusals.specs.declared.PacketRefusal.the-variants as refusal
 use Rattle.flow.specs.Flags.{isSet, flagsInvalid, isSynType, isSynAckType}
 
 -- The quirks of a TCP header (document 01, module 6; flow.rs), added to those of the IP header, by its flags, sequence number,

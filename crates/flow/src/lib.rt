@@ -10,7 +10,6 @@ ghost use Rattle.flow.specs.Reading.{readPacket};
 ghost use Rattle.flow.specs.Tcp.{headerQuirks, quirksOfHeaders, payloadClass, observationOf, observationFrom, knownPeer, readTcp};
 use ip::IpFacts;
 use ip::IpRead;
-use ip::Refusal;
 use ip::read_ip;
 use numbers::be16;
 use numbers::be32;
@@ -20,6 +19,7 @@ use numbers::wide;
 use observable::TcpObservation;
 use quirks::Quirk;
 use quirks::QuirkSet;
+use refusals::PacketRefusal;
 use syn_options::Walked;
 use syn_options::walk_options;
 use tcp::Mss;
@@ -30,7 +30,7 @@ pub enum Answer {
     SynAck,
     // Valid flags that are neither SYN nor SYN+ACK.
     Nothing,
-    Refused(Refusal),
+    Refused(PacketRefusal),
 }
 
 // The answer, and the observation of a SYN or SYN+ACK; beside any other answer the empty observation.
@@ -221,7 +221,7 @@ fn visit_tcp(facts: IpFacts, tcp: &[u8], peer_mss: Mss) -> Reading
     let flags = tcp[13];
     if !is_valid(flags) {
         return Reading {
-            answer: Answer::Refused(Refusal::InvalidTcpFlags(flags)),
+            answer: Answer::Refused(PacketRefusal::InvalidTcpFlags(flags)),
             observation: TcpObservation::empty(),
         };
     }

@@ -14,8 +14,8 @@ use Rattle.rfc.specs.Rfc8200 as v6
 use Rattle.ip.specs.declared.IpFacts.{IpFacts}
 use Rattle.ip.specs.declared.IpRead.{IpRead}
 use Rattle.ip.specs.declared.IpRead.the-variants as ip
-use Rattle.ip.specs.declared.Refusal.{Refusal}
-use Rattle.ip.specs.declared.Refusal.the-variants as refusal
+use Rattle.refusals.specs.declared.PacketRefusal.{PacketRefusal}
+use Rattle.refusals.specs.declared.PacketRefusal.the-variants as refusal
 use Rattle.ip.specs.Ip.{ipv4Facts, readIpv4, ipv6Facts, readIpv6, readIp}
 
 module _ (p : List ℕ) (long : 20 ≤ length p) (words : 5 ≤ v4.ihl p) (tcp : v4.protocol p ≡ 6)
@@ -55,7 +55,7 @@ module _ (p : List ℕ) (long : 40 ≤ length p) (tcp : v6.nextHeader p ≡ 6) w
 -- ---- facts come with a TCP part of at least twenty bytes within the packet
 
 data Lies (p : List ℕ) : IpRead → Type 0 where
-  refused : {r : Refusal} → Lies p (ip.Refused r)
+  refused : {r : PacketRefusal} → Lies p (ip.Refused r)
   within : {f : IpFacts} → f .start + 20 ≤ f .end → f .end ≤ length p → Lies p (ip.Facts f)
 
 either : {p : List ℕ} (t : Bool) {a b : IpRead} → Lies p a → Lies p b → Lies p (cond t a b)

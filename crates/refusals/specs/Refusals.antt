@@ -183,6 +183,12 @@ pub data Verdict : Type 0 where
   accepted : Verdict
   refused : Refusal → Verdict
 
+abbrev pub packetRefused : PacketRefusal → Verdict
+packetRefused r = Verdict.refused (refusal.Packet r)
+
+abbrev pub listRefused : ListRefusal → Verdict
+listRefused r = Verdict.refused (refusal.List r)
+
 -- Its number; 0 is no refusal.
 abbrev pub numberOf : Verdict → ℕ
 numberOf Verdict.accepted = 0
