@@ -16,8 +16,7 @@ use Rattle.search.specs.Search.{afterListCheck, searchList, searchRefusa
 by-list : (a : ListAnswer) (o : TcpObservation) (l : List ℕ) → searchRefusal (afterListCheck a o l) ≡ listRefusal a
 unfolding searchRefusal listRefusal
 by-list list.Good o l = refl
-by-list list.DoesNotFit o l = refl
-by-list (list.BadRecord i) o l = refl
+by-list (list.Refused r) o l = refl
 
 pub search-order
     : (o : TcpObservation) (l : List ℕ)
