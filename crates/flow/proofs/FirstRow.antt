@@ -14,12 +14,12 @@ use Rattle.ip.specs.declared.IpFacts.{IpFacts}
 use Rattle.ip.specs.declared.IpRead.{IpRead}
 use Rattle.ip.specs.declared.IpRead.the-variants as ip
 use Rattle.flow.specs.declared.Reading.{Reading}
-use Rattle.ip.specs.declared.Refusal.{Refusal}
-use Rattle.ip.specs.declared.Refusal.the-variants as refusal
+use Rattle.refusals.specs.declared.PacketRefusal.{PacketRefusal}
+use Rattle.refusals.specs.declared.PacketRefusal.the-variants as refusal
 use Rattle.flow.specs.Flags.{flagsInvalid, isSynType, isSynAckType}
 use Rattle.ip.specs.Ip.{ipv4Facts, readIpv4, ipv6Facts, readIpv6, readIp}
 use Rattle.flow.specs.Tcp.{readTcp}
-use Rattle.ip.specs.Numbers.{number}
+use Rattle.refusals.specs.Refusals.{packetNumber}
 use Rattle.flow.specs.Reading.{afterIp, readPacket, refusalOf}
 
 -- ---- the table's rows, as tests
@@ -68,7 +68,7 @@ no-refusal false false = refl
 
 -- The TCP stage refuses by the flags alone.
 pub by-flags : (f : IpFacts) (t : List ℕ) (peer : Mss) → refusalOf (readTcp f t peer .answer) ≡ cond (flagsInvalid (control t)) 7 0
-unfolding readTcp refusalOf number
+unfolding readTcp refusalOf
 by-flags f t peer =
     either (flagsInvalid (control t)) _ _ 7 (cond (isSynType (control t)) 0 (cond (isSynAckType (control t)) 0 0)) refl
     (either (isSynType (control t)) _ _ 0 (cond (isSynAckType (control t)) 0 0) refl
@@ -84,7 +84,7 @@ over true x y = x
 over false x y = y
 
 module _ (p : List ℕ) (peer : Mss) where
-  refused : (r : Refusal) → Numbered p peer (ip.Refused r) (number r)
+  refused : (r : PacketRefusal) → Numbered p peer (ip.Refused r) (packetNumber r)
   unfolding refusalOf
   refused r = record { says = refl }
 
@@ -96,7 +96,7 @@ module _ (p : List ℕ) (peer : Mss) where
       (cond (ltb 0 (v4.fragmentOffset p) || eqb (v4.moreFragments p) 1) 5
       (cond (ltb (length (part (v4.dataStart p) (v4.dataEnd p) p)) 20) 6
       (cond (flagsInvalid (control (part (v4.dataStart p) (v4.dataEnd p) p))) 7 0))))))
-  unfolding readIpv4 number ipv4Facts
+  unfolding readIpv4 ipv4Facts
   of-v4 =
       over (ltb (length p) 20) (refused refusal.TooShort)
       (over (ltb (v4.ihl p) 5) (refused refusal.HeaderLength)
@@ -111,7 +111,7 @@ module _ (p : List ℕ) (peer : Mss) where
       (cond (not (eqb (v6.nextHeader p) 6)) 4
       (cond (ltb (length (v6.payload p)) 20) 6
       (cond (flagsInvalid (control (v6.payload p))) 7 0))))
-  unfolding readIpv6 number ipv6Facts
+  unfolding readIpv6 ipv6Facts
   of-v6 =
       over (ltb (length p) 40) (refused refusal.TooShort)
       (over (not (eqb (v6.nextHeader p) 6)) (refused refusal.UnsupportedProtocol)
@@ -120,7 +120,7 @@ module _ (p : List ℕ) (peer : Mss) where
 
   -- "in order of test": the number of a packet's refusal is that of the first row that holds, 0 where none does.
   pub by-first-row : refusalOf (readPacket p peer .answer) ≡ firstRow 1 (rows p)
-  unfolding readPacket readIp rows firstRow number
+  unfolding readPacket readIp rows firstRow
   by-first-row =
       over (eqb (length p) 0) (refused refusal.Version) (over (ofVersion4 p) of-v4 (over (ofVersion6 p) of-v6 (refused refusal.Version))) .says
       ∙ by-version (eqb (length p) 0) (ofVersion4 p) (ofVersion6 p)

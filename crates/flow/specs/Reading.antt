@@ -10,7 +10,7 @@ use Rattle.ip.specs.declared.IpRead.{IpRead}
 use Rattle.ip.specs.declared.IpRead.the-variants as ip
 use Rattle.flow.specs.declared.Reading.{Reading}
 use Rattle.ip.specs.Ip.{readIp}
-use Rattle.ip.specs.Numbers.{number}
+use Rattle.refusals.specs.Refusals.{Verdict, packetRefused, numberOf}
 use Rattle.flow.specs.Tcp.{refusing, readTcp}
 
 -- A reader has two stages, chosen apart. The IP stage gives the facts of a packet's IP header and the place of its TCP part, or a refusal.
@@ -37,9 +37,12 @@ readBy ip tcp p peer = afterIp tcp (ip p) p peer
 unfoldable pub readPacket : List ℕ → Mss → Reading
 readPacket p peer = readBy readIp readTcp p peer
 
--- The number of an answer's refusal; 0 if it is none.
+-- Which refusal of the table the answer is, if any, and its number; 0 if it is none.
+abbrev pub answerVerdict : Answer → Verdict
+answerVerdict answer.Syn = Verdict.accepted
+answerVerdict answer.SynAck = Verdict.accepted
+answerVerdict answer.Nothing = Verdict.accepted
+answerVerdict (answer.Refused r) = packetRefused r
+
 unfoldable pub refusalOf : Answer → ℕ
-refusalOf answer.Syn = 0
-refusalOf answer.SynAck = 0
-refusalOf answer.Nothing = 0
-refusalOf (answer.Refused r) = number r
+refusalOf a = numberOf (answerVerdict a)

@@ -10,7 +10,6 @@ ghost use Rattle.flow.specs.Reading.{readPacket};
 ghost use Rattle.flow.specs.Tcp.{headerQuirks, quirksOfHeaders, payloadClass, observationOf, observationFrom, knownPeer, refusing, readTcp};
 use ip::IpFacts;
 use ip::IpRead;
-use ip::Refusal;
 use ip::read_ip;
 use numbers::be16;
 use numbers::be32;
@@ -20,6 +19,7 @@ use numbers::wide;
 use observable::TcpObservation;
 use quirks::Quirk;
 use quirks::QuirkSet;
+use refusals::PacketRefusal;
 use syn_options::Walked;
 use syn_options::walk_options;
 use tcp::Mss;
@@ -30,7 +30,7 @@ pub enum Answer {
     SynAck,
     // Valid flags that are neither SYN nor SYN+ACK.
     Nothing,
-    Refused(Refusal),
+    Refused(PacketRefusal),
 }
 
 // The answer, and the observation of a SYN or SYN+ACK; beside any other answer the empty observation.
@@ -215,7 +215,7 @@ fn peer_taken(syn: bool, peer_mss: Mss) -> Mss
 }
 
 // A refusal gives nothing beside.
-fn refuse(refusal: Refusal) -> Reading
+fn refuse(refusal: PacketRefusal) -> Reading
     ensures { λ r. ⌜ r ≡ refusing refusal ⌝ }
 {
     Reading {
@@ -231,7 +231,7 @@ fn visit_tcp(facts: IpFacts, tcp: &[u8], peer_mss: Mss) -> Reading
 {
     let flags = tcp[13];
     if !is_valid(flags) {
-        return refuse(Refusal::InvalidTcpFlags(flags));
+        return refuse(PacketRefusal::InvalidTcpFlags(flags));
     }
     let masked = tcp_type(flags);
     if !is_opening(masked) {

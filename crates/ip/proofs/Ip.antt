@@ -14,9 +14,9 @@ use Rattle.rfc.specs.Rfc8200 as v6
 use Rattle.ip.specs.declared.IpFacts.{IpFacts}
 use Rattle.ip.specs.declared.IpRead.{IpRead}
 use Rattle.ip.specs.declared.IpRead.the-variants as ip
-use Rattle.ip.specs.declared.Refusal.{Refusal}
-use Rattle.ip.specs.declared.Refusal.the-variants as refusal
-use Rattle.ip.specs.Numbers.{number}
+use Rattle.refusals.specs.declared.PacketRefusal.{PacketRefusal}
+use Rattle.refusals.specs.declared.PacketRefusal.the-variants as refusal
+use Rattle.refusals.specs.Refusals.{packetNumber}
 use Rattle.ip.specs.Ip.{ipv4Facts, readIpv4, ipv6Facts, readIpv6, readIp}
 
 module _ (p : List ℕ) (long : 20 ≤ length p) (words : 5 ≤ v4.ihl p) (tcp : v4.protocol p ≡ 6)
@@ -57,7 +57,7 @@ module _ (p : List ℕ) (long : 40 ≤ length p) (tcp : v6.nextHeader p ≡ 6) w
 
 -- Of a packet of this version: a refusal under 7; or the facts of its header, with a TCP part of at least twenty bytes within the packet.
 pub data Given (p : List ℕ) : ℕ → IpRead → Type 0 where
-  refused : {version : ℕ} {r : Refusal} → number r < 7 → Given p version (ip.Refused r)
+  refused : {version : ℕ} {r : PacketRefusal} → packetNumber r < 7 → Given p version (ip.Refused r)
   four
       : v4.dataStart p + 20 ≤ v4.dataEnd p
       → 5 ≤ v4.ihl p
@@ -69,7 +69,7 @@ module _ (p : List ℕ) where
   either true x y = x refl
   either false x y = y refl
 
-  no : {version : ℕ} (r : Refusal) → number r < 7 → Given p version (ip.Refused r)
+  no : {version : ℕ} (r : PacketRefusal) → packetNumber r < 7 → Given p version (ip.Refused r)
   no r h = refused h
 
   -- The last test of both versions: a part under twenty bytes is refused.
@@ -80,7 +80,7 @@ module _ (p : List ℕ) where
       omega arith
 
   pub given4 : Given p 4 (readIpv4 p)
-  unfolding readIpv4 number
+  unfolding readIpv4
   given4 =
       either (ltb (length p) 20) (λ e. no refusal.TooShort (omega arith)) (λ e.
       either (ltb (v4.ihl p) 5) (λ e. no refusal.HeaderLength (omega arith)) (λ words.
@@ -90,7 +90,7 @@ module _ (p : List ℕ) where
       four (long (v4.dataStart p) (v4.dataEnd p) (omega arith) e) (ltb-false (v4.ihl p) 5 words))))))
 
   pub given6 : Given p 6 (readIpv6 p)
-  unfolding readIpv6 number
+  unfolding readIpv6
   given6 =
       either (ltb (length p) 40) (λ e. no refusal.TooShort (omega arith)) (λ e.
       either (not (eqb (v6.nextHeader p) 6)) (λ e. no refusal.UnsupportedProtocol (omega arith)) (λ e.
@@ -98,7 +98,7 @@ module _ (p : List ℕ) where
       six (long 40 (v6.payloadEnd p) (omega arith) e))))
 
   pub given : Given p (v4.version p) (readIp p)
-  unfolding readIp number
+  unfolding readIp
   given =
       either (eqb (length p) 0) (λ e. no refusal.Version (omega arith)) (λ e.
       either (eqb (v4.version p) 4) (λ e. rw (eqb-true (v4.version p) 4 e) given4) (λ e.

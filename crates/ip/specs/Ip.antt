@@ -17,7 +17,8 @@ use Rattle.ip_options.specs.IpOptions.{ipv4OptionLength, ipv6ExtensionLength}
 use Rattle.ip.specs.declared.IpFacts.{IpFacts}
 use Rattle.ip.specs.declared.IpRead.{IpRead}
 use Rattle.ip.specs.declared.IpRead.the-variants as ip
-use Rattle.ip.specs.declared.Refusal.the-variants as refusal
+use Rattle.refusals.specs.declared.PacketRefusal.the-variants as refusal
+use Rattle.refusals.specs.Refusals.{Verdict, packetRefused}
 
 -- ---- IPv4
 
@@ -96,3 +97,8 @@ byVersion four six p =
 
 unfoldable pub readIp : List ℕ → IpRead
 readIp p = byVersion readIpv4 readIpv6 p
+
+-- Which refusal of the table the answer is, if any.
+abbrev pub ipVerdict : IpRead → Verdict
+ipVerdict (ip.Refused r) = packetRefused r
+ipVerdict (ip.Facts f) = Verdict.accepted

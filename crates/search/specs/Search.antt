@@ -14,6 +14,8 @@ use Rattle.found.specs.declared.Found.{Found}
 use Rattle.found.specs.declared.Found.the-variants as found
 use Rattle.found.specs.Least.{Place, nowhere, number, firstLeast, numbersFrom}
 use Rattle.found.specs.Rank.{foundOf, rankOf}
+use Rattle.refusals.specs.declared.Refusal.the-variants as refusal
+use Rattle.refusals.specs.Refusals.{Verdict, listRefused, numberOf}
 use Rattle.siglist.specs.declared.ListAnswer.{ListAnswer}
 use Rattle.siglist.specs.declared.ListAnswer.the-variants as list
 use Rattle.search.specs.declared.SearchAnswer.{SearchAnswer}
@@ -57,16 +59,17 @@ searchAll o l = searchOver (numbersFrom 0 (recordCount l)) o l
 
 -- "a search [meets] 11, then 9, then 10"; 11: "observation's layout count over 40"
 abbrev pub afterListCheck : ListAnswer → TcpObservation → List ℕ → SearchAnswer
-afterListCheck list.DoesNotFit o l = answer.DoesNotFit
-afterListCheck (list.BadRecord i) o l = answer.BadRecord i
+afterListCheck (list.Refused r) o l = answer.List r
 afterListCheck list.Good o l = answer.Found (searchAll o l)
 
 unfoldable pub searchList : TcpObservation → List ℕ → SearchAnswer
 searchList o l = cond (ltb 40 (o .olayout .count)) answer.LayoutTooLong (afterListCheck (checkList l) o l)
 
--- The number of a search's refusal; 0 if it is none. Refusal 10 gives the index of the first bad record.
+-- Which refusal of the table the answer is, if any, and its number; 0 if it is none.
+abbrev pub searchVerdict : SearchAnswer → Verdict
+searchVerdict (answer.Found f) = Verdict.accepted
+searchVerdict answer.LayoutTooLong = Verdict.refused refusal.LayoutTooLong
+searchVerdict (answer.List r) = listRefused r
+
 unfoldable pub searchRefusal : SearchAnswer → ℕ
-searchRefusal (answer.Found f) = 0
-searchRefusal answer.LayoutTooLong = 11
-searchRefusal answer.DoesNotFit = 9
-searchRefusal (answer.BadRecord i) = 10
+searchRefusal a = numberOf (searchVerdict a)

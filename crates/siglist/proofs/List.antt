@@ -13,6 +13,7 @@ use Rattle.siglist.specs.declared.Areas.{Areas}
 use Rattle.siglist.specs.declared.Header.{Header}
 use Rattle.siglist.specs.declared.Header.the-variants as header
 use Rattle.siglist.specs.declared.ListAnswer.the-variants as answer
+use Rattle.refusals.specs.declared.ListRefusal.the-variants as refusal
 use Rattle.siglist.specs.List.{recordCount, recordsOffset, layoutCount, layoutOffset, listFits, areasOf, headerOf, AreasFit, recordStart, recordAt, recordGood, recordsFrom}
 
 -- A list that fits has a whole header.
@@ -49,7 +50,7 @@ module _ (l : List ℕ) (i n : ℕ) (inside : i < n) where
   unfolding recordsFrom
   record-good-turn e = rw (more, e)
 
-  pub record-bad-turn : recordGood l i ≡ false → recordsFrom l i (n - i) ≡ answer.BadRecord i
+  pub record-bad-turn : recordGood l i ≡ false → recordsFrom l i (n - i) ≡ answer.Refused (refusal.BadRecord i)
   unfolding recordsFrom
   record-bad-turn e = rw (more, e)
 

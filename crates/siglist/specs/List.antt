@@ -11,6 +11,8 @@ use Rattle.siglist.specs.declared.Header.{Header}
 use Rattle.siglist.specs.declared.Header.the-variants as header
 use Rattle.siglist.specs.declared.ListAnswer.{ListAnswer}
 use Rattle.siglist.specs.declared.ListAnswer.the-variants as answer
+use Rattle.refusals.specs.declared.ListRefusal.the-variants as refusal
+use Rattle.refusals.specs.Refusals.{Verdict, listRefused, numberOf}
 use Rattle.gates.specs.Gates.{entriesGood}
 use Rattle.sigrecord.specs.Record.{firstEntry, entryCount, scalarsGood}
 
@@ -81,14 +83,20 @@ recordGood l i = scalarsGood (recordAt l i) && layoutLies l (firstEntry (recordA
 -- Of so many records from this one on: all well formed, or the index of the first that is bad.
 unfoldable pub recordsFrom : List ℕ → ℕ → ℕ → ListAnswer
 recordsFrom l i zero = answer.Good
-recordsFrom l i (suc n) = cond (recordGood l i) (recordsFrom l (i + 1) n) (answer.BadRecord i)
+recordsFrom l i (suc n) = cond (recordGood l i) (recordsFrom l (i + 1) n) (answer.Refused (refusal.BadRecord i))
 
 -- Refusals 9 and 10, in this order.
 unfoldable pub checkList : List ℕ → ListAnswer
-checkList l = cond (listFits l) (recordsFrom l 0 (recordCount l)) answer.DoesNotFit
+checkList l = cond (listFits l) (recordsFrom l 0 (recordCount l)) (answer.Refused refusal.DoesNotFit)
 
--- The number of a list's refusal; 0 if it is none. Refusal 10 gives the index of the first bad record.
+-- Which refusal of the table an answer is, if any, and its number; 0 if it is none.
+abbrev pub headerVerdict : Header → Verdict
+headerVerdict (header.Fits areas) = Verdict.accepted
+headerVerdict header.DoesNotFit = listRefused refusal.DoesNotFit
+
+abbrev pub listVerdict : ListAnswer → Verdict
+listVerdict answer.Good = Verdict.accepted
+listVerdict (answer.Refused r) = listRefused r
+
 unfoldable pub listRefusal : ListAnswer → ℕ
-listRefusal answer.Good = 0
-listRefusal answer.DoesNotFit = 9
-listRefusal (answer.BadRecord i) = 10
+listRefusal a = numberOf (listVerdict a)

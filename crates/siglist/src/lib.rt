@@ -7,14 +7,14 @@ ghost use Rattle.siglist.specs.List.{listFits, areasOf, headerOf, AreasF
 use gates::entry_good;
 use numbers::be16;
 use numbers::wide;
+use refusals::ListRefusal;
 use sigrecord::RECORD;
 use sigrecord::scalars_well_formed;
 
-// A list is well formed, or refused: 9, or 10 with the index of its first bad record.
+// A list is well formed, or refused.
 pub enum ListAnswer {
     Good,
-    DoesNotFit,
-    BadRecord(usize),
+    Refused(ListRefusal),
 }
 
 const HEADER: usize = 8;
@@ -127,14 +127,14 @@ pub fn check_list(list: &[u8]) -> ListAnswer
     ensures { λ r. ⌜ r ≡ checkList (now (list .entry)) ⌝ }
 {
     if !list_fits(list) {
-        return ListAnswer::DoesNotFit;
+        return ListAnswer::Refused(ListRefusal::DoesNotFit);
     }
     let areas = areas_of(list);
     let count = areas.records;
     let mut i = 0;
     while i < count {
         if !record_good(list, areas, i) {
-            return ListAnswer::BadRecord(i);
+            return ListAnswer::Refused(ListRefusal::BadRecord(i));
         }
         i += 1;
     }
