@@ -37,7 +37,7 @@ use Rattle.siglist.specs.List.{listFits, layoutLies, recordGood, recordsFrom, c
 use Rattle.found.specs.declared.Found.the-variants as found
 use Rattle.search.specs.declared.SearchAnswer.the-variants as answer
 use Rattle.found.specs.Least.{prefer, leastFrom, firstLeast, numbersFrom}
-use Rattle.found.specs.Rank.{foundOf, rankOf}
+use Rattle.found.specs.Rank.{foundOf}
 use Rattle.search.specs.Search.{fitAt, candidateAt, rankAt, foundAt, searchRow, searchOver, searchAll, searchList}
 use Rattle.alike.proofs.Packets.{read-alike}
 use Rattle.acceptance.specs.Values.{packetA, exampleList}

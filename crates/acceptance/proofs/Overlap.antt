@@ -27,7 +27,7 @@ use Rattle.matching.specs.Fit.{featuresOf, scalarGates, toleranceOf, fitOf}
 use Rattle.sigrecord.specs.Record.{versionOf, ttlOf, mssOf, scaleOf, windowOf, payloadOf, signatureOf, versionGood, ttlGood, presenceGood, windowGood, payloadGood, quirksGood, scalarsGood}
 use Rattle.siglist.specs.List.{listFits, layoutLies, recordGood, recordsFrom, checkList}
 use Rattle.found.specs.Least.{prefer, leastFrom, firstLeast, numbersFrom}
-use Rattle.found.specs.Rank.{foundOf, rankOf}
+use Rattle.found.specs.Rank.{foundOf}
 use Rattle.search.specs.Search.{fitAt, candidateAt, rankAt, foundAt, searchRow, searchOver, searchAll, searchList}
 use Rattle.packet_answer.specs.Packet.{peerOf, answerOf}
 use Rattle.bundle.specs.Bundle.{packetEnd, packetFits, packetsFit, listLies, bundleFits, checkBundle}
