@@ -7,7 +7,8 @@ use Prim.Native.Nat.{ℕ, zero, suc, _+_, _-_, _<_, _≤_}
 use native.Mathlib.Omega.{arith}
 use lib.Dec.{ltb}
 use lib.ListN.{length, getD}
-use borrow.Author.Tests.{ltb-true, ltb-false, lt-ltb, le-ltb}
+use borrow.Author.Tests.{ltb-true, ltb-false}
+use Rattle.basis.proofs.Rules.{cases}
 use Rattle.found.specs.Least.{unranked, Place, nowhere, number, rankThere, prefer, leastFrom, numbersFrom}
 
 -- ---- rows of numbers
@@ -34,13 +35,13 @@ numbers-split i (suc m) n =
 -- ---- two candidates
 
 module _ {A : Type 0} (rank : A → ℕ) (held other : A) where
-  pub preferred : rank other < rank held → prefer rank held other ≡ other
-  unfolding prefer
-  preferred h = rw (lt-ltb (rank other) (rank held) h)
-
   pub kept : rank held ≤ rank other → prefer rank held other ≡ held
   unfolding prefer
-  kept h = rw (le-ltb (rank other) (rank held) h)
+  kept h = search cases
+
+  pub preferred : rank other < rank held → prefer rank held other ≡ other
+  unfolding prefer
+  preferred h = search cases
 
   -- A reading that keeps ranks reads the better of two as the better of the two readings.
   pub read

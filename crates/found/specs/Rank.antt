@@ -15,12 +15,12 @@ foundOf label fit.Exact = found.Exact label
 foundOf label (fit.Fuzzy reason) = found.Fuzzy label reason
 
 -- Exact before fuzzy; what does not fit has no rank.
-unfoldable pub rankOf : Found → ℕ
+abbrev pub rankOf : Found → ℕ
 rankOf (found.Exact label) = 0
 rankOf (found.Fuzzy label reason) = 1
 rankOf found.None = unranked
 
-unfoldable pub isNone : SignatureFit → Bool
+abbrev pub isNone : SignatureFit → Bool
 isNone fit.None = true
 isNone fit.Exact = false
 isNone (fit.Fuzzy reason) = false

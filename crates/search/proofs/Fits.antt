@@ -1,5 +1,5 @@
 -- Laws of a record's fit: a gate that fails, a bad record, and a record that is well formed and passes the gates.
-use mathlib.Core.Path.{_≡_, refl, _∙_}
+use mathlib.Core.Path.{_≡_, refl}
 use mathlib.Core.Bool.{Bool, true, false, cond, _&&_, true≢false, false≢true}
 use mathlib.Core.List.{List}
 use Prim.Native.Nat.{ℕ, _+_, _<_}
@@ -21,92 +21,66 @@ use Rattle.found.specs.Rank.{isNone}
 use Rattle.search.specs.Search.{passes, fitAt}
 use Rattle.siglist.proofs.List.{list-fits}
 
--- A conjunction in which two parts do not both hold.
-not-both : (c g x y : Bool) → c && g ≡ false → g && (c && x && y) ≡ false
-not-both true true x y e = absurd (true≢false e)
-not-both true false x y e = refl
-not-both false true x y e = refl
-not-both false false x y e = refl
-
 no-match : (m g s p : Bool) → m && g ≡ false → m && (s && (p && g)) ≡ false
 no-match false g s p e = refl
 no-match true false s p e = rw (and-false p) (and-false s)
 no-match true true s p e = absurd (true≢false e)
 
-second-holds : (c g : Bool) → c && g ≡ true → g ≡ true
-second-holds true g e = e
-second-holds false g e = absurd (false≢true e)
-
 pub is-none : (x : SignatureFit) → isNone x ≡ true → x ≡ fit.None
-unfolding isNone
 is-none fit.None e = refl
 is-none fit.Exact e = absurd (false≢true e)
 is-none (fit.Fuzzy r) e = absurd (false≢true e)
-
-falls-through
-    : (g c x : Bool) (t : SignatureFit) → c && x ≡ false → cond x (cond (g && c) t fit.None) fit.None ≡ fit.None
-falls-through g true true t e = absurd (true≢false e)
-falls-through true false true t e = refl
-falls-through false false true t e = refl
-falls-through g c false t e = refl
 
 either-way : (t : Bool) → cond t fit.None fit.None ≡ fit.None
 either-way true = refl
 either-way false = refl
 
+-- Tests one after another are one test: c of the entries' count, g of the gates, m of the layout, which tests the count too.
+one-test
+    : (c g m good : Bool) (t : SignatureFit)
+    → (m ≡ true → c ≡ true)
+    → cond good (cond (g && m) t fit.None) fit.None ≡ cond ((c && g) && (m && good)) t fit.None
+one-test true true true good t h = refl
+one-test true true false good t h = either-way good
+one-test true false m good t h = either-way good
+one-test false g true good t h = absurd (false≢true (h refl))
+one-test false true false good t h = either-way good
+one-test false false false good t h = either-way good
+
+same-count : (n d : ℕ) (kinds bytes entries : List ℕ) → layoutMatches n kinds bytes d entries ≡ true → eqb n d ≡ true
+unfolding layoutMatches
+same-count n d kinds bytes entries e = and-left (eqb n d) _ (and-left _ _ e)
+
 module _ (f : Features) (kinds bytes l : List ℕ) (a : Areas) (i : ℕ) (fits : AreasFit l a) (inside : i < a .records) where
-  here
+  abbrev Matches : Bool
+  Matches = layoutMatches (f .count) kinds bytes (entryCount (recordAt l i)) (entriesOf l (recordAt l i))
+
+  as-one-test
       : fitAt f kinds bytes l i
-      ≡ cond (recordGood l i)
-      (fitOf f kinds bytes (signatureOf (recordAt l i)) (entryCount (recordAt l i)) (entriesOf l (recordAt l i)))
-      fit.None
-  unfolding fitAt
-  here = simp (list-fits l a fits, lt-ltb i (recordCount l) (omega arith))
+      ≡ cond (passes f (recordAt l i) && (Matches && recordGood l i)) (toleranceOf f (signatureOf (recordAt l i))) fit.None
+  unfolding fitAt passes fitOf
+  as-one-test =
+      simp (list-fits l a fits, lt-ltb i (recordCount l) (omega arith))
+      (one-test (eqb (f .count) (entryCount (recordAt l i))) (scalarGates f (signatureOf (recordAt l i))) Matches (recordGood l i)
+      (toleranceOf f (signatureOf (recordAt l i)))
+      (same-count (f .count) (entryCount (recordAt l i)) kinds bytes (entriesOf l (recordAt l i))))
 
-  fits-none
-      : fitOf f kinds bytes (signatureOf (recordAt l i)) (entryCount (recordAt l i)) (entriesOf l (recordAt l i)) ≡ fit.None
-      → fitAt f kinds bytes l i ≡ fit.None
-  fits-none e = rw (here, e) (either-way (recordGood l i))
-
-  pub gate-fails
-      : passes f (recordAt l i) ≡ false
-      → fitAt f kinds bytes l i ≡ fit.None
-  unfolding passes fitOf layoutMatches
-  gate-fails e = fits-none (rw (not-both (eqb (f .count) (entryCount (recordAt l i))) (scalarGates f (signatureOf (recordAt l i))) _ _ e))
+  pub gate-fails : passes f (recordAt l i) ≡ false → fitAt f kinds bytes l i ≡ fit.None
+  gate-fails e = rw (as-one-test, e)
 
   pub not-tolerated : isNone (toleranceOf f (signatureOf (recordAt l i))) ≡ true → fitAt f kinds bytes l i ≡ fit.None
-  unfolding fitOf
   not-tolerated e =
-      fits-none
-      (rw (is-none (toleranceOf f (signatureOf (recordAt l i))) e)
-      (either-way
-      (scalarGates f (signatureOf (recordAt l i))
-      && layoutMatches (f .count) kinds bytes (entryCount (recordAt l i)) (entriesOf l (recordAt l i)))))
+      rw (as-one-test, is-none (toleranceOf f (signatureOf (recordAt l i))) e) (either-way (passes f (recordAt l i) && (Matches && recordGood l i)))
 
-  pub not-held
-      : layoutMatches (f .count) kinds bytes (entryCount (recordAt l i)) (entriesOf l (recordAt l i)) && recordGood l i ≡ false
-      → fitAt f kinds bytes l i ≡ fit.None
-  unfolding fitOf
-  not-held e =
-      here
-      ∙ falls-through (scalarGates f (signatureOf (recordAt l i)))
-      (layoutMatches (f .count) kinds bytes (entryCount (recordAt l i)) (entriesOf l (recordAt l i)))
-      (recordGood l i)
-      (toleranceOf f (signatureOf (recordAt l i)))
-      e
+  pub not-held : Matches && recordGood l i ≡ false → fitAt f kinds bytes l i ≡ fit.None
+  not-held e = rw (as-one-test, e, and-false (passes f (recordAt l i)))
 
   pub held-fit
       : passes f (recordAt l i) ≡ true
-      → layoutMatches (f .count) kinds bytes (entryCount (recordAt l i)) (entriesOf l (recordAt l i)) && recordGood l i ≡ true
+      → Matches && recordGood l i ≡ true
       → fitAt f kinds bytes l i ≡ toleranceOf f (signatureOf (recordAt l i))
-  unfolding passes fitOf
-  held-fit gates holds =
-      let open-gates = second-holds (eqb (f .count) (entryCount (recordAt l i))) (scalarGates f (signatureOf (recordAt l i))) gates in
-      let layout = and-left (layoutMatches (f .count) kinds bytes (entryCount (recordAt l i)) (entriesOf l (recordAt l i))) (recordGood l i) holds in
-      let good = and-right (layoutMatches (f .count) kinds bytes (entryCount (recordAt l i)) (entriesOf l (recordAt l i))) (recordGood l i) holds in
-      rw (here, good, open-gates, layout)
+  held-fit gates holds = rw (as-one-test, gates, holds)
 
--- Whether a record holds: its layout is the observation's, and it is well formed.
 module _ (n : ℕ) (kinds bytes l : List ℕ) (a : Areas) (i : ℕ) (fits : AreasFit l a) where
   abbrev Holds : Bool
   Holds = layoutMatches n kinds bytes (entryCount (recordAt l i)) (entriesOf l (recordAt l i)) && recordGood l i
@@ -122,7 +96,11 @@ module _ (n : ℕ) (kinds bytes l : List ℕ) (a : Areas) (i : ℕ) (fits : Area
   pub layout-fails : Matched ≡ false → Holds ≡ false
   unfolding recordGood layoutLies
   layout-fails e =
-      no-match (layoutMatches n kinds bytes (entryCount (recordAt l i)) (entriesOf l (recordAt l i))) (entriesGood (entriesOf l (recordAt l i)) (entryCount (recordAt l i))) (scalarsGood (recordAt l i)) (leb (entryCount (recordAt l i)) 40 && leb (firstEntry (recordAt l i) + entryCount (recordAt l i)) (layoutCount l)) e
+      no-match (layoutMatches n kinds bytes (entryCount (recordAt l i)) (entriesOf l (recordAt l i)))
+      (entriesGood (entriesOf l (recordAt l i)) (entryCount (recordAt l i)))
+      (scalarsGood (recordAt l i))
+      (leb (entryCount (recordAt l i)) 40 && leb (firstEntry (recordAt l i) + entryCount (recordAt l i)) (layoutCount l))
+      e
 
   pub bad-place
       : leb (entryCount (recordAt l i)) 40 && leb (firstEntry (recordAt l i) + entryCount (recordAt l i)) (a .entries) ≡ false
@@ -141,7 +119,9 @@ module _ (n : ℕ) (kinds bytes l : List ℕ) (a : Areas) (i : ℕ) (fits : Area
         ← fits .entries,
         lie,
         and-left (layoutMatches n kinds bytes (entryCount (recordAt l i)) (entriesOf l (recordAt l i))) _ matched,
-        and-right (layoutMatches n kinds bytes (entryCount (recordAt l i)) (entriesOf l (recordAt l i))) (entriesGood (entriesOf l (recordAt l i)) (entryCount (recordAt l i))) matched,
+        and-right (layoutMatches n kinds bytes (entryCount (recordAt l i)) (entriesOf l (recordAt l i)))
+            (entriesGood (entriesOf l (recordAt l i)) (entryCount (recordAt l i)))
+            matched,
         eq-eqb (length (recordAt l i)) 24 whole,
       )
       (and-true (scalarsGood (recordAt l i)))

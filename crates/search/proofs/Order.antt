@@ -22,7 +22,7 @@ use Rattle.search.proofs.Rows.{at-start, one-record}
 
 -- What ranks after fuzzy does not fit.
 after-fuzzy : (label : ℕ) (x : SignatureFit) → 1 < rankOf (foundOf label x) → x ≡ fit.None
-unfolding foundOf rankOf
+unfolding foundOf
 after-fuzzy label fit.None h = refl
 after-fuzzy label fit.Exact h = absurd (omega arith)
 after-fuzzy label (fit.Fuzzy r) h = absurd (omega arith)
@@ -55,7 +55,7 @@ module _ (f : Features) (kinds bytes l : List ℕ) where
 
   -- The search of a row of record numbers has one of the three outcomes.
   pub outcome : (is : List ℕ) → Outcome is (searchRow f kinds bytes l is)
-  unfolding searchRow firstLeast foundAt rankAt candidateAt foundOf rankOf
+  unfolding searchRow firstLeast foundAt rankAt candidateAt foundOf
   outcome is = by-place (least (rankAt f kinds bytes l) nowhere is)
     where
       rank : ℕ → ℕ
@@ -85,7 +85,7 @@ module _ (f : Features) (kinds bytes l : List ℕ) where
 
 -- Before none, anything is preferred.
 before-none : (x : Found) → prefer rankOf found.None x ≡ x
-unfolding prefer rankOf
+unfolding prefer
 before-none found.None = refl
 before-none (found.Exact label) = refl
 before-none (found.Fuzzy label reason) = refl

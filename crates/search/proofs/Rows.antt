@@ -22,7 +22,6 @@ use Rattle.search.proofs.Fits.{gate-fails}
 
 -- What does not fit comes last.
 last-rank : (x : Found) → rankOf x ≤ unranked
-unfolding rankOf
 last-rank found.None = omega arith
 last-rank (found.Exact label) = omega arith
 last-rank (found.Fuzzy label reason) = omega arith
@@ -43,7 +42,7 @@ module _ (f : Features) (kinds bytes l : List ℕ) where
   -- ---- a record's rank, and that of what is read at a place
 
   pub no-rank : (i : ℕ) → fitAt f kinds bytes l i ≡ fit.None → rankAt f kinds bytes l i ≡ unranked
-  unfolding rankAt candidateAt foundOf rankOf
+  unfolding rankAt candidateAt foundOf
   no-rank i e = rw e
 
   pub rank-last : (i : ℕ) → rankAt f kinds bytes l i ≤ unranked
@@ -51,7 +50,7 @@ module _ (f : Features) (kinds bytes l : List ℕ) where
   rank-last i = last-rank (candidateAt f kinds bytes l i)
 
   rank-there : (p : Place) → rankOf (foundAt f kinds bytes l p) ≡ rankThere (rankAt f kinds bytes l) p
-  unfolding foundAt rankAt rankOf
+  unfolding foundAt rankAt
   rank-there nowhere = refl
   rank-there (number i) = refl
 
@@ -62,7 +61,7 @@ module _ (f : Features) (kinds bytes l : List ℕ) where
   -- ---- records that do not fit
 
   pub passed-over : (held : Found) (i : ℕ) → fitAt f kinds bytes l i ≡ fit.None → prefer rankOf held (candidateAt f kinds bytes l i) ≡ held
-  unfolding candidateAt foundOf rankOf
+  unfolding candidateAt foundOf
   passed-over held i e = rw e (least.kept rankOf held found.None (last-rank held))
 
   pub none-fits : ((i : ℕ) → fitAt f kinds bytes l i ≡ fit.None) → (is : List ℕ) → searchRow f kinds bytes l is ≡ found.None
@@ -98,7 +97,10 @@ module _ (f : Features) (kinds bytes l : List ℕ) where
       by-place {old} {new} (inr less) = inr (rw (rank-there old, rank-there new) less)
 
   -- Records that do not fit may be left out of a row.
-  pub without : {is js : List ℕ} → least.Without (rankAt f kinds bytes l) is js → searchRow f kinds bytes l is ≡ searchRow f kinds bytes l js
+  pub without
+      : {is js : List ℕ}
+      → least.Without (rankAt f kinds bytes l) is js
+      → searchRow f kinds bytes l is ≡ searchRow f kinds bytes l js
   unfolding searchRow firstLeast
   without w = ap (foundAt f kinds bytes l) (least.without (rankAt f kinds bytes l) rank-last nowhere w)
 
@@ -128,7 +130,7 @@ module _ (f : Features) (kinds bytes l : List ℕ) where
       sym (ap (foundAt f kinds bytes l) (least.ended rank i n within (sym (rank-there (least.Passed rank i)) ∙ e)))
 
   -- Records that fail the gates are passed over.
-  skipped : (a : Areas) (i r : ℕ) → AreasFit l a → Next f l (a .records) i r → Passed i ≡ Passed r
+  pub skipped : (a : Areas) (i r : ℕ) → AreasFit l a → Next f l (a .records) i r → Passed i ≡ Passed r
   unfolding searchRow firstLeast
   skipped a i r fits next =
       let rank = rankAt f kinds bytes l in
@@ -141,18 +143,7 @@ module _ (f : Features) (kinds bytes l : List ℕ) where
       let e = no-rank k (gate-fails f kinds bytes l a k fits inside (next .between k from to)) in
       omega arith)))
 
-  -- Its three turns: the end is reached, a candidate is judged, and one of rank 0 was found.
-  pub at-end
-      : (a : Areas) (i r : ℕ) (held : Found)
-      → AreasFit l a
-      → held ≡ Passed i
-      → Next f l (a .records) i r
-      → a .records ≤ r
-      → held ≡ Passed (a .records)
-  at-end a i r held fits e next over =
-      let last : r ≡ a .records = omega (arith, next .within) in
-      e ∙ skipped a i r fits next ∙ ap Passed last
-
+  -- A candidate is judged, and one of rank 0 was found.
   pub after
       : (a : Areas) (i r : ℕ) (held new : Found)
       → AreasFit l a

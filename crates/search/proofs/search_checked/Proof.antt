@@ -1,10 +1,7 @@
 -- `search::search_checked` meets its contract.
 use Rattle.search.proofs.Rows.{none-found}
 use Rattle.siglist.proofs.List.{header-areas, header-none}
-use Rattle.found.specs.Least.{numbersFrom}
 use Rattle.search.specs.Search.{searchOver, searchAll}
-use Rattle.siglist.specs.List.{recordCount}
-use Rattle.matching.specs.Fit.{featuresOf}
 use mathlib.Core.Path.{sym, _∙_}
 use borrow.Author.Needs.{needs}
 use Rattle.search.proofs.search_checked.Statement.{statement}
@@ -22,8 +19,7 @@ enum-told c = search needs
 returns : tie.Need-returns
 unfolding searchAll searchOver
 returns c =
-    let a = c .before .before .before .before .args in
-    sym (none-found (featuresOf (a .observed)) (a .observed .olayout .kinds) (a .observed .olayout .bytes) (a .list .now) (header-none (a .list .now) (sym (c .before .before .read-header .ensures) ∙ c .enum-told .given .1)) (numbersFrom 0 (recordCount (a .list .now))))
+    sym (none-found _ _ _ _ (header-none _ (sym (c .before .before .read-header .ensures) ∙ c .enum-told .given .1)) _)
 
 features-of-requires : tie.Need-features-of-requires
 features-of-requires c κs = search needs

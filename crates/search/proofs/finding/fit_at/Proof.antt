@@ -1,9 +1,7 @@
 -- `search::fit_at` meets its contract.
 use Rattle.search.proofs.Fits.{not-tolerated, not-held, held-fit}
-use Rattle.found.specs.Rank.{isNone}
-use Rattle.matching.specs.Fit.{toleranceOf}
 use borrow.Author.Tests.{not-true, not-false}
-use mathlib.Core.Path.{sym, _∙_, ap}
+use mathlib.Core.Path.{sym, _∙_}
 use borrow.Author.Needs.{needs}
 use Rattle.search.proofs.finding.fit_at.Statement.{statement}
 use Rattle.search.proofs.finding.fit_at.Tie as tie
@@ -37,33 +35,33 @@ is-none-requires c κs = search needs
 
 returns : tie.Need-returns
 returns c =
-    let a = c .before .before .before .before .before .before .before .before .before .args in
-    let fits = c .before .before .before .before .before .before .before .before .before .pre .0 in
-    let inside = c .before .before .before .before .before .before .before .before .before .pre .1 in
-    sym (not-tolerated (a .observed) (a .kinds .now) (a .bytes .now) (a .list .now) (a .areas) (a .i) fits inside (rw (← fits .recordsAt) (ap isNone (sym (c .before .before .tolerance .ensures ∙ ap (toleranceOf (a .observed)) (c .before .before .before .signature-of .ensures))) ∙ sym (c .before .is-none .ensures) ∙ c .if1 .taken)))
+    let signed = c .before .before .before in
+    let start = signed .before .before .before .before .before .before in
+    let fits = start .pre .0 in
+    sym
+    (not-tolerated _ _ _ _ _ _ fits (start .pre .1)
+    (rw (← fits .recordsAt, ← signed .signature-of .ensures, ← c .before .before .tolerance .ensures)
+    (sym (c .before .is-none .ensures) ∙ c .if1 .taken)))
 
 holds-at-requires : tie.Need-holds-at-requires
 holds-at-requires c κs = search needs
 
 returns-2 : tie.Need-returns-2
 returns-2 c =
-    let a = c .before .before .before .before .before .before .before .before .before .before .before .args in
-    let fits = c .before .before .before .before .before .before .before .before .before .before .before .pre .0 in
-    let inside = c .before .before .before .before .before .before .before .before .before .before .before .pre .1 in
-    sym (not-held (a .observed) (a .kinds .now) (a .bytes .now) (a .list .now) (a .areas) (a .i) fits inside (sym (c .before .holds-at .ensures) ∙ not-true (c .before .holds-at .result) (c .if2 .taken)))
+    let start = c .before .before .before .before .before .before .before .before .before .before .before in
+    sym
+    (not-held _ _ _ _ _ _ (start .pre .0) (start .pre .1)
+    (sym (c .before .holds-at .ensures) ∙ not-true (c .before .holds-at .result) (c .if2 .taken)))
 
 returns-3 : tie.Need-returns-3
 returns-3 c =
-    let a = c .before .before .before .before .before .before .before .before .before .before .before .args in
-    let fits = c .before .before .before .before .before .before .before .before .before .before .before .pre .0 in
-    let inside = c .before .before .before .before .before .before .before .before .before .before .before .pre .1 in
-    let gates = c .before .before .before .before .before .before .before .before .before .before .before .pre .2 in
-    (c .before .before .before .before .tolerance .ensures ∙ ap (toleranceOf (a .observed)) (c .before .before .before .before .before .signature-of .ensures))
-    ∙ sym
-    (held-fit (a .observed) (a .kinds .now) (a .bytes .now) (a .list .now) (a .areas) (a .i) fits inside
-    gates
-    (sym (c .before .holds-at .ensures) ∙ not-false (c .before .holds-at .result) (c .if2 .left))
-    ∙ rw (← fits .recordsAt))
+    let held = c .before in
+    let signed = held .before .before .before .before in
+    let start = signed .before .before .before .before .before .before in
+    let fits = start .pre .0 in
+    sym
+    (held-fit _ _ _ _ _ _ fits (start .pre .1) (start .pre .2) (sym (held .holds-at .ensures) ∙ not-false (held .holds-at .result) (c .if2 .left))
+    ∙ rw (← fits .recordsAt, ← signed .signature-of .ensures, ← held .before .before .before .tolerance .ensures))
 
 pub fit-at-spec : {M : Type 1} → statement M
 fit-at-spec =

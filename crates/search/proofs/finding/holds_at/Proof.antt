@@ -56,9 +56,14 @@ entries-lie-requires c κs = search needs
 returns : tie.Need-returns
 unfolding be16
 returns c =
-    let a = c .before .before .before .before .before .before .before .before .before .before .before .before .args in
-    let fits = c .before .before .before .before .before .before .before .before .before .before .before .before .pre .0 in
-    sym (bad-place (a .count) (a .kinds .now) (a .bytes .now) (a .list .now) (a .areas) (a .i) fits (rw (← fits .recordsAt, ← c .before .before .wide .ensures, ← c .before .before .before .before .be16 .ensures) (sym (c .before .entries-lie .ensures) ∙ not-true (c .before .entries-lie .result) (c .if1 .taken))))
+    let lies = c .before in
+    let declared = lies .before in
+    let first = declared .before .before in
+    let fits = first .before .before .before .before .before .before .before .before .pre .0 in
+    sym
+    (bad-place _ _ _ _ _ _ fits
+    (rw (← fits .recordsAt, ← declared .wide .ensures, ← first .be16 .ensures)
+    (sym (lies .entries-lie .ensures) ∙ not-true (lies .entries-lie .result) (c .if1 .taken))))
 
 mul-start : tie.Need-mul-start
 mul-start c = search needs
@@ -96,9 +101,14 @@ olayout-matches-requires c κs = search needs
 returns-2 : tie.Need-returns-2
 unfolding be16
 returns-2 c =
-    let a = c .before .before .before .before .before .before .before .before .before .before .before .before .before .before .before .before .args in
-    let fits = c .before .before .before .before .before .before .before .before .before .before .before .before .before .before .before .before .pre .0 in
-    sym (layout-fails (a .count) (a .kinds .now) (a .bytes .now) (a .list .now) (a .areas) (a .i) fits (rw (← fits .recordsAt, ← fits .entriesAt, ← c .before .before .before .before .before .before .wide .ensures, ← c .before .before .before .before .before .before .before .before .be16 .ensures) (sym (c .before .olayout-matches .ensures) ∙ not-true (c .before .olayout-matches .result) (c .if2 .taken))))
+    let matched = c .before in
+    let declared = matched .before .before .before .before .before in
+    let first = declared .before .before in
+    let fits = first .before .before .before .before .before .before .before .before .pre .0 in
+    sym
+    (layout-fails _ _ _ _ _ _ fits
+    (rw (← fits .recordsAt, ← fits .entriesAt, ← declared .wide .ensures, ← first .be16 .ensures)
+    (sym (matched .olayout-matches .ensures) ∙ not-true (matched .olayout-matches .result) (c .if2 .taken))))
 
 scalars-well-formed-requires : tie.Need-scalars-well-formed-requires
 scalars-well-formed-requires c κs = search needs
@@ -113,14 +123,15 @@ returns-3 c =
     let declared = lies .before in
     let first = declared .before .before in
     let start = first .before .before .before .before .before .before .before .before in
-    let a = start .args in
     let fits = start .pre .0 in
     c .scalars-well-formed .ensures
     ∙ sym
-    (scalars-decide (a .count) (a .kinds .now) (a .bytes .now) (a .list .now) (a .areas) (a .i) fits
-    (rw (← fits .recordsAt, ← declared .wide .ensures, ← first .be16 .ensures) (sym (lies .entries-lie .ensures) ∙ not-false (lies .entries-lie .result) (lying .if1 .left)))
-    (rw (← fits .recordsAt, ← fits .entriesAt, ← declared .wide .ensures, ← first .be16 .ensures) (sym (matched .olayout-matches .ensures) ∙ not-false (matched .olayout-matches .result) (left .if2 .left)))
-    (record-whole (a .list .now) (a .areas) (a .i) fits (start .pre .1))
+    (scalars-decide _ _ _ _ _ _ fits
+    (rw (← fits .recordsAt, ← declared .wide .ensures, ← first .be16 .ensures)
+    (sym (lies .entries-lie .ensures) ∙ not-false (lies .entries-lie .result) (lying .if1 .left)))
+    (rw (← fits .recordsAt, ← fits .entriesAt, ← declared .wide .ensures, ← first .be16 .ensures)
+    (sym (matched .olayout-matches .ensures) ∙ not-false (matched .olayout-matches .result) (left .if2 .left)))
+    (record-whole _ _ _ fits (start .pre .1))
     ∙ rw (← fits .recordsAt))
 
 pub holds-at-spec : {M : Type 1} → statement M

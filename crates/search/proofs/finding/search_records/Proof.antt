@@ -1,5 +1,5 @@
 -- `search::search_records` meets its contract.
-use Rattle.search.proofs.Rows.{at-start, at-end, after, first-best}
+use Rattle.search.proofs.Rows.{at-start, skipped, after, first-best}
 use Rattle.search.specs.Search.{searchRow}
 use Rattle.siglist.specs.List.{AreasFit}
 use Rattle.found.specs.Least.{numbersFrom}
@@ -26,7 +26,10 @@ next-candidate-requires c κs = search needs
 returns : tie.Need-returns Inv-loop μ-loop
 returns c =
     let l = c .before .before .before .loop in
-    at-end _ _ _ _ _ (l .i) _ _ (l .inv .2) (l .inv .3) (c .before .next-candidate .ensures) (c .if1 .taken)
+    let next = c .before .next-candidate in
+    let within = next .ensures .within in
+    let end : next .result ≡ c .before .before .before .before .before .args .areas .records = omega arith in
+    rw (← end) (l .inv .3 ∙ skipped _ _ _ _ _ _ _ (l .inv .2) (next .ensures))
 
 search-step-requires : tie.Need-search-step-requires Inv-loop μ-loop
 search-step-requires c κs =
