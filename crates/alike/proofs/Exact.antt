@@ -27,7 +27,7 @@ module _ (level : IpLevel) (header : ExactHeader level) (p q : List ℕ) where
       in-header (Within.lies x after before) = Within.lies (FreePacket.header x) after before
 
       in-part : {i : ℕ} → Inner p q (level .headerEnd p) (level .lengthEnd p) i → Within (FreeBy level p q) i
-      in-part (Inner.inner long x after before) = Within.lies (FreePacket.in-tcp long x) after before
+      in-part (Inner.inner long x after before) = Within.lies (FreePacket.in-tcp (omega arith) x) after before
 
       place : (i : ℕ) → (byteAt p i ≡ byteAt q i → ⊥) → Within (FreeBy level p q) i
       place i differ =
@@ -35,7 +35,7 @@ module _ (level : IpLevel) (header : ExactHeader level) (p q : List ℕ) where
           in-header (header .exactly p q (a .sameLength) .0 (a .header) i inside differ)) (λ after.
           upTo (level .lengthEnd p) i (λ before.
           in-part (body-differ p q (level .headerEnd p) (level .lengthEnd p) (a .body) i after before differ)) (λ past.
-          upTo (length p) i (Within.lies FreePacket.past (omega arith)) (λ outside.
+          upTo (length p) i (λ within. Within.lies FreePacket.past (omega arith) (omega arith)) (λ outside.
           absurd (differ (past-both i p q (a .sameLength) outside)))))
 
   alike-by : DifferOnly (FreeBy level p q) p q → AlikeBy level p q
@@ -60,7 +60,7 @@ module _ (level : IpLevel) (header : ExactHeader level) (p q : List ℕ) where
           → Inner p q (level .headerEnd p) (level .lengthEnd p) i
       in-part i after before (Within.lies (FreePacket.header x) a b) = let in-it = header .within p q x in absurd (omega arith)
       in-part i after before (Within.lies FreePacket.past a b) = absurd (omega arith)
-      in-part i after before (Within.lies (FreePacket.in-tcp long x) a b) = Inner.inner long x a b
+      in-part i after before (Within.lies (FreePacket.in-tcp long x) a b) = Inner.inner (omega arith) x a b
 
   pub exact-by : AlikeBy level p q ↔ DifferOnly (FreeBy level p q) p q
   exact-by = (differ-only, alike-by)

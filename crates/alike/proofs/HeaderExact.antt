@@ -45,12 +45,12 @@ module _ (p q : List ℕ) where
 
   places4 : AlikeIpv4 p q → (i : ℕ) → i < headerEnd4 p → (byteAt p i ≡ byteAt q i → ⊥) → Within (FreeIpv4 p q) i
   places4 a i inside differ =
-      upTo 4 i (λ h. absurd (differ (a .first i (omega arith) h))) (λ after.
-      upTo 6 i (Within.lies (FreeIpv4.identification (a .identification)) after) (λ after.
-      upTo 10 i (λ h. absurd (differ (a .second i after h))) (λ after.
-      upTo 12 i (Within.lies FreeIpv4.checksum after) (λ after.
-      upTo 20 i (Within.lies FreeIpv4.addresses after) (λ after.
-      Within.lies FreeIpv4.options after (omega arith))))))
+      upTo 4 i (λ h. absurd (differ (a .first i (omega arith) (omega arith)))) (λ after.
+      upTo 6 i (λ h. Within.lies (FreeIpv4.identification (a .identification)) (omega arith) (omega arith)) (λ after.
+      upTo 10 i (λ h. absurd (differ (a .second i (omega arith) (omega arith)))) (λ after.
+      upTo 12 i (λ h. Within.lies FreeIpv4.checksum (omega arith) (omega arith)) (λ after.
+      upTo 20 i (λ h. Within.lies FreeIpv4.addresses (omega arith) (omega arith)) (λ after.
+      Within.lies FreeIpv4.options (omega arith) (omega arith))))))
 
   within4 : {from to : ℕ} → FreeIpv4 p q from to → to ≤ headerEnd4 p
   within4 (FreeIpv4.identification z) = omega arith
@@ -102,9 +102,9 @@ module _ (p q : List ℕ) where
   places6 : AlikeIpv6 p q → (i : ℕ) → i < 40 → (byteAt p i ≡ byteAt q i → ⊥) → Within (FreeIpv6 p q) i
   places6 a i inside differ =
       upTo 1 i (λ h. let e : i ≡ 0 = omega arith in absurd (differ (rw e (a .first)))) (λ after.
-      upTo 4 i (Within.lies (FreeIpv6.flowLabel (a .second) (a .flowLabel)) after) (λ after.
-      upTo 8 i (λ h. absurd (differ (a .third i after h))) (λ after.
-      Within.lies FreeIpv6.addresses after inside)))
+      upTo 4 i (λ h. Within.lies (FreeIpv6.flowLabel (a .second) (a .flowLabel)) (omega arith) (omega arith)) (λ after.
+      upTo 8 i (λ h. absurd (differ (a .third i (omega arith) (omega arith)))) (λ after.
+      Within.lies FreeIpv6.addresses (omega arith) (omega arith))))
 
   within6 : {from to : ℕ} → FreeIpv6 p q from to → to ≤ 40
   within6 (FreeIpv6.flowLabel c z) = omega arith

@@ -130,14 +130,14 @@ module _ (t u : List ℕ) (a : AlikeTcp t u) where
 
   place : (i : ℕ) → (byteAt t i ≡ byteAt u i → ⊥) → Within (FreeTcp t u) i
   place i differ =
-      upTo 4 i (λ h. Within.lies FreeTcp.ports (omega arith) h) (λ after.
-      upTo 8 i (Within.lies (FreeTcp.sequence (a .sequence)) after) (λ after.
-      upTo 12 i (Within.lies (FreeTcp.acknowledgment (a .acknowledgment)) after) (λ after.
-      upTo 13 i (Within.lies (FreeTcp.below-offset (a .dataOffset)) after) (λ after.
-      upTo 14 i (λ h. absurd (differ (a .control i after h))) (λ after.
-      upTo 16 i (λ h. absurd (differ (a .window i after h))) (λ after.
-      upTo 18 i (Within.lies FreeTcp.checksum after) (λ after.
-      upTo 20 i (Within.lies (FreeTcp.urgentPointer (a .urgentPointer)) after) (λ after.
+      upTo 4 i (λ h. Within.lies FreeTcp.ports (omega arith) (omega arith)) (λ after.
+      upTo 8 i (λ h. Within.lies (FreeTcp.sequence (a .sequence)) (omega arith) (omega arith)) (λ after.
+      upTo 12 i (λ h. Within.lies (FreeTcp.acknowledgment (a .acknowledgment)) (omega arith) (omega arith)) (λ after.
+      upTo 13 i (λ h. Within.lies (FreeTcp.below-offset (a .dataOffset)) (omega arith) (omega arith)) (λ after.
+      upTo 14 i (λ h. absurd (differ (a .control i (omega arith) (omega arith)))) (λ after.
+      upTo 16 i (λ h. absurd (differ (a .window i (omega arith) (omega arith)))) (λ after.
+      upTo 18 i (λ h. Within.lies FreeTcp.checksum (omega arith) (omega arith)) (λ after.
+      upTo 20 i (λ h. Within.lies (FreeTcp.urgentPointer (a .urgentPointer)) (omega arith) (omega arith)) (λ after.
       late-place i after differ))))))))
 
   pub tcp-differ : DifferOnly (FreeTcp t u) t u
