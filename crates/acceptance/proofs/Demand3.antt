@@ -32,7 +32,7 @@ use Rattle.alike.proofs.Exact.{exact, free-byte}
 use Rattle.alike.proofs.TcpExact.{exact-tcp}
 use Rattle.alike.proofs.OptionsDiffer.{exact-options}
 use Rattle.alike.proofs.Walks.{walk-alike, parse-alike}
-use Rattle.alike.proofs.Ip.{ip-alike-v4, ip-alike-v6}
+use Rattle.alike.proofs.Ip.{keeps-level}
 use Rattle.alike.proofs.Tcp.{tcp-alike}
 use Rattle.alike.proofs.Packets.{read-alike}
 use Rattle.acceptance.specs.Demand3.{TheRelation, Run, SameAnswer, AlikeFrom, AlikeBundles, Demand3, GatewaySame}
@@ -90,8 +90,7 @@ module _ (p q list : RefT (List ℕ)) (peer : Mss) (r s : Reading) (a b : Search
 same-answer : SameAnswer
 same-answer =
     record {
-      ip-stage4 = ip-alike-v4;
-      ip-stage6 = ip-alike-v6;
+      ip-stage = keeps-level;
       tcp-stage = tcp-alike;
       option-walks = walk-alike;
       option-strings = parse-alike;

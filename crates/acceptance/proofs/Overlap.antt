@@ -34,7 +34,7 @@ use Rattle.bundle.specs.Bundle.{packetEnd, packetFits, packetsFit, listLies, bu
 use Rattle.bundle.specs.Answers.{answerAt, packetLies, answersFrom, bundleAnswer}
 use Rattle.report.specs.Text.{width, decimal, foundText, answerText, lineOf, headLine, refusedLine}
 use Rattle.report.specs.Pages.{linesOf, outputOf}
-use Rattle.alike.specs.Free.{Free}
+use Rattle.alike.specs.Free.{FreeIpv4, ItemBy, FreePacket}
 use Rattle.alike.proofs.Exact.{free-byte}
 use Rattle.acceptance.specs.Values.{packetA}
 use Rattle.acceptance.specs.Overlap.{Overlap}
@@ -43,7 +43,7 @@ pub overlap : Overlap
 unfolding readPacket readIp readIpv4 ipv4Facts ipv4Quirks ipv4OptionLength readingOf guessOf initialOf readTcp flagsInvalid maskedType isSynType observationFrom observationOf quirksOfHeaders headerQuirks payloadClass walkOf walkFrom optionsAfter asked runsPast putEntry entryByte seeOption laterMss laterScale laterQuirks trailingNonzero excessiveScaling ownTimestampZero peerTimestampNonzero anyNonzero addIf with bitOf placeOf empty fromQuirks be16 be32 checkList listFits recordsFrom recordGood layoutLies scalarsGood versionGood ttlGood presenceGood windowGood payloadGood quirksGood entryGood entriesGood allBelow isEmpty difference seventeen displayOrder searchList searchAll searchOver searchRow foundAt firstLeast leastFrom prefer numbersFrom rankAt candidateAt foundOf fitAt featuresOf windowMultiplier ownTimestampNonzero holdsKind contains holds digit multiplierOf firstMultiple twelve divides signatureOf versionOf ttlOf mssOf scaleOf windowOf payloadOf fitOf scalarGates versionMatches olenMatches mssMatches windowMatches scaleMatches payloadMatches layoutMatches entriesMatch toleranceOf ttlFit quirksFit maskedQuirks maskWhenObsV4 maskWhenObsV6 fuzzyDeletable fuzzyAddable judge judgeInRange outputOf bundleAnswer checkBundle bundleFits packetsFit packetFits packetEnd peerOf answersFrom packetLies listLies answerAt answerOf linesOf lineOf answerText foundText headLine refusedLine decimal width number
 overlap =
     record {
-      alike = free-byte packetA 12 1 (Free.addresses4 refl) (omega arith) (omega arith);
+      alike = free-byte packetA 12 1 (FreePacket.header (ItemBy.four refl FreeIpv4.addresses)) (omega arith) (omega arith);
       one = refl;
       other = refl;
     }

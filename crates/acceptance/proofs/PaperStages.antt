@@ -15,7 +15,9 @@ use Rattle.ip.specs.declared.Refusal.{Refusal}
 use Rattle.ip.specs.declared.Refusal.the-variants as refusal
 use Rattle.ip.specs.Ip.{readIp}
 use Rattle.ip.specs.Numbers.{number}
+use Rattle.ip.proofs.Ip.{Given, given}
 use Rattle.flow.specs.Flags.{flagsInvalid}
+use Rattle.flow.specs.Tcp.{readTcp}
 use Rattle.flow.specs.Reading.{tcpPart, afterIp, readPacket, refusalOf}
 use Rattle.flow.proofs.FirstRow.{by-flags}
 use Rattle.siglist.specs.declared.ListAnswer.{ListAnswer}
@@ -24,7 +26,6 @@ use Rattle.siglist.specs.List.{recordCount, listFits, headerOf, checkList, list
 use Rattle.siglist.proofs.FirstBad.{Checked, does-not-fit, first-bad-named}
 use Rattle.acceptance.specs.Refusals.{First, PacketRow, packetOrder, ListRow}
 use Rattle.acceptance.specs.OnPaper.{alone, refusalPaper, ipPaper, headerPaper, Also, IsRow}
-use Rattle.acceptance.proofs.PacketGives.{IpGives, ip-gives}
 use Rattle.acceptance.proofs.Refusals.{refusals}
 
 -- ---- the first row of fewer rows
@@ -88,26 +89,26 @@ past-six false n e =
 
 pub ip-row : (p : List ℕ) → IsRow (PacketRow p) rows6 p [] (ipPaper (readIp p))
 unfolding readPacket refusalOf
-ip-row p = by-stage (readIp p) refl (ip-gives p)
+ip-row p = by-stage (readIp p) refl (given p)
   where
     at-seven : First (PacketRow p) packetOrder (refusalOf (readPacket p mss.Absent .answer))
     at-seven = refusals .packet p mss.Absent (refusalOf (readPacket p mss.Absent .answer)) .0 refl
 
-    stage-number : (x : IpRead) → readIp p ≡ x → refusalOf (readPacket p mss.Absent .answer) ≡ refusalOf (afterIp x p mss.Absent .answer)
-    stage-number x e = ap (λ (y : IpRead). refusalOf (afterIp y p mss.Absent .answer)) e
+    stage-number : (x : IpRead) → readIp p ≡ x → refusalOf (readPacket p mss.Absent .answer) ≡ refusalOf (afterIp readTcp x p mss.Absent .answer)
+    stage-number x e = ap (λ (y : IpRead). refusalOf (afterIp readTcp y p mss.Absent .answer)) e
 
-    refused-number : (r : Refusal) → refusalOf (afterIp (ip.Refused r) p mss.Absent .answer) ≡ number r
+    refused-number : (r : Refusal) → refusalOf (afterIp readTcp (ip.Refused r) p mss.Absent .answer) ≡ number r
     refused-number r = refl
 
-    by-stage : (x : IpRead) → readIp p ≡ x → IpGives p x → IsRow (PacketRow p) rows6 p [] (ipPaper x)
-    by-stage (ip.Refused r) e (IpGives.refused h) =
+    by-stage : (x : IpRead) {n : ℕ} → readIp p ≡ x → Given p n x → IsRow (PacketRow p) rows6 p [] (ipPaper x)
+    by-stage (ip.Refused r) e (Given.refused h) =
         let n = stage-number (ip.Refused r) e ∙ refused-number r in
         let seven : First (PacketRow p) packetOrder (number r) = subst (First (PacketRow p) packetOrder) n at-seven in
         record {
           first = subst (First (PacketRow p) rows6) (same-number r) (without-last 7 rows6 seven (λ (s : number r ≡ 7). omega arith));
           also = alone-also p r h;
         }
-    by-stage (ip.Facts f) e (IpGives.facts byte) =
+    by-stage (ip.Facts f) e gives =
         let n = stage-number (ip.Facts f) e ∙ by-flags f (tcpPart f p) mss.Absent in
         record {
           first = none-of 7 rows6 at-seven (past-six (flagsInvalid (control (tcpPart f p))) (refusalOf (readPacket p mss.Absent .answer)) n);

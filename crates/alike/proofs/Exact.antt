@@ -5,7 +5,7 @@ use mathlib.Core.List.{List}
 use mathlib.Core.Logic.{_↔_}
 use Prim.Native.Nat.{ℕ, _<_, _≤_}
 use native.Mathlib.Omega.{arith}
-use native.Mathlib.Decide.{decLe, ℕ-discrete}
+use native.Mathlib.Decide.{ℕ-discrete}
 use borrow.Author.Tests.{ne-eqb}
 use lib.ListN.{length, set, length-set}
 use lib.Seq.{ext-getD, getD-set-other}
@@ -13,7 +13,7 @@ use Rattle.basis.specs.Bytes.{byteAt}
 use Rattle.rfc.specs.Rfc791.{version}
 use Rattle.alike.specs.Free.{Within, DifferOnly, ItemBy, FreePacket, endBy, Free}
 use Rattle.alike.specs.Packets.{IpLevel, AlikeBy, FreeBy, ExactHeader, HeaderBy, levelBy, ipv4, ipv6, document01, Alike}
-use Rattle.alike.proofs.Places.{agrees-at, past-both}
+use Rattle.alike.proofs.Places.{upTo, agrees-at, past-both}
 use Rattle.alike.proofs.BodyExact.{Inner, body-alike-by, body-differ}
 use Rattle.alike.proofs.HeaderExact.{exact4, exact6}
 
@@ -27,20 +27,16 @@ module _ (level : IpLevel) (header : ExactHeader level) (p q : List ℕ) where
       in-header (Within.lies x after before) = Within.lies (FreePacket.header x) after before
 
       in-part : {i : ℕ} → Inner p q (level .headerEnd p) (level .lengthEnd p) i → Within (FreeBy level p q) i
-      in-part (Inner.inner long x after before) = Within.lies (FreePacket.in-tcp long x) after before
+      in-part (Inner.inner long x after before) = Within.lies (FreePacket.in-tcp (omega arith) x) after before
 
       place : (i : ℕ) → (byteAt p i ≡ byteAt q i → ⊥) → Within (FreeBy level p q) i
       place i differ =
-          elim (decLe (level .headerEnd p) i) [
-            | no inside ↦ in-header (header .exactly p q (a .sameLength) .0 (a .header) i (omega arith) differ)
-            | yes after ↦ elim (decLe (level .lengthEnd p) i) [
-              | no before ↦ in-part (body-differ p q (level .headerEnd p) (level .lengthEnd p) (a .body) i after (omega arith) differ)
-              | yes past ↦ elim (decLe (length p) i) [
-                | yes outside ↦ absurd (differ (past-both i p q (a .sameLength) outside))
-                | no inside ↦ Within.lies FreePacket.past (omega arith) (omega arith)
-              ]
-            ]
-          ]
+          upTo (level .headerEnd p) i (λ inside.
+          in-header (header .exactly p q (a .sameLength) .0 (a .header) i inside differ)) (λ after.
+          upTo (level .lengthEnd p) i (λ before.
+          in-part (body-differ p q (level .headerEnd p) (level .lengthEnd p) (a .body) i after before differ)) (λ past.
+          upTo (length p) i (λ within. Within.lies FreePacket.past (omega arith) (omega arith)) (λ outside.
+          absurd (differ (past-both i p q (a .sameLength) outside)))))
 
   alike-by : DifferOnly (FreeBy level p q) p q → AlikeBy level p q
   alike-by d =
@@ -64,7 +60,7 @@ module _ (level : IpLevel) (header : ExactHeader level) (p q : List ℕ) where
           → Inner p q (level .headerEnd p) (level .lengthEnd p) i
       in-part i after before (Within.lies (FreePacket.header x) a b) = let in-it = header .within p q x in absurd (omega arith)
       in-part i after before (Within.lies FreePacket.past a b) = absurd (omega arith)
-      in-part i after before (Within.lies (FreePacket.in-tcp long x) a b) = Inner.inner long x a b
+      in-part i after before (Within.lies (FreePacket.in-tcp long x) a b) = Inner.inner (omega arith) x a b
 
   pub exact-by : AlikeBy level p q ↔ DifferOnly (FreeBy level p q) p q
   exact-by = (differ-only, alike-by)

@@ -1,9 +1,9 @@
 -- IPv4 and IPv6 headers are alike exactly if every place in them where the packets differ lies in a free item.
 use mathlib.Core.Path.{_≡_, ap}
 use mathlib.Core.List.{List}
-use Prim.Native.Nat.{ℕ, _*_, _/_, _<_, _≤_}
+use Prim.Native.Nat.{ℕ, _/_, _<_, _≤_}
 use native.Mathlib.Omega.{arith}
-use native.Mathlib.Decide.{decLe, ℕ-discrete}
+use native.Mathlib.Decide.{ℕ-discrete}
 use lib.ListN.{length}
 use Rattle.basis.specs.Bytes.{byteAt, be16}
 use Rattle.rfc.specs.Rfc791 as v4
@@ -11,7 +11,7 @@ use Rattle.rfc.specs.Rfc8200 as v6
 use Rattle.alike.specs.Ip.{AlikeIpv4, AlikeIpv6}
 use Rattle.alike.specs.Free.{ZeroAlike, headerEnd4, Within, FreeIpv4, FreeIpv6}
 use Rattle.alike.specs.Packets.{ExactHeader, ipv4, ipv6}
-use Rattle.alike.proofs.Places.{agrees-at, be16-agree, zero-alike}
+use Rattle.alike.proofs.Places.{upTo, agrees-at, be16-agree, zero-alike}
 
 -- ---- version 4
 
@@ -45,22 +45,12 @@ module _ (p q : List ℕ) where
 
   places4 : AlikeIpv4 p q → (i : ℕ) → i < headerEnd4 p → (byteAt p i ≡ byteAt q i → ⊥) → Within (FreeIpv4 p q) i
   places4 a i inside differ =
-      elim (decLe i 3) [
-        | yes h ↦ absurd (differ (a .first i (omega arith) (omega arith)))
-        | no h3 ↦ elim (decLe i 5) [
-          | yes h ↦ Within.lies (FreeIpv4.identification (a .identification)) (omega arith) (omega arith)
-          | no h5 ↦ elim (decLe i 9) [
-            | yes h ↦ absurd (differ (a .second i (omega arith) (omega arith)))
-            | no h9 ↦ elim (decLe i 11) [
-              | yes h ↦ Within.lies FreeIpv4.checksum (omega arith) (omega arith)
-              | no h11 ↦ elim (decLe i 19) [
-                | yes h ↦ Within.lies FreeIpv4.addresses (omega arith) (omega arith)
-                | no h19 ↦ Within.lies FreeIpv4.options (omega arith) (omega arith)
-              ]
-            ]
-          ]
-        ]
-      ]
+      upTo 4 i (λ h. absurd (differ (a .first i (omega arith) (omega arith)))) (λ after.
+      upTo 6 i (λ h. Within.lies (FreeIpv4.identification (a .identification)) (omega arith) (omega arith)) (λ after.
+      upTo 10 i (λ h. absurd (differ (a .second i (omega arith) (omega arith)))) (λ after.
+      upTo 12 i (λ h. Within.lies FreeIpv4.checksum (omega arith) (omega arith)) (λ after.
+      upTo 20 i (λ h. Within.lies FreeIpv4.addresses (omega arith) (omega arith)) (λ after.
+      Within.lies FreeIpv4.options (omega arith) (omega arith))))))
 
   within4 : {from to : ℕ} → FreeIpv4 p q from to → to ≤ headerEnd4 p
   within4 (FreeIpv4.identification z) = omega arith
@@ -111,16 +101,10 @@ module _ (p q : List ℕ) where
 
   places6 : AlikeIpv6 p q → (i : ℕ) → i < 40 → (byteAt p i ≡ byteAt q i → ⊥) → Within (FreeIpv6 p q) i
   places6 a i inside differ =
-      elim (decLe i 0) [
-        | yes h ↦ (let e : i ≡ 0 = omega arith in absurd (differ (rw e (a .first))))
-        | no h0 ↦ elim (decLe i 3) [
-          | yes h ↦ Within.lies (FreeIpv6.flowLabel (a .second) (a .flowLabel)) (omega arith) (omega arith)
-          | no h3 ↦ elim (decLe i 7) [
-            | yes h ↦ absurd (differ (a .third i (omega arith) (omega arith)))
-            | no h7 ↦ Within.lies FreeIpv6.addresses (omega arith) (omega arith)
-          ]
-        ]
-      ]
+      upTo 1 i (λ h. let e : i ≡ 0 = omega arith in absurd (differ (rw e (a .first)))) (λ after.
+      upTo 4 i (λ h. Within.lies (FreeIpv6.flowLabel (a .second) (a .flowLabel)) (omega arith) (omega arith)) (λ after.
+      upTo 8 i (λ h. absurd (differ (a .third i (omega arith) (omega arith)))) (λ after.
+      Within.lies FreeIpv6.addresses (omega arith) (omega arith))))
 
   within6 : {from to : ℕ} → FreeIpv6 p q from to → to ≤ 40
   within6 (FreeIpv6.flowLabel c z) = omega arith

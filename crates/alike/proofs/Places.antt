@@ -15,6 +15,10 @@ use Rattle.alike.specs.Free.{ZeroAlike, Within, DifferOnly}
 
 -- ---- bytes
 
+-- A place lies before another, or not.
+pub upTo : {A : Type 0} (n i : ℕ) → (i < n → A) → (n ≤ i → A) → A
+upTo n i before after = elim (decLe n i) [ yes h ↦ after h | no h ↦ before (omega arith) ]
+
 -- Strings that cannot differ at a place agree there.
 pub agrees-at : (p q : List ℕ) (i : ℕ) → ((byteAt p i ≡ byteAt q i → ⊥) → ⊥) → byteAt p i ≡ byteAt q i
 agrees-at p q i none = elim (ℕ-discrete (byteAt p i) (byteAt q i)) [ yes e ↦ e | no differ ↦ absurd (none differ) ]

@@ -35,25 +35,24 @@ pub data WalkReaches : ℕ → List ℕ → Type 0 where
 
 -- ---- the items
 
+-- Where a half of a timestamps option begins: behind the kind and the length byte the own timestamp, behind that the peer's (RFC 7323,
+-- section 3.2).
+pub data Half : ℕ → Type 0 where
+  own : Half 2
+  peer : Half 6
+
 -- "either four-byte half, wholly present, of a timestamps option that the walk reaches", which stays zero or stays nonzero:
 -- the option's length byte and the string both have room for it.
 pub data FreeStamp (s t : List ℕ) : ℕ → ℕ → Type 0 where
-  own
-      : {at : ℕ}
+  half
+      : {at k : ℕ}
+      → Half k
       → WalkReaches at s
       → byteAt s at ≡ 8
-      → 6 ≤ byteAt s (at + 1)
-      → at + 6 ≤ length s
-      → ZeroAlike (be32 s (at + 2)) (be32 t (at + 2))
-      → FreeStamp s t (at + 2) (at + 6)
-  peer
-      : {at : ℕ}
-      → WalkReaches at s
-      → byteAt s at ≡ 8
-      → 10 ≤ byteAt s (at + 1)
-      → at + 10 ≤ length s
-      → ZeroAlike (be32 s (at + 6)) (be32 t (at + 6))
-      → FreeStamp s t (at + 6) (at + 10)
+      → k + 4 ≤ byteAt s (at + 1)
+      → at + (k + 4) ≤ length s
+      → ZeroAlike (be32 s (at + k)) (be32 t (at + k))
+      → FreeStamp s t (at + k) (at + (k + 4))
 
 -- In a TCP part: "both ports; the four bits below the data offset; TCP checksum; payload contents", and "where each stays zero or stays
 -- nonzero: .. sequence, acknowledgement, urgent pointer".

@@ -14,7 +14,7 @@ use Rattle.ip.specs.declared.IpRead.the-variants as ip
 use Rattle.ip.specs.Ip.{readIp}
 use Rattle.flow.specs.declared.Reading.{Reading}
 use Rattle.flow.specs.Flags.{flagsInvalid, isSynType, isSynAckType}
-use Rattle.flow.specs.Tcp.{observationOf, observationFrom, knownPeer, readTcp}
+use Rattle.flow.specs.Tcp.{observationOf, observationFrom, readTcp}
 use Rattle.flow.specs.Reading.{IpStage, TcpStage, tcpPart, afterIp, readBy, readPacket}
 use Rattle.flow.specs.Peer.{peerBeside, putPeer, withPeer, TakesPeer}
 

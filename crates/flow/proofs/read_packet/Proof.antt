@@ -22,31 +22,36 @@ enum-known-facts c = search needs
 
 sub-visit-tcp : tie.Need-sub-visit-tcp
 sub-visit-tcp c =
-    let lies = tcp-part-lies (c .before .before .before .before .before .args .packet .now) (c .before .facts .given .0 .0) (sym (c .before .before .before .read-ip .ensures) ∙ c .before .facts .given .1) in
+    let lies = tcp-part-lies _ _ (sym (c .before .before .before .read-ip .ensures) ∙ c .before .facts .given .1) in
     omega arith
 
 part-visit-tcp-start : tie.Need-part-visit-tcp-start
 part-visit-tcp-start c =
-    let lies = tcp-part-lies (c .before .before .before .before .before .args .packet .now) (c .before .facts .given .0 .0) (sym (c .before .before .before .read-ip .ensures) ∙ c .before .facts .given .1) in
+    let lies = tcp-part-lies _ _ (sym (c .before .before .before .read-ip .ensures) ∙ c .before .facts .given .1) in
     search needs
 
 part-visit-tcp-end : tie.Need-part-visit-tcp-end
 part-visit-tcp-end c =
-    let lies = tcp-part-lies (c .before .before .before .before .before .args .packet .now) (c .before .facts .given .0 .0) (sym (c .before .before .before .read-ip .ensures) ∙ c .before .facts .given .1) in
+    let lies = tcp-part-lies _ _ (sym (c .before .before .before .read-ip .ensures) ∙ c .before .facts .given .1) in
     search needs
 
 visit-tcp-requires : tie.Need-visit-tcp-requires
 visit-tcp-requires c κs =
-    let lies = tcp-part-lies (c .before .before .before .before .before .before .args .packet .now) (c .before .before .facts .given .0 .0) (sym (c .before .before .before .before .read-ip .ensures) ∙ c .before .before .facts .given .1) in
-    rw (part-length (c .before .before .facts .given .0 .0 .start) (c .before .before .facts .given .0 .0 .end) (c .before .before .before .before .before .before .args .packet .now) (lies .1)) (omega arith)
+    let lies = tcp-part-lies _ _ (sym (c .before .before .before .before .read-ip .ensures) ∙ c .before .before .facts .given .1) in
+    rw (part-length _ _ _ (lies .1)) (omega arith)
 
 returns : tie.Need-returns
 unfolding readPacket
-returns c = rw (sym (c .before .before .before .before .read-ip .ensures) ∙ c .before .before .refusal .given .1, c .refuse .ensures)
+returns c =
+    rw (sym (c .before .before .before .before .read-ip .ensures) ∙ c .before .before .refusal .given .1, c .refuse .ensures)
 
 returns-2 : tie.Need-returns-2
 unfolding readPacket
-returns-2 c = rw (sym (c .before .before .before .before .before .read-ip .ensures) ∙ c .before .before .before .facts .given .1, c .visit-tcp .ensures)
+returns-2 c =
+    rw (
+      sym (c .before .before .before .before .before .read-ip .ensures) ∙ c .before .before .before .facts .given .1,
+      c .visit-tcp .ensures,
+    )
 
 pub read-packet-spec : {M : Type 1} → statement M
 read-packet-spec =
