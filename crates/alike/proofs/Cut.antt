@@ -13,7 +13,7 @@ use lib.Seq.{take-nil, getD-take}
 use Rattle.basis.specs.Bytes.{byteAt, be32}
 use Rattle.one_option.specs.Options.{Opt, asked, optionsAfter, optionsOf}
 use Rattle.one_option.proofs.See.{opt}
-use Rattle.syn_options.proofs.Walk.{skipped}
+use Rattle.one_option.proofs.Options.{skipped}
 use Rattle.alike.specs.Free.{ZeroAlike}
 use Rattle.alike.proofs.Places.{be32-take, take-alike, take-byte}
 use Rattle.alike.proofs.Options.{LikeStamps, LikeRow}

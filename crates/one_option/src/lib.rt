@@ -1,10 +1,13 @@
-// One option of a TCP header: the bytes that it asks for, and what it says of MSS, scale and quirks (syn_options.rs, flow.rs).
+// One option of a TCP header: where it ends, and what it says of MSS, scale and quirks (syn_options.rs, flow.rs).
 ghost use mathlib.Core.Path.{_≡_};
-ghost use Rattle.basis.specs.Bytes.{anyNonzero};
-ghost use Rattle.one_option.specs.Options.{asked};
-ghost use Rattle.one_option.specs.See.{laterMss, laterScale, laterQuirks};
+ghost use mathlib.Core.Bool.{true, false};
+ghost use Prim.Native.Nat.{max};
+ghost use Rattle.basis.specs.Bytes.{byteAt, anyNonzero};
+ghost use Rattle.one_option.specs.Options.{stepOf};
+ghost use Rattle.one_option.specs.See.{laterMss, laterScale, laterQuirks, seeOption};
 use numbers::be16;
 use numbers::be32;
+use numbers::least;
 use quirks::Quirk;
 use quirks::QuirkSet;
 use tcp::Mss;
@@ -28,25 +31,75 @@ pub struct Seen {
     pub quirks: QuirkSet,
 }
 
-// The bytes that an option asks for after its kind, of those that are left.
-pub fn asked_bytes(kind: u8, rest: &[u8]) -> usize
-    ensures { λ r. ⌜ r ≡ asked kind (now (rest .entry)) ⌝ }
+// One option of a string, in places of the string.
+pub struct OptionStep {
+    pub kind: u8,
+    // Where the next option begins: behind its last byte, at the string's end at most.
+    pub end: usize,
+    // It runs past the end.
+    pub past: bool,
+    // Its length byte is 0 or 1.
+    pub short: bool,
+}
+
+// ---- one step
+
+// An option without a length byte: an end-of-options or a no-op.
+fn lone(kind: u8, end: usize) -> OptionStep
+    ensures { λ r. ⌜ r ≡ record { kind = kind; end = end; past = false; short = false } ⌝ }
 {
-    if kind == EOL {
-        return rest.len();
+    OptionStep {
+        kind,
+        end,
+        past: false,
+        short: false,
     }
-    if kind == NOP {
+}
+
+// The byte after a kind, 0 if it is absent.
+fn length_byte(options: &[u8], start: usize) -> usize
+    ensures { λ r. ⌜ r ≡ byteAt (now (options .entry)) start ⌝ }
+{
+    if options.len() <= start {
         return 0;
     }
-    if rest.len() == 0 {
-        return 1;
-    }
-    let length = rest[0] as usize;
-    if length < 2 {
-        return 1;
-    }
-    length - 1
+    options[start] as usize
 }
+
+// How many bytes an option with this length byte takes: 2 at least.
+fn taken(length: usize) -> usize
+    ensures { λ r. ⌜ r ≡ max length 2 ⌝ }
+{
+    if length < 2 { 2 } else { length }
+}
+
+// The option at a place. All is kept in places of the whole string, so that a turn of a walk adds once.
+pub fn option_step(options: &[u8], at: usize) -> OptionStep
+    ensures { λ r. ⌜ r ≡ stepOf (now (options .entry)) at ⌝ }
+{
+    let all = options.len();
+    if all <= at {
+        return lone(EOL, all);
+    }
+    let kind = options[at];
+    let start = at + 1;
+    if kind == EOL {
+        return lone(kind, all);
+    }
+    if kind == NOP {
+        return lone(kind, start);
+    }
+    let length = length_byte(options, start);
+    let end = at + taken(length);
+    OptionStep {
+        kind,
+        end: least(end, all),
+        past: all < end,
+        short: (start < all) & (length < 2),
+    }
+}
+
+// ---- what it says
 
 // Some byte is not 0.
 fn any_nonzero(s: &[u8]) -> bool
@@ -63,7 +116,7 @@ fn any_nonzero(s: &[u8]) -> bool
 }
 
 // The MSS after one option more: a later one replaces an earlier one only if its data suffices.
-pub fn later_mss(kind: u8, own: &[u8], mss: Mss) -> Mss
+fn later_mss(kind: u8, own: &[u8], mss: Mss) -> Mss
     ensures { λ r. ⌜ r ≡ laterMss mss (record { kind = kind; own = now (own .entry) }) ⌝ }
 {
     if kind != MSS {
@@ -76,7 +129,7 @@ pub fn later_mss(kind: u8, own: &[u8], mss: Mss) -> Mss
 }
 
 // The scale, in the same way.
-pub fn later_scale(kind: u8, own: &[u8], wscale: Wscale) -> Wscale
+fn later_scale(kind: u8, own: &[u8], wscale: Wscale) -> Wscale
     ensures { λ r. ⌜ r ≡ laterScale wscale (record { kind = kind; own = now (own .entry) }) ⌝ }
 {
     if kind != WSCALE {
@@ -120,7 +173,7 @@ fn stamp_quirks(own: &[u8], syn: bool, before: QuirkSet) -> QuirkSet
 }
 
 // The quirks after one option more.
-pub fn later_quirks(kind: u8, own: &[u8], syn: bool, quirks: QuirkSet) -> QuirkSet
+fn later_quirks(kind: u8, own: &[u8], syn: bool, quirks: QuirkSet) -> QuirkSet
     ensures { λ r. ⌜ r ≡ laterQuirks syn quirks (record { kind = kind; own = now (own .entry) }) ⌝ }
 {
     if kind == TIMESTAMPS {
@@ -133,4 +186,18 @@ pub fn later_quirks(kind: u8, own: &[u8], syn: bool, quirks: QuirkSet) -> QuirkS
         return end_quirks(own, syn, quirks);
     }
     quirks
+}
+
+// What is known after one option more, of this kind and with these own bytes.
+pub fn see_option(kind: u8, own: &[u8], syn: bool, seen: Seen) -> Seen
+    ensures { λ r. ⌜ r ≡ seeOption syn seen (record { kind = kind; own = now (own .entry) }) ⌝ }
+{
+    let mss = seen.mss;
+    let wscale = seen.wscale;
+    let quirks = seen.quirks;
+    Seen {
+        mss: later_mss(kind, own, mss),
+        wscale: later_scale(kind, own, wscale),
+        quirks: later_quirks(kind, own, syn, quirks),
+    }
 }
