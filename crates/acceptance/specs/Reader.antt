@@ -4,17 +4,20 @@ use mathlib.Core.List.{List}
 use Prim.Native.Nat.{ℕ}
 use contract.Lifetimes.{Lfts}
 use denote.Ref.{RefT, now}
+use Rattle.tcp.specs.declared.Mss.{Mss}
+use Rattle.tcp.specs.declared.Wscale.{Wscale}
 use Rattle.quirks.specs.declared.QuirkSet.{QuirkSet}
 use Rattle.observable.specs.declared.TcpObservation.{TcpObservation}
 use Rattle.observable.specs.Observation.{emptyObservation, windowMultiplier, ownTimestampNonzero}
 use Rattle.observable.proofs.TcpObservation.empty as empty'
 use Rattle.observable.proofs.TcpObservation.window_multiplier as window-multiplier'
 use Rattle.observable.proofs.TcpObservation.own_timestamp_is_nonzero as own-timestamp'
-use Rattle.one_option.specs.declared.Seen.{Seen}
 use Rattle.one_option.specs.Options.{stepOf}
-use Rattle.one_option.specs.See.{seeOption}
+use Rattle.one_option.specs.See.{laterMss, laterScale, laterQuirks}
 use Rattle.one_option.proofs.option_step as option-step'
-use Rattle.one_option.proofs.see_option as see-option'
+use Rattle.one_option.proofs.later_mss as later-mss'
+use Rattle.one_option.proofs.later_scale as later-scale'
+use Rattle.one_option.proofs.later_quirks as later-quirks'
 use Rattle.syn_options.specs.Walk.{walkOf, parseOptionsRaw}
 use Rattle.syn_options.proofs.walk_options as walk-options'
 use Rattle.syn_options.proofs.parse_options_raw as parse-options-raw'
@@ -43,11 +46,19 @@ pub record OneOption : Type 0 where
       : (κs : Lfts 1) (options : RefT (List ℕ)) (at : ℕ)
       → Answers option-step'.signature κs (option-step'.Reads.Pre κs) (option-step'.Reads.Post κs)
       (options, (at, tt)) (stepOf (now options) at)
-  pub see-option
-      : (κs : Lfts 1) (kind : ℕ) (own : RefT (List ℕ)) (syn : Bool) (seen : Seen)
-      → Answers see-option'.signature κs (see-option'.Reads.Pre κs) (see-option'.Reads.Post κs)
-      (kind, (own, (syn, (seen, tt))))
-      (seeOption syn seen (record { kind = kind; own = now own }))
+  pub later-mss
+      : (κs : Lfts 1) (kind : ℕ) (own : RefT (List ℕ)) (m : Mss)
+      → Answers later-mss'.signature κs (later-mss'.Reads.Pre κs) (later-mss'.Reads.Post κs)
+      (kind, (own, (m, tt))) (laterMss m (record { kind = kind; own = now own }))
+  pub later-scale
+      : (κs : Lfts 1) (kind : ℕ) (own : RefT (List ℕ)) (w : Wscale)
+      → Answers later-scale'.signature κs (later-scale'.Reads.Pre κs) (later-scale'.Reads.Post κs)
+      (kind, (own, (w, tt))) (laterScale w (record { kind = kind; own = now own }))
+  pub later-quirks
+      : (κs : Lfts 1) (kind : ℕ) (own : RefT (List ℕ)) (syn : Bool) (q : QuirkSet)
+      → Answers later-quirks'.signature κs (later-quirks'.Reads.Pre κs) (later-quirks'.Reads.Post κs)
+      (kind, (own, (syn, (q, tt))))
+      (laterQuirks syn q (record { kind = kind; own = now own }))
 
 pub record Options : Type 0 where
   pub walk-options

@@ -4,7 +4,7 @@ ghost use mathlib.Core.Bool.{true, false};
 ghost use Prim.Native.Nat.{max};
 ghost use Rattle.basis.specs.Bytes.{byteAt, anyNonzero};
 ghost use Rattle.one_option.specs.Options.{stepOf};
-ghost use Rattle.one_option.specs.See.{laterMss, laterScale, laterQuirks, seeOption};
+ghost use Rattle.one_option.specs.See.{laterMss, laterScale, laterQuirks};
 use numbers::be16;
 use numbers::be32;
 use numbers::least;
@@ -116,7 +116,7 @@ fn any_nonzero(s: &[u8]) -> bool
 }
 
 // The MSS after one option more: a later one replaces an earlier one only if its data suffices.
-fn later_mss(kind: u8, own: &[u8], mss: Mss) -> Mss
+pub fn later_mss(kind: u8, own: &[u8], mss: Mss) -> Mss
     ensures { λ r. ⌜ r ≡ laterMss mss (record { kind = kind; own = now (own .entry) }) ⌝ }
 {
     if kind != MSS {
@@ -129,7 +129,7 @@ fn later_mss(kind: u8, own: &[u8], mss: Mss) -> Mss
 }
 
 // The scale, in the same way.
-fn later_scale(kind: u8, own: &[u8], wscale: Wscale) -> Wscale
+pub fn later_scale(kind: u8, own: &[u8], wscale: Wscale) -> Wscale
     ensures { λ r. ⌜ r ≡ laterScale wscale (record { kind = kind; own = now (own .entry) }) ⌝ }
 {
     if kind != WSCALE {
@@ -173,7 +173,7 @@ fn stamp_quirks(own: &[u8], syn: bool, before: QuirkSet) -> QuirkSet
 }
 
 // The quirks after one option more.
-fn later_quirks(kind: u8, own: &[u8], syn: bool, quirks: QuirkSet) -> QuirkSet
+pub fn later_quirks(kind: u8, own: &[u8], syn: bool, quirks: QuirkSet) -> QuirkSet
     ensures { λ r. ⌜ r ≡ laterQuirks syn quirks (record { kind = kind; own = now (own .entry) }) ⌝ }
 {
     if kind == TIMESTAMPS {
@@ -186,18 +186,4 @@ fn later_quirks(kind: u8, own: &[u8], syn: bool, quirks: QuirkSet) -> QuirkSet
         return end_quirks(own, syn, quirks);
     }
     quirks
-}
-
-// What is known after one option more, of this kind and with these own bytes.
-pub fn see_option(kind: u8, own: &[u8], syn: bool, seen: Seen) -> Seen
-    ensures { λ r. ⌜ r ≡ seeOption syn seen (record { kind = kind; own = now (own .entry) }) ⌝ }
-{
-    let mss = seen.mss;
-    let wscale = seen.wscale;
-    let quirks = seen.quirks;
-    Seen {
-        mss: later_mss(kind, own, mss),
-        wscale: later_scale(kind, own, wscale),
-        quirks: later_quirks(kind, own, syn, quirks),
-    }
 }

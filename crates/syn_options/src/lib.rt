@@ -2,14 +2,17 @@
 // after clipping it.
 ghost use mathlib.Core.Path.{_≡_};
 ghost use mathlib.Core.Bool.{_&&_};
-ghost use Prim.Native.Nat.{_≤_};
+ghost use Prim.Native.Nat.{_<_, _≤_};
 ghost use lib.ListN.{length};
-ghost use Rattle.one_option.specs.Options.{optionsOf};
+ghost use Rattle.one_option.specs.Options.{optionsOf, stepOf};
 ghost use Rattle.syn_options.specs.Walk.{entryByte, startWalk, walkFrom, walkOf, parsedOf, parseOptionsRaw};
 use numbers::least;
+use one_option::OptionStep;
 use one_option::Seen;
+use one_option::later_mss;
+use one_option::later_quirks;
+use one_option::later_scale;
 use one_option::option_step;
-use one_option::see_option;
 use quirks::QuirkSet;
 use tcp::Layout;
 use tcp::Mss;
@@ -83,6 +86,14 @@ fn stops(stop: bool, past: bool) -> bool
     if stop { past } else { false }
 }
 
+// The option at a place of the string: it ends behind its kind byte, and within the string.
+fn step_inside(options: &[u8], at: usize) -> OptionStep
+    requires { ⌜ at < length (now options) ⌝ }
+    ensures { λ r. ⌜ (r ≡ stepOf (now (options .entry)) at) × (at < r .end) × (r .end ≤ length (now (options .entry))) ⌝ }
+{
+    option_step(options, at)
+}
+
 // The walk of at most forty bytes. Each option fills one entry of the layout, so that the entries never outnumber the bytes.
 fn walk_part(options: &[u8], stop: bool, syn: bool, quirks: QuirkSet) -> Walked
     requires { ⌜ length (now options) ≤ 40 ⌝ }
@@ -91,28 +102,35 @@ fn walk_part(options: &[u8], stop: bool, syn: bool, quirks: QuirkSet) -> Walked
     let first = start_walk(quirks);
     let mut olayout = first.olayout;
     let mut count = 0;
-    let mut seen = first.seen;
+    let mut mss = Mss::Absent;
+    let mut wscale = Wscale::Absent;
+    let mut shown = quirks;
     let mut malformed = false;
     let mut at = 0;
     while at < options.len() {
-        let step = option_step(options, at);
+        let step = step_inside(options, at);
         if stops(stop, step.past) {
             malformed = true;
             break;
         }
-        let kind = step.kind;
         let start = at + 1;
         let end = step.end;
-        olayout.kinds[count] = kind;
-        olayout.bytes[count] = entry_byte(kind, end - start);
+        olayout.kinds[count] = step.kind;
+        olayout.bytes[count] = entry_byte(step.kind, end - start);
         count += 1;
-        seen = see_option(kind, &options[start..end], syn, seen);
+        mss = later_mss(step.kind, &options[start..end], mss);
+        wscale = later_scale(step.kind, &options[start..end], wscale);
+        shown = later_quirks(step.kind, &options[start..end], syn, shown);
         at = end;
     }
     olayout.count = count;
     Walked {
         olayout,
-        seen,
+        seen: Seen {
+            mss,
+            wscale,
+            quirks: shown,
+        },
         malformed,
     }
 }

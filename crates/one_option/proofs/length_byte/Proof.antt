@@ -6,7 +6,7 @@ use Rattle.one_option.proofs.length_byte.Statement.{statement}
 use Rattle.one_option.proofs.length_byte.Tie as tie
 
 returns : tie.Need-returns
-returns c = rw (List·getD-eq-default (c .before .args .options .now) 0 {n = c .before .args .start} (c .if1 .taken))
+returns c = rw (List·getD-eq-default (c .before .args .options .now) 0 {n = c .before .args .start} (omega arith))
 
 shared-slice-read-result : tie.Need-shared-slice-read-result
 shared-slice-read-result c = search needs

@@ -1,9 +1,9 @@
 -- `syn_options::walk_part` meets its contract.
+use Rattle.one_option.specs.declared.Seen.{Seen}
 use Rattle.one_option.specs.Options.{optionsOf}
-use Rattle.one_option.proofs.Options.{step-lies}
+use Rattle.one_option.specs.See.{seeOption}
 use lib.ListN.{length, drop, length-set}
 use Prim.Native.Nat.{_≤_, _-_}
-use native.Mathlib.Omega.{arith}
 use mathlib.Core.Path.{_≡_, sym, _∙_, ap}
 use mathlib.Core.Bool.{Bool, false}
 use Rattle.syn_options.specs.Walk.{walkFrom}
@@ -13,7 +13,9 @@ use Rattle.syn_options.proofs.walk_part.Statement.{statement}
 use Rattle.syn_options.proofs.walk_part.Tie as tie
 
 abbrev Inv-loop : tie.InvT-loop
-Inv-loop options stop syn olayout₀ count₀ seen₀ malformed₀ at₀ olayout count seen malformed at =
+Inv-loop options stop syn olayout₀ count₀ mss₀ wscale₀ shown₀ malformed₀ at₀ olayout count mss wscale shown malformed at =
+    let seen₀ : Seen = record { mss = mss₀; wscale = wscale₀; quirks = shown₀ } in
+    let seen : Seen = record { mss = mss; wscale = wscale; quirks = shown } in
     (at ≤ length options)
     × (count ≤ at)
     × (length (olayout .kinds) ≡ 40)
@@ -23,7 +25,7 @@ Inv-loop options stop syn olayout₀ count₀ seen₀ malformed₀ at₀ olayout
     ≡ walkFrom stop syn (soFar (olayout₀ .kinds) (olayout₀ .bytes) count₀ seen₀ false) (optionsOf options))
 
 abbrev μ-loop : tie.MeasureT-loop
-μ-loop options stop syn olayout₀ count₀ seen₀ malformed₀ at₀ olayout count seen malformed at =
+μ-loop options stop syn olayout₀ count₀ mss₀ wscale₀ shown₀ malformed₀ at₀ olayout count mss wscale shown malformed at =
     length options - at
 
 start-walk-requires : tie.Need-start-walk-requires Inv-loop μ-loop
@@ -32,8 +34,8 @@ start-walk-requires c κs = search needs
 loop-holds : tie.Need-loop-holds Inv-loop μ-loop
 loop-holds c = search needs
 
-option-step-requires : tie.Need-option-step-requires Inv-loop μ-loop
-option-step-requires c κs = search needs
+step-inside-requires : tie.Need-step-inside-requires Inv-loop μ-loop
+step-inside-requires c κs = search needs
 
 stops-requires : tie.Need-stops-requires Inv-loop μ-loop
 stops-requires c κs = search needs
@@ -45,16 +47,10 @@ element-write-olayout : tie.Need-element-write-olayout Inv-loop μ-loop
 element-write-olayout c = search needs
 
 sub-entry-byte : tie.Need-sub-entry-byte Inv-loop μ-loop
-sub-entry-byte c =
-    let t = c .before .before in
-    let lies = step-lies _ _ (t .option-step .ensures) (t .before .loop-test .taken) in
-    search needs
+sub-entry-byte c = search needs
 
 entry-byte-requires : tie.Need-entry-byte-requires Inv-loop μ-loop
-entry-byte-requires c κs =
-    let t = c .before .before in
-    let lies = step-lies _ _ (t .option-step .ensures) (t .before .loop-test .taken) in
-    search needs
+entry-byte-requires c κs = search needs
 
 element-write-olayout-2 : tie.Need-element-write-olayout-2 Inv-loop μ-loop
 element-write-olayout-2 c = search needs
@@ -62,72 +58,90 @@ element-write-olayout-2 c = search needs
 add-count : tie.Need-add-count Inv-loop μ-loop
 add-count c = search needs
 
-sub-see-option : tie.Need-sub-see-option Inv-loop μ-loop
-sub-see-option c =
-    let t = c .before .before .before in
-    let lies = step-lies _ _ (t .option-step .ensures) (t .before .loop-test .taken) in
-    search needs
+sub-later-mss : tie.Need-sub-later-mss Inv-loop μ-loop
+sub-later-mss c = search needs
 
-part-see-option-start : tie.Need-part-see-option-start Inv-loop μ-loop
-part-see-option-start c =
-    let t = c .before .before .before in
-    let lies = step-lies _ _ (t .option-step .ensures) (t .before .loop-test .taken) in
-    search needs
+part-later-mss-start : tie.Need-part-later-mss-start Inv-loop μ-loop
+part-later-mss-start c = search needs
 
-part-see-option-end : tie.Need-part-see-option-end Inv-loop μ-loop
-part-see-option-end c =
-    let t = c .before .before .before in
-    let lies = step-lies _ _ (t .option-step .ensures) (t .before .loop-test .taken) in
-    search needs
+part-later-mss-end : tie.Need-part-later-mss-end Inv-loop μ-loop
+part-later-mss-end c = search needs
 
-see-option-requires : tie.Need-see-option-requires Inv-loop μ-loop
-see-option-requires c κs = search needs
+later-mss-requires : tie.Need-later-mss-requires Inv-loop μ-loop
+later-mss-requires c κs = search needs
+
+sub-later-scale : tie.Need-sub-later-scale Inv-loop μ-loop
+sub-later-scale c = search needs
+
+part-later-scale-start : tie.Need-part-later-scale-start Inv-loop μ-loop
+part-later-scale-start c = search needs
+
+part-later-scale-end : tie.Need-part-later-scale-end Inv-loop μ-loop
+part-later-scale-end c = search needs
+
+later-scale-requires : tie.Need-later-scale-requires Inv-loop μ-loop
+later-scale-requires c κs = search needs
+
+sub-later-quirks : tie.Need-sub-later-quirks Inv-loop μ-loop
+sub-later-quirks c = search needs
+
+part-later-quirks-start : tie.Need-part-later-quirks-start Inv-loop μ-loop
+part-later-quirks-start c = search needs
+
+part-later-quirks-end : tie.Need-part-later-quirks-end Inv-loop μ-loop
+part-later-quirks-end c = search needs
+
+later-quirks-requires : tie.Need-later-quirks-requires Inv-loop μ-loop
+later-quirks-requires c κs = search needs
 
 loop-less : tie.Need-loop-less Inv-loop μ-loop
-loop-less c =
-    let t = c .before .before .before .before .before in
-    let lies = step-lies _ _ (t .option-step .ensures) (t .before .loop-test .taken) in
-    search needs
+loop-less c = search needs
 
 loop-again : tie.Need-loop-again Inv-loop μ-loop
+unfolding seeOption
 loop-again c =
-    let t = c .before .before .before .before .before in
+    let t = c .before .before .before .before .before .before .before .before .before in
     let l = t .before .before .loop in
-    let a = t .before .before .before .before .before .before .before .args in
-    let lies = step-lies _ _ (t .option-step .ensures) (t .before .loop-test .taken) in
+    let a = t .before .before .before .before .before .before .args in
+    let seen : Seen = record { mss = l .mss; wscale = l .wscale; quirks = l .shown } in
     let goes-on =
-    turn-goes-on (a .stop) (a .syn) (l .olayout .kinds) (l .olayout .bytes) (l .count) (l .seen) (a .options .now) (l .at)
-    (t .before .loop-test .taken) (t .option-step .result) (t .option-step .ensures)
-    (sym (c .before .before .before .before .stops .ensures) ∙ c .before .before .before .if1 .left) in (
+    turn-goes-on (a .stop) (a .syn) (l .olayout .kinds) (l .olayout .bytes) (l .count) seen (a .options .now) (l .at)
+    (t .before .loop-test .taken) (t .step-inside .result) (t .step-inside .ensures .0)
+    (sym (c .before .before .before .before .before .before .before .before .stops .ensures)
+    ∙ c .before .before .before .before .before .before .before .if1 .left) in
+    let later-mss = c .before .before .before .before .later-mss .ensures in
+    let entry-byte = c .before .before .before .before .before .before .entry-byte .ensures in (
       search needs,
       search needs,
       simp length-set (l .inv .2),
       simp length-set (l .inv .3),
       l .inv .4,
-      simp (c .see-option .ensures, c .before .before .entry-byte .ensures) (goes-on ∙ l .inv .5),
+      simp (c .later-quirks .ensures, c .before .before .later-scale .ensures, later-mss, entry-byte) (goes-on ∙ l .inv .5),
     )
 
 returns : tie.Need-returns Inv-loop μ-loop
 returns c =
     let l = c .before .loop in
-    let a = c .before .before .before .before .before .before .args in
-    ap (λ (m : Bool). soFar (l .olayout .kinds) (l .olayout .bytes) (l .count) (l .seen) m) (l .inv .4)
+    let a = c .before .before .before .before .before .args in
+    let seen : Seen = record { mss = l .mss; wscale = l .wscale; quirks = l .shown } in
+    ap (λ (m : Bool). soFar (l .olayout .kinds) (l .olayout .bytes) (l .count) seen m) (l .inv .4)
     ∙ sym
-    (walk-ends (a .stop) (a .syn) (soFar (l .olayout .kinds) (l .olayout .bytes) (l .count) (l .seen) false) (a .options .now) (l .at)
+    (walk-ends (a .stop) (a .syn) (soFar (l .olayout .kinds) (l .olayout .bytes) (l .count) seen false) (a .options .now) (l .at)
     (c .loop-test .left))
     ∙ l .inv .5
-    ∙ rw (c .before .before .before .before .start-walk .ensures)
+    ∙ rw (c .before .before .before .start-walk .ensures)
 
 returns-2 : tie.Need-returns-2 Inv-loop μ-loop
 returns-2 c =
     let t = c .before .before in
     let l = t .before .before .loop in
-    let a = t .before .before .before .before .before .before .before .args in
+    let a = t .before .before .before .before .before .before .args in
+    let seen : Seen = record { mss = l .mss; wscale = l .wscale; quirks = l .shown } in
     sym
-    (turn-stops (a .stop) (a .syn) (l .olayout .kinds) (l .olayout .bytes) (l .count) (l .seen) (a .options .now) (l .at)
-    (t .before .loop-test .taken) (t .option-step .result) (t .option-step .ensures) (sym (c .before .stops .ensures) ∙ c .if1 .taken))
+    (turn-stops (a .stop) (a .syn) (l .olayout .kinds) (l .olayout .bytes) (l .count) seen (a .options .now) (l .at)
+    (t .before .loop-test .taken) (t .step-inside .result) (t .step-inside .ensures .0) (sym (c .before .stops .ensures) ∙ c .if1 .taken))
     ∙ l .inv .5
-    ∙ rw (t .before .before .before .before .before .start-walk .ensures)
+    ∙ rw (t .before .before .before .before .start-walk .ensures)
 
 pub walk-part-spec : {M : Type 1} → statement M
 walk-part-spec =
@@ -137,7 +151,7 @@ walk-part-spec =
     μ-loop
     start-walk-requires
     loop-holds
-    option-step-requires
+    step-inside-requires
     stops-requires
     add-start
     element-write-olayout
@@ -145,10 +159,18 @@ walk-part-spec =
     entry-byte-requires
     element-write-olayout-2
     add-count
-    sub-see-option
-    part-see-option-start
-    part-see-option-end
-    see-option-requires
+    sub-later-mss
+    part-later-mss-start
+    part-later-mss-end
+    later-mss-requires
+    sub-later-scale
+    part-later-scale-start
+    part-later-scale-end
+    later-scale-requires
+    sub-later-quirks
+    part-later-quirks-start
+    part-later-quirks-end
+    later-quirks-requires
     loop-less
     loop-again
     returns
