@@ -1,15 +1,15 @@
 -- The options place by place: the option at a place, its own bytes, where it ends and what follows.
 use mathlib.Core.Path.{_≡_, refl, sym, _∙_, ap}
-use mathlib.Core.Bool.{Bool, true, false, _&&_}
+use mathlib.Core.Bool.{true, false, _&&_}
 use mathlib.Core.List.{List, [], _∷_}
 use Prim.Native.Nat.{ℕ, zero, suc, _+_, _-_, _<_, _≤_, min, max}
 use native.Mathlib.Omega.{arith}
-use native.Mathlib.Nat.{add-zero}
+use native.Mathlib.Nat.{add-zero, zero-min, suc-min-suc}
 use native.Mathlib.Numerals.{add-one}
-use native.Mathlib.Decide.{decLe, ℕ-discrete}
+use native.Mathlib.Decide.{decLe}
 use lib.Dec.{ltb}
-use lib.ListN.{length, take, drop, length-take, length-drop, drop-of-length-le}
-use lib.Seq.{drop-cons, drop-drop, take-all, getD-take, getD-drop}
+use lib.ListN.{length, take, drop, length-take, length-drop}
+use lib.Seq.{drop-cons, drop-drop, drop-nil, take-nil, getD-take, getD-drop}
 use borrow.Author.Tests.{ltb-true, lt-ltb, le-ltb, ne-eqb}
 use Rattle.basis.specs.Bytes.{byteAt, part}
 use Rattle.basis.proofs.Tests.{and-left, and-right}
@@ -25,18 +25,14 @@ skipped (suc k) [] = refl
 skipped (suc k) (b ∷ rest) = skipped k rest
 
 drop-clipped : (k : ℕ) (s : List ℕ) → drop k s ≡ drop (min k (length s)) s
-drop-clipped k s =
-    elim (decLe k (length s)) [
-      | yes h ↦ let e : min k (length s) ≡ k = omega arith in rw e
-      | no h ↦ rw (drop-of-length-le s {i = k} (omega arith), drop-of-length-le s {i = min k (length s)} (omega arith))
-    ]
+drop-clipped zero s = rw zero-min
+drop-clipped (suc k) [] = sym (drop-nil (min (suc k) 0))
+drop-clipped (suc k) (b ∷ s) = rw suc-min-suc (drop-clipped k s)
 
 pub take-clipped : (k : ℕ) (s : List ℕ) → take k s ≡ take (min k (length s)) s
-take-clipped k s =
-    elim (decLe k (length s)) [
-      | yes h ↦ let e : min k (length s) ≡ k = omega arith in rw e
-      | no h ↦ rw (take-all k s (omega arith), take-all (min k (length s)) s (omega arith))
-    ]
+take-clipped zero s = rw zero-min
+take-clipped (suc k) [] = sym (take-nil (min (suc k) 0))
+take-clipped (suc k) (b ∷ s) = rw suc-min-suc (ap (_∷_ b) (take-clipped k s))
 
 -- ---- what an option asks for, kind by kind
 
@@ -101,7 +97,8 @@ module _ (s : List ℕ) (at : ℕ) where
   last-step kind k e =
       let own = take (asked 0 (drop (at + 1) s)) (drop (at + 1) s) in
       let ends : min (at + 1 + (length s - (at + 1))) (length s) ≡ length s = omega arith in
-      rw (k, e, asked-last 0 own refl, le-ltb (length own) (length own) (omega arith), asked-last 0 (drop (at + 1) s) refl, length-drop, ends)
+      rw (k, e, asked-last 0 own refl, le-ltb (length own) (length own) (omega arith))
+      (rw (asked-last 0 (drop (at + 1) s) refl, length-drop, ends))
 
 -- It ends behind its kind byte, and within the string.
 pub step-lies
@@ -146,4 +143,5 @@ module _ (s : List ℕ) (at : ℕ) (inside : at < length s) where
       let length-byte : byteAt (take m left) 0 ≡ b = getD-take m left 0 0 (omega arith) ∙ next in
       let size : length (take m left) ≡ min m (length s - (at + 1)) = rw (length-take, length-drop) in
       let ends : at + 1 + m ≡ at + max b 2 = omega arith in
-      rw (asks, asked-sized (byteAt s at) (take m left) n0 n1, length-byte, size, ends, past-places at (length s) b inside, lt-ltb 1 (byteAt s at) (omega arith), byte-places at (length s) b)
+      rw (asks, asked-sized (byteAt s at) (take m left) n0 n1, length-byte, size, ends)
+      (rw (past-places at (length s) b inside, lt-ltb 1 (byteAt s at) (omega arith), byte-places at (length s) b))

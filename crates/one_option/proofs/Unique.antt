@@ -27,7 +27,9 @@ module _ (κs : Lfts 1) (kind : ℕ) (own : RefT (List ℕ)) where
   pub later-mss-one : (m : Mss) → ExactlyOne Mss (λ (r : Mss). later-mss'.Post κs (kind, (own, (m, tt))) r (kind, (own, (m, tt))))
   later-mss-one m = equation (laterMss m (opt kind (now own)))
 
-  pub later-scale-one : (w : Wscale) → ExactlyOne Wscale (λ (r : Wscale). later-scale'.Post κs (kind, (own, (w, tt))) r (kind, (own, (w, tt))))
+  pub later-scale-one
+      : (w : Wscale)
+      → ExactlyOne Wscale (λ (r : Wscale). later-scale'.Post κs (kind, (own, (w, tt))) r (kind, (own, (w, tt))))
   later-scale-one w = equation (laterScale w (opt kind (now own)))
 
   pub later-quirks-one

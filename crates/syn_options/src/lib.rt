@@ -95,6 +95,7 @@ fn step_inside(options: &[u8], at: usize) -> OptionStep
 }
 
 // The walk of at most forty bytes. Each option fills one entry of the layout, so that the entries never outnumber the bytes.
+// MSS, scale and quirks are variables of their own: one struct of them is packed and unpacked at every turn (30 instructions).
 fn walk_part(options: &[u8], stop: bool, syn: bool, quirks: QuirkSet) -> Walked
     requires { ⌜ length (now options) ≤ 40 ⌝ }
     ensures { λ r. ⌜ r ≡ walkFrom stop syn (startWalk quirks) (optionsOf (now (options .entry))) ⌝ }

@@ -30,7 +30,8 @@ lone-requires-2 c κs = search needs
 returns-2 : tie.Need-returns-2
 returns-2 c =
     let a = c .before .before .before .before .before .args in
-    c .lone2 .ensures ∙ last-step (a .options .now) (a .at) (byteAt (a .options .now) (a .at)) (c .before .if2 .taken) (c .before .if2 .taken)
+    c .lone2 .ensures
+    ∙ last-step (a .options .now) (a .at) (byteAt (a .options .now) (a .at)) (c .before .if2 .taken) (c .before .if2 .taken)
 
 lone-requires-3 : tie.Need-lone-requires-3
 lone-requires-3 c κs = search needs
