@@ -104,7 +104,7 @@ of-observable =
 of-one-option : OneOption
 of-one-option =
     record {
-      asked-bytes = λ κs k s. answered tt (one-option.asked-bytes-one κs k s) (λ m. m) refl;
+      option-step = λ κs s at. answered tt (one-option.option-step-one κs s at) (λ m. m) refl;
       later-mss = λ κs k s m. answered tt (one-option.later-mss-one κs k s m) (λ m. m) refl;
       later-scale = λ κs k s w. answered tt (one-option.later-scale-one κs k s w) (λ m. m) refl;
       later-quirks = λ κs k s syn q. answered tt (one-option.later-quirks-one κs k s syn q) (λ m. m) refl;

@@ -12,9 +12,9 @@ use Rattle.observable.specs.Observation.{emptyObservation, windowMultiplier, ow
 use Rattle.observable.proofs.TcpObservation.empty as empty'
 use Rattle.observable.proofs.TcpObservation.window_multiplier as window-multiplier'
 use Rattle.observable.proofs.TcpObservation.own_timestamp_is_nonzero as own-timestamp'
-use Rattle.one_option.specs.Options.{asked}
+use Rattle.one_option.specs.Options.{stepOf}
 use Rattle.one_option.specs.See.{laterMss, laterScale, laterQuirks}
-use Rattle.one_option.proofs.asked_bytes as asked-bytes'
+use Rattle.one_option.proofs.option_step as option-step'
 use Rattle.one_option.proofs.later_mss as later-mss'
 use Rattle.one_option.proofs.later_scale as later-scale'
 use Rattle.one_option.proofs.later_quirks as later-quirks'
@@ -42,10 +42,10 @@ pub record Observable : Type 0 where
       (o, tt) (ownTimestampNonzero o)
 
 pub record OneOption : Type 0 where
-  pub asked-bytes
-      : (κs : Lfts 1) (kind : ℕ) (own : RefT (List ℕ))
-      → Answers asked-bytes'.signature κs (asked-bytes'.Reads.Pre κs) (asked-bytes'.Reads.Post κs)
-      (kind, (own, tt)) (asked kind (now own))
+  pub option-step
+      : (κs : Lfts 1) (options : RefT (List ℕ)) (at : ℕ)
+      → Answers option-step'.signature κs (option-step'.Reads.Pre κs) (option-step'.Reads.Post κs)
+      (options, (at, tt)) (stepOf (now options) at)
   pub later-mss
       : (κs : Lfts 1) (kind : ℕ) (own : RefT (List ℕ)) (m : Mss)
       → Answers later-mss'.signature κs (later-mss'.Reads.Pre κs) (later-mss'.Reads.Post κs)

@@ -8,7 +8,7 @@ use lib.ListN.{length, take, drop, length-take, length-drop}
 use lib.Seq.{getD-drop}
 use Rattle.basis.specs.Bytes.{byteAt, be32}
 use Rattle.one_option.specs.Options.{asked, optionsAfter}
-use Rattle.syn_options.proofs.Walk.{skipped}
+use Rattle.one_option.proofs.Options.{skipped}
 use Rattle.alike.specs.Options.{AlikeStamps, AlikeOption, AlikeRow, AlikeOptions}
 use Rattle.alike.specs.Free.{ZeroAlike, Within, DifferOnly, WalkReaches, Half, FreeStamp}
 use Rattle.alike.proofs.Places.{agrees, be32-agree, be32-take, be32-drop, zero-alike, take-alike, drop-alike, take-byte, drop-byte, take-same}

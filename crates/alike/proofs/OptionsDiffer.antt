@@ -9,7 +9,7 @@ use lib.ListN.{length, take, drop, length-take, length-drop}
 use lib.Seq.{getD-take, getD-drop}
 use Rattle.basis.specs.Bytes.{byteAt, be32}
 use Rattle.one_option.specs.Options.{Opt, asked, optionOf, optionsAfter}
-use Rattle.syn_options.proofs.Walk.{skipped}
+use Rattle.one_option.proofs.Options.{skipped}
 use Rattle.alike.specs.Options.{AlikeStamps, AlikeOption, AlikeRow, AlikeOptions}
 use Rattle.alike.specs.Free.{ZeroAlike, Within, DifferOnly, WalkReaches, Half, FreeStamp}
 use Rattle.alike.proofs.Places.{past-both, be32-take, drop-alike}
