@@ -30,7 +30,7 @@ copy-turn buffer₀ buffer word at i inside more e =
 
 -- ---- room
 
-nothing-written : (buffer : List ℕ) (at : ℕ) → written buffer at [] ≡ buffer
+pub nothing-written : (buffer : List ℕ) (at : ℕ) → written buffer at [] ≡ buffer
 unfolding written
 nothing-written buffer at =
     ap (λ (s : List ℕ). s ++ drop (at + 0) buffer) (append-nil (take at buffer))
@@ -153,16 +153,23 @@ room-after buffer t u at =
     take-after left t u ∙ ap (λ (k : ℕ). take left t ++ take k u) same
 
 -- One text, and another behind it.
+pub all-both
+    : (b b' b'' t u : List ℕ) (at next last : ℕ)
+    → length t ≤ length b - at
+    → PutAll b at t next b'
+    → PutAll b' next u last b''
+    → PutAll b at (t ++ u) last b''
+all-both b b' b'' t u at next last h first second = (
+  omega (arith, first .0, second .0, length-append t u),
+  second .1 ∙ ap₂ (λ (s : List ℕ) (k : ℕ). written s k u) (first .1) (first .0) ∙ after b t at h u,
+)
+
 pub both : (b b' b'' t u : List ℕ) (at next last : ℕ) → Put b at t next b' → Put b' next u last b'' → Put b at (t ++ u) last b''
 unfolding room
 both b b' b'' t u at next last first second =
     let t' = room b at t in
-    let u' = room b' next u in
     let within = room-length b t at in
     let kept : length b' ≡ length b = ap length (first .1) ∙ written-length b t' at within in
-    let same : t' ++ u' ≡ room b at (t ++ u) =
+    let same : t' ++ room b' next u ≡ room b at (t ++ u) =
     ap₂ (λ (k m : ℕ). t' ++ take (k - m) u) kept (first .0) ∙ sym (room-after b t u at) in
-    subst (λ (s : List ℕ). PutAll b at s last b'') same (
-      omega (arith, first .0, second .0, length-append t' u'),
-      second .1 ∙ ap₂ (λ (s : List ℕ) (k : ℕ). written s k u') (first .1) (first .0) ∙ after b t' at within u',
-    )
+    subst (λ (s : List ℕ). PutAll b at s last b'') same (all-both b b' b'' t' (room b' next u) at next last within first second)
