@@ -93,9 +93,9 @@ module _ (n : ℕ) (rest : List ℕ) (ends : (k : ℕ) → digitsRead k rest ≡
       (λ a b. four 0 ∙ omega arith)
       (λ a. five 0 ∙ omega arith)
 
--- The line of a number ends with it.
-pub read-line : (n : ℕ) → n < 100000 → digitsRead 0 (decimal n ++ newline) ≡ n
-read-line n = read-decimal n newline (λ k. refl)
+-- At the end of a line.
+pub read-back : (n : ℕ) → n < 100000 → digitsRead 0 (decimal n ++ newline) ≡ n
+read-back n = read-decimal n newline (λ k. refl)
 
 -- A decimal tells numbers apart.
 pub decimal-one : (m n : ℕ) → m < 100000 → n < 100000 → decimal m ≡ decimal n → m ≡ n
