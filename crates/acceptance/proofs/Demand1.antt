@@ -1,5 +1,6 @@
 -- Demand 1: the uniqueness theorems of the crates, collected.
 use Rattle.numbers.proofs.Unique as numbers
+use Rattle.text.proofs.Unique as text
 use Rattle.quirks.proofs.Unique as quirks
 use Rattle.ttl.proofs.Unique as ttl
 use Rattle.window_size.proofs.Unique as window-size
@@ -18,7 +19,6 @@ use Rattle.found.proofs.Unique as found
 use Rattle.search.proofs.Unique as search
 use Rattle.packet_answer.proofs.Unique as packet-answer
 use Rattle.bundle.proofs.Unique as bundle
-use Rattle.report.specs.declared.Progress.{Progress}
 use Rattle.report.proofs.Unique as report
 use Rattle.report.proofs.Whole.{all-pages, first-page-within, next-page-within}
 use Rattle.gateway.proofs.Unique as gateway
@@ -33,7 +33,7 @@ use Prim.Native.Nat.{ℕ}
 use Rattle.acceptance.specs.Leaves.{Numbers, Quirks, TtlReading, Window, IpOptions}
 use Rattle.acceptance.specs.Reader.{Observable, OneOption, Options, Ip, Flow}
 use Rattle.acceptance.specs.Fitting.{Distances, Matching, Siglist, Held, Search}
-use Rattle.acceptance.specs.GivenOut.{PacketAnswered, Bundle, Report, Gateway}
+use Rattle.acceptance.specs.GivenOut.{Text, PacketAnswered, Bundle, Report, Gateway}
 use Rattle.acceptance.specs.Demand1.{Demand1}
 
 -- A line, from its parts: nothing is asked, the uniqueness theorem, whose promise says which result it is, and nothing can be written.
@@ -192,9 +192,23 @@ of-bundle =
       packet-at = λ κs b at. answered tt (bundle.packet-at-one κs b at) (λ m. m) refl;
     }
 
--- A progress and a page, as their two equations determine them.
-both : {r r' : Progress} {t t' : List ℕ} → (r ≡ r') × (t ≡ t') → _≡_ {A = Progress × List ℕ} (r, t) (r', t')
-both e = ap₂ (λ (r : Progress) (t : List ℕ). (r, t)) (e .0) (e .1)
+-- A result and what a buffer or a page is left with, as their two equations determine them.
+both : {R : Type 0} {r r' : R} {t t' : List ℕ} → (r ≡ r') × (t ≡ t') → _≡_ {A = R × List ℕ} (r, t) (r', t')
+both {R = R} e = ap₂ (λ (r : R) (t : List ℕ). (r, t)) (e .0) (e .1)
+
+of-text : Text
+of-text =
+    record {
+      put-byte = λ κs b at byte.
+          let u = text.put-byte-one b at κs byte in
+          record { asks-nothing = tt; one = u; is = both (u .meets); writes-the-buffer = refl };
+      put-word = λ κs b at word.
+          let u = text.put-word-one b at κs word in
+          record { asks-nothing = tt; one = u; is = both (u .meets); writes-the-buffer = refl };
+      put-decimal = λ κs b at n.
+          let u = text.put-decimal-one b at κs n in
+          record { asks-nothing = tt; one = u; is = both (u .meets); writes-the-buffer = refl };
+    }
 
 of-report : Report
 of-report =
@@ -222,6 +236,7 @@ pub demand1 : Demand1
 demand1 =
     record {
       numbers = of-numbers;
+      text = of-text;
       quirks = of-quirks;
       ttl = of-ttl;
       window = of-window;

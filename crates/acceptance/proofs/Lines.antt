@@ -1,13 +1,12 @@
 -- Every line is read back, so lines that print different things differ; and every word has its letters.
 use mathlib.Core.Path.{_≡_, refl, sym, _∙_, ap}
-use mathlib.Core.Bool.{Bool, true, false, cond}
+use mathlib.Core.Bool.{cond}
 use mathlib.Core.List.{List, [], _∷_, _++_}
 use mathlib.Core.Logic.{_↔_}
-use Prim.Native.Nat.{ℕ, _+_, _*_, _-_, _/_, _%_, _<_, _≤_}
+use Prim.Native.Nat.{ℕ, _<_, _≤_}
 use native.Mathlib.Omega.{arith}
-use lib.Dec.{eqb, ltb}
+use lib.Dec.{eqb}
 use lib.ListN.{drop}
-use borrow.Author.Tests.{ltb-true, le-ltb}
 use Rattle.basis.specs.Bytes.{byteAt}
 use Rattle.tcp.specs.declared.Mss.{Mss}
 use Rattle.ip.specs.declared.Refusal.{Refusal}
@@ -24,72 +23,15 @@ use Rattle.bundle.specs.Bundle.{bundleRefusal}
 use Rattle.gateway.specs.Decode.{AllBytes}
 use Rattle.gateway.proofs.Room.{FoundFits, PacketFits}
 use Rattle.gateway.proofs.Fits.{packet-fits}
-use Rattle.report.specs.Text.{width, decimal, newline, packetsWord, refusedWord, nothingWord, synWord, synackWord, noneWord, exactWord, fuzzyWord, foundText, answerText, lineOf, headLine, refusedLine}
+use Rattle.text.specs.Decimal.{width, decimal, newline}
+use Rattle.text.proofs.Decimal.{digitsRead, read-back}
+use Rattle.report.specs.Text.{packetsWord, refusedWord, nothingWord, synWord, synackWord, noneWord, exactWord, fuzzyWord, foundText, answerText, lineOf, headLine, refusedLine}
 use Rattle.acceptance.specs.Lines.{PrintedFound, Printed, printedFound, printed, TwoBytes, LabelFits, Words, Lines}
 
--- ---- a number, read back from its digits up to the end of the line
-
-abbrev digitsRead : ℕ → List ℕ → ℕ
-digitsRead n [] = n
-digitsRead n (d ∷ rest) = cond (ltb d 48) n (digitsRead (n * 10 + (d - 48)) rest)
-
-more : (n d : ℕ) (rest : List ℕ) → d < 10 → digitsRead n ((48 + d) ∷ rest) ≡ digitsRead (n * 10 + d) rest
-more n d rest h = let back : 48 + d - 48 ≡ d = omega arith in rw (le-ltb (48 + d) 48 (omega arith), back)
-
-digit : (n : ℕ) → n % 10 < 10
-digit n = omega arith
-
-module _ (n : ℕ) where
-  -- The last digits, from one to four, and the end of the line.
-  abbrev last1 : List ℕ
-  last1 = (48 + n % 10) ∷ newline
-
-  abbrev last2 : List ℕ
-  last2 = (48 + n / 10 % 10) ∷ last1
-
-  abbrev last3 : List ℕ
-  last3 = (48 + n / 100 % 10) ∷ last2
-
-  abbrev last4 : List ℕ
-  last4 = (48 + n / 1000 % 10) ∷ last3
-
-  one : (k : ℕ) → digitsRead k last1 ≡ k * 10 + n % 10
-  one k = more k (n % 10) newline (digit n)
-
-  two : (k : ℕ) → digitsRead k last2 ≡ k * 100 + n % 100
-  two k = more k (n / 10 % 10) last1 (digit (n / 10)) ∙ one (k * 10 + n / 10 % 10) ∙ omega arith
-
-  three : (k : ℕ) → digitsRead k last3 ≡ k * 1000 + n % 1000
-  three k = more k (n / 100 % 10) last2 (digit (n / 100)) ∙ two (k * 10 + n / 100 % 10) ∙ omega arith
-
-  four : (k : ℕ) → digitsRead k last4 ≡ k * 10000 + n % 10000
-  four k = more k (n / 1000 % 10) last3 (digit (n / 1000)) ∙ three (k * 10 + n / 1000 % 10) ∙ omega arith
-
-  five : (k : ℕ) → digitsRead k ((48 + n / 10000 % 10) ∷ last4) ≡ k * 100000 + n % 100000
-  five k = more k (n / 10000 % 10) last4 (digit (n / 10000)) ∙ four (k * 10 + n / 10000 % 10) ∙ omega arith
-
-  -- A number of two bytes is read back from its digits.
-  read-decimal : n < 65536 → digitsRead 0 (decimal n ++ newline) ≡ n
-  unfolding decimal width
-  read-decimal h = by-tests (ltb n 10) refl (ltb n 100) refl (ltb n 1000) refl (ltb n 10000) refl
-    where
-      by-tests
-          : (s : Bool)
-          → ltb n 10 ≡ s
-          → (t : Bool)
-          → ltb n 100 ≡ t
-          → (u : Bool)
-          → ltb n 1000 ≡ u
-          → (v : Bool)
-          → ltb n 10000 ≡ v
-          → digitsRead 0 (decimal n ++ newline) ≡ n
-      by-tests true e t f u g v i = rw e (one 0 ∙ (let few = ltb-true n 10 e in omega arith))
-      by-tests false e true f u g v i = rw (e, f) (two 0 ∙ (let few = ltb-true n 100 f in omega arith))
-      by-tests false e false f true g v i = rw (e, f, g) (three 0 ∙ (let few = ltb-true n 1000 g in omega arith))
-      by-tests false e false f false g true i = rw (e, f, g, i) (four 0 ∙ (let few = ltb-true n 10000 i in omega arith))
-      by-tests false e false f false g false i = rw (e, f, g, i) (five 0 ∙ omega arith)
-
 -- ---- a line, read back
+
+read-decimal : (n : ℕ) → n < 65536 → digitsRead 0 (decimal n ++ newline) ≡ n
+read-decimal n h = read-back n (omega arith)
 
 readFound : List ℕ → PrintedFound
 readFound s =

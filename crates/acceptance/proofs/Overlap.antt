@@ -32,7 +32,8 @@ use Rattle.search.specs.Search.{fitAt, candidateAt, rankAt, foundAt, searchRow,
 use Rattle.packet_answer.specs.Packet.{peerOf, answerOf}
 use Rattle.bundle.specs.Bundle.{packetEnd, packetFits, packetsFit, listLies, bundleFits, checkBundle}
 use Rattle.bundle.specs.Answers.{answerAt, packetLies, answersFrom, bundleAnswer}
-use Rattle.report.specs.Text.{width, decimal, foundText, answerText, lineOf, headLine, refusedLine}
+use Rattle.text.specs.Decimal.{width, decimal}
+use Rattle.report.specs.Text.{foundText, answerText, lineOf, headLine, refusedLine}
 use Rattle.report.specs.Pages.{linesOf, outputOf}
 use Rattle.alike.specs.Free.{FreeIpv4, ItemBy, FreePacket}
 use Rattle.alike.proofs.Exact.{free-byte}

@@ -6,10 +6,11 @@
 use Rattle.acceptance.specs.Leaves.{Numbers, Quirks, TtlReading, Window, IpOptions}
 use Rattle.acceptance.specs.Reader.{Observable, OneOption, Options, Ip, Flow}
 use Rattle.acceptance.specs.Fitting.{Distances, Matching, Siglist, Held, Search}
-use Rattle.acceptance.specs.GivenOut.{PacketAnswered, Bundle, Report, Gateway}
+use Rattle.acceptance.specs.GivenOut.{Text, PacketAnswered, Bundle, Report, Gateway}
 
 pub record Demand1 : Type 0 where
   pub numbers : Numbers
+  pub text : Text
   pub quirks : Quirks
   pub ttl : TtlReading
   pub window : Window

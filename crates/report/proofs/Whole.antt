@@ -13,7 +13,8 @@ use Rattle.bundle.specs.Bundle.{packetCount, packetsOffset, packetEnd, checkBun
 use Rattle.bundle.specs.Answers.{answerAt, packetLies, answersFrom, afterBundleCheck, bundleAnswer}
 use Rattle.report.specs.Text.{packetsWord, refusedWord, lineOf, headLine, refusedLine}
 use Rattle.report.specs.declared.Progress.{Progress}
-use Rattle.report.proofs.Writing.{line-length, numbered-length, written-length}
+use Rattle.text.proofs.Writing.{written-length}
+use Rattle.report.proofs.Writing.{line-length, numbered-length}
 use Rattle.report.specs.Pages.{Page, Paged, pageSize, pageFrom, linesOf, textOf, outputOf, outputOfInput, firstOf, firstPage, nextPage, laterPages, allPages}
 
 -- The lines of the packets that a page leaves.

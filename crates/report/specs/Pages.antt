@@ -4,8 +4,8 @@ use Prim.Native.Nat.{ℕ, zero, suc, _+_}
 use mathlib.Core.Bool.{Bool, cond}
 use mathlib.Core.List.{List, [], _∷_, _++_}
 use lib.Dec.{leb}
-use lib.ListN.{length, take, drop}
-use denote.Ref.{RefT}
+use lib.ListN.{length}
+use Rattle.text.specs.Written.{written, PutAll}
 use Rattle.bundle.specs.declared.BundleCheck.{BundleCheck}
 use Rattle.bundle.specs.declared.BundleCheck.the-variants as check
 use Rattle.packet_answer.specs.declared.PacketAnswer.{PacketAnswer}
@@ -39,10 +39,6 @@ outputOfInput b longer = cond longer (refusedLine 12) (outputOf b)
 -- The bytes of a page: `PAGE`.
 abbrev pub pageSize : ℕ
 pageSize = 4096
-
--- A page's bytes from a place on are written over.
-unfoldable pub written : List ℕ → ℕ → List ℕ → List ℕ
-written page at text = take at page ++ text ++ drop (at + length text) page
 
 -- What a page takes: its text, and the packets that are left, by their number and the place of the first.
 pub record Page : Type 0 where
@@ -91,13 +87,9 @@ firstPage b longer = cond longer (refusedPage 12) (firstOf (checkBundle b) b)
 abbrev pub progressOf : Page → Progress
 progressOf p = record { filled = length (p .text); left = p .left; at = p .at }
 
--- A text was put at a place: the place behind it, and the page.
-abbrev pub Put : List ℕ → ℕ → List ℕ → ℕ → List ℕ → Type 0
-Put page at text next page' = (next ≡ at + length text) × (page' ≡ written page at text)
-
 -- A page's text was put behind what filled the page before.
 abbrev pub Filled : List ℕ → ℕ → Page → Progress → List ℕ → Type 0
-Filled page filled p r page' = Put page filled (p .text) (r .filled) page' × (r .left ≡ p .left) × (r .at ≡ p .at)
+Filled page filled p r page' = PutAll page filled (p .text) (r .filled) page' × (r .left ≡ p .left) × (r .at ≡ p .at)
 
 -- A page's text was put at the start of the page, and the progress is the page's.
 abbrev pub Paged : List ℕ → Page → Progress → List ℕ → Type 0
@@ -114,9 +106,3 @@ laterPages b (suc pages) left at =
 -- The pages that a program writes which asks for as many later ones as the first leaves packets.
 unfoldable pub allPages : List ℕ → Bool → List ℕ
 allPages b longer = firstPage b longer .text ++ laterPages b (firstPage b longer .left) (firstPage b longer .left) (firstPage b longer .at)
-
--- ---- the caller's page
-
--- A page is left with other bytes: the same reference.
-abbrev pub left-with : RefT (List ℕ) → List ℕ → RefT (List ℕ)
-left-with page bytes = record { ptr = page .ptr; name = page .name; now = bytes }

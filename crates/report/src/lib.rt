@@ -7,11 +7,11 @@ use bundle::PacketAt;
 use bundle::bundle_refusal;
 use bundle::check_bundle;
 use bundle::packet_at;
+use lines::put_line;
+use lines::put_numbered;
 use numbers::be16;
-use text::put_line;
-use text::put_numbered;
 
-mod text;
+mod lines;
 
 // How far the output of a bundle is: the bytes of the page, and the packets that are left, by their number and the place of the
 // first.

@@ -1,6 +1,8 @@
 use Rattle.report.proofs.Turns.{filled-full, no-room, no-packet, one-line, no-more}
 use Rattle.report.proofs.Writing.{line-length}
-use Rattle.report.specs.Pages.{Put, Filled, pageSize, pageFrom}
+use Rattle.text.specs.Written.{PutAll}
+use Rattle.text.proofs.Writing.{put-all}
+use Rattle.report.specs.Pages.{Filled, pageSize, pageFrom}
 use Rattle.report.specs.Text.{lineOf}
 use Rattle.report.specs.declared.Progress.{Progress}
 use Rattle.bundle.proofs.Packets.{packet-there, none-there}
@@ -60,11 +62,12 @@ loop-again c =
     let found = packet-there (a .bundle .now) (l .at) _ _ (sym (c .before .before .before .before .before .packet-at .ensures) ∙ c .before .before .before .answer .given .1) in
     let line = answerAt (a .bundle .now) (l .at) in
     let room : 19 ≤ pageSize - l .filled = omega (arith, c .before .before .before .before .before .before .if1 .left) in
-    let done : Put (l .page) (l .filled) (lineOf line) (put .result) (put .last .0) = rw (sym (found .answer)) (put .ensures) in
     let whole : length (l .page) ≡ pageSize = search needs in
+    let done : PutAll (l .page) (l .filled) (lineOf line) (put .result) (put .last .0) =
+    put-all _ _ _ _ _ (omega (arith, line-length line)) (rw (sym (found .answer)) (put .ensures)) in
     let next : l .filled + length (lineOf line) ≤ pageSize = omega (arith, line-length line) in (
       rw (done .0) next,
-      λ r p h. l .inv .1 r p (one-line (a .bundle .now) (l .page) (l .filled) (l .at) (l .left) (c .before .before .before .before .before .before .before .loop-test .taken) room (found .lies) (rw whole (l .inv .0)) (put .last .0) p (put .result) r done (rw (sym (found .ends)) h)),
+      λ r p h. l .inv .1 r p (one-line (a .bundle .now) (l .page) (l .filled) (l .at) (l .left) (c .before .before .before .before .before .before .before .loop-test .taken) room (found .lies) whole (put .last .0) p (put .result) r done (rw (sym (found .ends)) h)),
     )
 
 returns-3 : tie.Need-returns-3 Inv-loop μ-loop

@@ -1,6 +1,7 @@
 use mathlib.Core.Path.{_∙_}
 use native.Mathlib.Nat.{zero-add}
-use Rattle.report.specs.Text.{refusedLine}
+use Rattle.report.specs.Text.{refusedWord, refusedLine}
+use Rattle.report.proofs.Writing.{numbered-put}
 use borrow.Author.Needs.{needs}
 use Rattle.report.proofs.refused_page.Statement.{statement}
 use Rattle.report.proofs.refused_page.Tie as tie
@@ -13,7 +14,9 @@ put-numbered-requires c κs = search needs
 
 returns : tie.Need-returns
 unfolding refusedLine
-returns c = let p = c .put-numbered .ensures in (rw (p .0 ∙ zero-add _), p .1)
+returns c =
+    let p = numbered-put _ _ refusedWord _ _ _ (search needs) (c .put-numbered .ensures) in
+    (rw (p .0 ∙ zero-add _), p .1)
 
 pub refused-page-spec : {M : Type 1} → statement M
 refused-page-spec =

@@ -1,19 +1,18 @@
 use mathlib.Core.Path.{sym}
-use native.Mathlib.Omega.{arith}
 use Rattle.report.proofs.Writing.{found-lined}
 use Rattle.report.specs.Text.{answerText, lineOf}
 use borrow.Author.Needs.{needs}
-use Rattle.report.proofs.text.put_line.Statement.{statement}
-use Rattle.report.proofs.text.put_line.Tie as tie
+use Rattle.report.proofs.lines.put_line.Statement.{statement}
+use Rattle.report.proofs.lines.put_line.Tie as tie
 
 enum-known-answer : tie.Need-enum-known-answer
 enum-known-answer c = search needs
 
-slice-aggregate-put : tie.Need-slice-aggregate-put
-slice-aggregate-put c = search needs
+slice-aggregate-put-word : tie.Need-slice-aggregate-put-word
+slice-aggregate-put-word c = search needs
 
-put-requires : tie.Need-put-requires
-put-requires c κs = search needs
+put-word-requires : tie.Need-put-word-requires
+put-word-requires c κs = search needs
 
 put-found-requires : tie.Need-put-found-requires
 put-found-requires c κs = search needs
@@ -21,11 +20,11 @@ put-found-requires c κs = search needs
 enum-known-answer-2 : tie.Need-enum-known-answer-2
 enum-known-answer-2 c = search needs
 
-slice-aggregate-put-2 : tie.Need-slice-aggregate-put-2
-slice-aggregate-put-2 c = search needs
+slice-aggregate-put-word-2 : tie.Need-slice-aggregate-put-word-2
+slice-aggregate-put-word-2 c = search needs
 
-put-requires-2 : tie.Need-put-requires-2
-put-requires-2 c κs = search needs
+put-word-requires-2 : tie.Need-put-word-requires-2
+put-word-requires-2 c κs = search needs
 
 put-found-requires-2 : tie.Need-put-found-requires-2
 put-found-requires-2 c κs = search needs
@@ -33,11 +32,11 @@ put-found-requires-2 c κs = search needs
 enum-told : tie.Need-enum-told
 enum-told c = search needs
 
-slice-aggregate-put-3 : tie.Need-slice-aggregate-put-3
-slice-aggregate-put-3 c = search needs
+slice-aggregate-put-word-3 : tie.Need-slice-aggregate-put-word-3
+slice-aggregate-put-word-3 c = search needs
 
-put-requires-3 : tie.Need-put-requires-3
-put-requires-3 c κs = search needs
+put-word-requires-3 : tie.Need-put-word-requires-3
+put-word-requires-3 c κs = search needs
 
 enum-known-answer-3 : tie.Need-enum-known-answer-3
 enum-known-answer-3 c = search needs
@@ -59,44 +58,53 @@ same-length c = search needs
 
 returns : tie.Need-returns
 unfolding lineOf answerText
-returns c = rw (c .before .before .before .before .before .before .before .before .before .before .answer .given .1) (found-lined _ _ _ _ _ _ _ _ (omega arith) (c .before .before .before .before .before .before .put .ensures) (c .before .before .put-found .ensures))
+returns c =
+    let word = c .before .before .before .before .before .before in
+    rw (word .before .before .before .before .answer .given .1)
+    (found-lined _ _ _ _ _ _ _ _ (word .put-word .ensures) (c .before .before .put-found .ensures))
 
 same-length-2 : tie.Need-same-length-2
 same-length-2 c = search needs
 
 returns-2 : tie.Need-returns-2
 unfolding lineOf answerText
-returns-2 c = rw (c .before .before .before .before .before .before .before .before .before .before .answer2 .given .1) (found-lined _ _ _ _ _ _ _ _ (omega arith) (c .before .before .before .before .before .before .put2 .ensures) (c .before .before .put-found2 .ensures))
+returns-2 c =
+    let word = c .before .before .before .before .before .before in
+    rw (word .before .before .before .before .answer2 .given .1)
+    (found-lined _ _ _ _ _ _ _ _ (word .put-word2 .ensures) (c .before .before .put-found2 .ensures))
 
 same-length-3 : tie.Need-same-length-3
 same-length-3 c = search needs
 
 returns-3 : tie.Need-returns-3
 unfolding lineOf answerText
-returns-3 c = rw (c .before .before .before .before .before .enum-told .given .1) (c .before .before .put3 .ensures)
+returns-3 c = rw (c .before .before .before .before .before .enum-told .given .1) (c .before .before .put-word3 .ensures)
 
 same-length-4 : tie.Need-same-length-4
 same-length-4 c = search needs
 
 returns-4 : tie.Need-returns-4
 unfolding lineOf answerText
-returns-4 c = rw (c .before .before .before .before .before .before .before .answer3 .given .1, sym (c .before .before .before .refusal-number .ensures)) (c .before .before .put-numbered .ensures)
+returns-4 c =
+    let number = c .before .before .before in
+    rw (number .before .before .before .before .answer3 .given .1, sym (number .refusal-number .ensures))
+    (c .before .before .put-numbered .ensures)
 
 pub put-line-spec : {M : Type 1} → statement M
 put-line-spec =
     tie.close
     (tie.spec
     enum-known-answer
-    slice-aggregate-put
-    put-requires
+    slice-aggregate-put-word
+    put-word-requires
     put-found-requires
     enum-known-answer-2
-    slice-aggregate-put-2
-    put-requires-2
+    slice-aggregate-put-word-2
+    put-word-requires-2
     put-found-requires-2
     enum-told
-    slice-aggregate-put-3
-    put-requires-3
+    slice-aggregate-put-word-3
+    put-word-requires-3
     enum-known-answer-3
     slice-aggregate-put-numbered
     refusal-number-requires

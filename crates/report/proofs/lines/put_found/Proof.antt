@@ -1,16 +1,16 @@
 use Rattle.report.specs.Text.{foundText}
 use borrow.Author.Needs.{needs}
-use Rattle.report.proofs.text.put_found.Statement.{statement}
-use Rattle.report.proofs.text.put_found.Tie as tie
+use Rattle.report.proofs.lines.put_found.Statement.{statement}
+use Rattle.report.proofs.lines.put_found.Tie as tie
 
 enum-told : tie.Need-enum-told
 enum-told c = search needs
 
-slice-aggregate-put : tie.Need-slice-aggregate-put
-slice-aggregate-put c = search needs
+slice-aggregate-put-word : tie.Need-slice-aggregate-put-word
+slice-aggregate-put-word c = search needs
 
-put-requires : tie.Need-put-requires
-put-requires c κs = search needs
+put-word-requires : tie.Need-put-word-requires
+put-word-requires c κs = search needs
 
 enum-known-found : tie.Need-enum-known-found
 enum-known-found c = search needs
@@ -35,7 +35,7 @@ same-length c = search needs
 
 returns : tie.Need-returns
 unfolding foundText
-returns c = rw (c .before .before .before .before .before .enum-told .given .1) (c .before .before .put .ensures)
+returns c = rw (c .before .before .before .before .before .enum-told .given .1) (c .before .before .put-word .ensures)
 
 same-length-2 : tie.Need-same-length-2
 same-length-2 c = search needs
@@ -56,8 +56,8 @@ put-found-spec =
     tie.close
     (tie.spec
     enum-told
-    slice-aggregate-put
-    put-requires
+    slice-aggregate-put-word
+    put-word-requires
     enum-known-found
     slice-aggregate-put-numbered
     put-numbered-requires

@@ -1,8 +1,8 @@
 use borrow.Author.Needs.{needs}
 use Rattle.basis.proofs.Rules.{cases}
-use Rattle.report.specs.Text.{width}
-use Rattle.report.proofs.text.width.Statement.{statement}
-use Rattle.report.proofs.text.width.Tie as tie
+use Rattle.text.specs.Decimal.{width}
+use Rattle.text.proofs.width.Statement.{statement}
+use Rattle.text.proofs.width.Tie as tie
 
 returns : tie.Need-returns
 unfolding width
