@@ -8,12 +8,10 @@ use native.Mathlib.Nat.{add-zero, zero-add}
 use lib.ListN.{length, take, take-append-drop}
 use borrow.Author.Tests.{le-leb, lt-leb}
 use Rattle.report.specs.declared.Progress.{Progress}
-use Rattle.bundle.specs.declared.BundleCheck.{BundleCheck}
-use Rattle.bundle.specs.declared.BundleCheck.the-variants as check
-use Rattle.bundle.specs.Bundle.{packetCount, packetsOffset, packetEnd, bundleRefusal}
+use Rattle.bundle.specs.Bundle.{packetCount, packetsOffset, packetEnd}
 use Rattle.bundle.specs.Answers.{answerAt, packetLies}
 use Rattle.report.specs.Text.{packetsWord, decimal, newline, lineOf, headLine}
-use Rattle.report.specs.Pages.{written, Put, Filled, Paged, Page, pageSize, pageFrom, fullPage, behind, refusedPage, headPage, firstOf}
+use Rattle.report.specs.Pages.{written, Put, Filled, Paged, Page, pageSize, pageFrom, fullPage, behind, headPage}
 use Rattle.report.proofs.Writing.{both}
 
 -- Nothing more is put.
@@ -81,12 +79,3 @@ module _ (b page page' page'' : List ℕ) (n offset filled : ℕ) (r : Progress)
         rest .1,
         rest .2,
       ))
-
--- ---- a check by its number
-
-pub refused : (c : BundleCheck) (b : List ℕ) → (bundleRefusal c ≡ 0 → ⊥) → firstOf c b ≡ refusedPage (bundleRefusal c)
-unfolding bundleRefusal
-refused check.Good b some = absurd (some refl)
-refused check.DoesNotFit b some = refl
-refused check.ListDoesNotFit b some = refl
-refused (check.BadRecord i) b some = refl

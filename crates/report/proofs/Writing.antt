@@ -8,7 +8,7 @@ use native.Mathlib.Nat.{add-assoc}
 use lib.ListN.{length, take, drop, getD, set, length-append, length-drop}
 use lib.Seq.{paste, paste-suc, take-all, take-at, drop-append-add, drop-drop, length-take-le}
 use Rattle.report.specs.Pages.{written, Put}
-use Rattle.ip.specs.Numbers.{number}
+use Rattle.refusals.specs.Refusals.{packetNumber}
 use Rattle.found.specs.declared.Found.{Found}
 use Rattle.found.specs.declared.Found.the-variants as found
 use Rattle.packet_answer.specs.declared.PacketAnswer.{PacketAnswer}
@@ -68,7 +68,7 @@ unfolding answerText
 answer-length (packet.Syn f) = omega (arith, length-append synWord (foundText f), found-length f)
 answer-length (packet.SynAck f) = omega (arith, length-append synackWord (foundText f), found-length f)
 answer-length packet.Nothing = omega arith
-answer-length (packet.Refused r) = omega (arith, length-append refusedWord (decimal (number r)), decimal-length (number r))
+answer-length (packet.Refused r) = omega (arith, length-append refusedWord (decimal (packetNumber r)), decimal-length (packetNumber r))
 
 pub line-length : (a : PacketAnswer) → length (lineOf a) ≤ 19
 unfolding lineOf

@@ -4,7 +4,7 @@ use mathlib.Core.Bool.{cond}
 use mathlib.Core.List.{List, [], _∷_, _++_}
 use lib.Dec.{ltb}
 use lib.ListN.{drop}
-use Rattle.ip.specs.Numbers.{number}
+use Rattle.refusals.specs.Refusals.{packetNumber}
 use Rattle.found.specs.declared.Found.{Found}
 use Rattle.found.specs.declared.Found.the-variants as found
 use Rattle.packet_answer.specs.declared.PacketAnswer.{PacketAnswer}
@@ -74,7 +74,7 @@ unfoldable pub answerText : PacketAnswer → List ℕ
 answerText (packet.Syn f) = synWord ++ foundText f
 answerText (packet.SynAck f) = synackWord ++ foundText f
 answerText packet.Nothing = nothingWord
-answerText (packet.Refused r) = refusedWord ++ decimal (number r)
+answerText (packet.Refused r) = refusedWord ++ decimal (packetNumber r)
 
 unfoldable pub lineOf : PacketAnswer → List ℕ
 lineOf a = answerText a ++ newline

@@ -6,8 +6,9 @@ ghost use lib.ListN.{length};
 ghost use Rattle.report.specs.Pages.{written};
 ghost use Rattle.report.specs.Text.{width, decimal, foundText, lineOf, newline};
 use found::Found;
-use ip::refusal_number;
 use packet_answer::PacketAnswer;
+use refusals::Refusal;
+use refusals::refusal_number;
 
 fn put(page: &mut [u8], at: usize, word: &[u8]) -> usize
     requires { ⌜ at + length (now word) ≤ length (now page) ⌝ }
@@ -97,8 +98,11 @@ pub(crate) fn put_line(page: &mut [u8], at: usize, answer: PacketAnswer) -> usiz
             put_found(page, next, found)
         }
         PacketAnswer::Nothing => put(page, at, b"nothing\n"),
-        PacketAnswer::Refused(refusal) => {
-            put_numbered(page, at, b"refused ", refusal_number(refusal) as u16)
-        }
+        PacketAnswer::Refused(refusal) => put_numbered(
+            page,
+            at,
+            b"refused ",
+            refusal_number(Refusal::Packet(refusal)) as u16,
+        ),
     }
 }
