@@ -14,8 +14,9 @@ use Rattle.tcp.specs.declared.Mss.{Mss}
 use Rattle.ip.specs.declared.IpFacts.{IpFacts}
 use Rattle.ip.specs.declared.IpRead.{IpRead}
 use Rattle.ip.specs.declared.IpRead.the-variants as ip
-use Rattle.ip.specs.declared.Refusal.{Refusal}
-use Rattle.ip.specs.declared.Refusal.the-variants as refusal
+use Rattle.refusals.specs.declared.PacketRefusal.{PacketRefusal}
+use Rattle.refusals.specs.declared.PacketRefusal.the-variants as refusal
+use Rattle.refusals.specs.Refusals.{packetValue}
 use Rattle.ip.specs.Ip.{readIpv4, readIpv6, readIp}
 use Rattle.flow.specs.declared.Answer.{Answer}
 use Rattle.flow.specs.declared.Answer.the-variants as reading
@@ -24,7 +25,6 @@ use Rattle.flow.specs.Flags.{flagsInvalid, isSynType, isSynAckType}
 use Rattle.flow.specs.Tcp.{readTcp}
 use Rattle.flow.specs.Reading.{tcpPart, afterIp, readPacket}
 use Rattle.gateway.specs.Decode.{AllBytes}
-use Rattle.gateway.proofs.Room.{RefusalFits}
 
 -- ---- byte strings
 
@@ -54,7 +54,7 @@ two-bytes s i h = pair (byteAt s i) (byteAt s (i + 1)) (h i) (h (i + 1))
 
 -- A refusal of the IP stage fits.
 data IpFits : IpRead → Type 0 where
-  refused : (r : Refusal) → RefusalFits r → IpFits (ip.Refused r)
+  refused : (r : PacketRefusal) → packetValue r < 256 → IpFits (ip.Refused r)
   facts : {f : IpFacts} → IpFits (ip.Facts f)
 
 -- Whichever way a test goes.
@@ -66,26 +66,26 @@ over false hx hy = hy
 ipv4-fits : (p : List ℕ) → IpFits (readIpv4 p)
 unfolding readIpv4
 ipv4-fits p =
-    over (ltb (length p) 20) (refused refusal.TooShort tt)
-    (over (ltb (v4.ihl p) 5) (refused refusal.HeaderLength tt)
-    (over (not (eqb (v4.protocol p) 6)) (refused refusal.UnsupportedProtocol tt)
-    (over (ltb 0 (v4.fragmentOffset p) || eqb (v4.moreFragments p) 1) (refused refusal.Fragment tt)
-    (over (ltb (length (part (v4.dataStart p) (v4.dataEnd p) p)) 20) (refused refusal.TcpTooShort tt) facts))))
+    over (ltb (length p) 20) (refused refusal.TooShort (omega arith))
+    (over (ltb (v4.ihl p) 5) (refused refusal.HeaderLength (omega arith))
+    (over (not (eqb (v4.protocol p) 6)) (refused refusal.UnsupportedProtocol (omega arith))
+    (over (ltb 0 (v4.fragmentOffset p) || eqb (v4.moreFragments p) 1) (refused refusal.Fragment (omega arith))
+    (over (ltb (length (part (v4.dataStart p) (v4.dataEnd p) p)) 20) (refused refusal.TcpTooShort (omega arith)) facts))))
 
 ipv6-fits : (p : List ℕ) → IpFits (readIpv6 p)
 unfolding readIpv6
 ipv6-fits p =
-    over (ltb (length p) 40) (refused refusal.TooShort tt)
-    (over (not (eqb (v6.nextHeader p) 6)) (refused refusal.UnsupportedProtocol tt)
-    (over (ltb (length (v6.payload p)) 20) (refused refusal.TcpTooShort tt) facts))
+    over (ltb (length p) 40) (refused refusal.TooShort (omega arith))
+    (over (not (eqb (v6.nextHeader p) 6)) (refused refusal.UnsupportedProtocol (omega arith))
+    (over (ltb (length (v6.payload p)) 20) (refused refusal.TcpTooShort (omega arith)) facts))
 
 -- Nor has one of either version.
 ip-fits : (p : List ℕ) → IpFits (readIp p)
 unfolding readIp
 ip-fits p =
-    over (eqb (length p) 0) (refused refusal.Version tt)
+    over (eqb (length p) 0) (refused refusal.Version (omega arith))
     (over (eqb (v4.version p) 4) (ipv4-fits p)
-    (over (eqb (v4.version p) 6) (ipv6-fits p) (refused refusal.Version tt)))
+    (over (eqb (v4.version p) 6) (ipv6-fits p) (refused refusal.Version (omega arith))))
 
 -- ---- the TCP stage
 
@@ -94,7 +94,7 @@ abbrev pub RefusedFits : Answer → Type 0
 RefusedFits reading.Syn = Unit {0}
 RefusedFits reading.SynAck = Unit {0}
 RefusedFits reading.Nothing = Unit {0}
-RefusedFits (reading.Refused r) = RefusalFits r
+RefusedFits (reading.Refused r) = packetValue r < 256
 
 -- A reading's refusal, if it is one, fits.
 record ReadingFits (r : Reading) : Type 0 where
