@@ -14,6 +14,7 @@ use Rattle.matching.specs.declared.Features.{Features}
 use Rattle.matching.specs.declared.SignatureFit.{SignatureFit}
 use Rattle.matching.specs.declared.SignatureFit.the-variants as fit
 use Rattle.matching.specs.Fit.{featuresOf, fitOf}
+use Rattle.refusals.specs.Refusals.{listValue}
 use Rattle.siglist.specs.declared.ListAnswer.{ListAnswer}
 use Rattle.siglist.specs.declared.ListAnswer.the-variants as list
 use Rattle.sigrecord.specs.Record.{signatureOf, entryCount, labelOf}
@@ -81,8 +82,7 @@ packet-fits p peer l hp hl = judged-fits (readPacket p peer .answer) (readPacket
 -- The index of a bad record fits two bytes.
 abbrev ListFits : ListAnswer → Type 0
 ListFits list.Good = Unit {0}
-ListFits list.DoesNotFit = Unit {0}
-ListFits (list.BadRecord i) = i < 65536
+ListFits (list.Refused r) = listValue r < 65536
 
 -- The first bad record is one of the list's, and these are counted by two bytes.
 checked-fits : {a : ListAnswer} (l : List ℕ) (n : ℕ) → n < 65536 → Checked l 0 n a → ListFits a
@@ -95,7 +95,7 @@ list-fits l h = by-test (listFits l) refl
   where
     by-test : (t : Bool) → listFits l ≡ t → ListFits (checkList l)
     by-test true e = checked-fits l (recordCount l) (two-bytes l 0 h) (first-bad-named l e)
-    by-test false e = rw (does-not-fit l e) tt
+    by-test false e = rw (does-not-fit l e) (omega arith)
 
 -- The answer after the list is checked.
 after-list
@@ -105,8 +105,7 @@ after-list
     → ListFits a
     → AnswerFits (afterList a p peer l)
 after-list list.Good p peer l hp hl fits = packet-fits p peer l hp hl
-after-list list.DoesNotFit p peer l hp hl fits = tt
-after-list (list.BadRecord i) p peer l hp hl fits = fits
+after-list (list.Refused r) p peer l hp hl fits = fits
 
 -- ---- the laws
 

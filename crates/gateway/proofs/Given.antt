@@ -10,9 +10,9 @@ use Rattle.rfc.specs.Rfc9293.{control}
 use Rattle.tcp.specs.declared.Mss.{Mss}
 use Rattle.ip.specs.declared.IpFacts.{IpFacts}
 use Rattle.ip.specs.declared.IpRead.{IpRead}
-use Rattle.ip.specs.declared.Refusal.{Refusal}
-use Rattle.ip.specs.declared.Refusal.the-variants as refusal
-use Rattle.ip.specs.Numbers.{number}
+use Rattle.refusals.specs.declared.PacketRefusal.{PacketRefusal}
+use Rattle.refusals.specs.declared.PacketRefusal.the-variants as refusal
+use Rattle.refusals.specs.Refusals.{packetNumber, packetValue}
 use Rattle.ip.proofs.Ip.{Given, given}
 use Rattle.flow.specs.declared.Answer.{Answer}
 use Rattle.flow.specs.declared.Answer.the-variants as reading
@@ -21,7 +21,6 @@ use Rattle.flow.specs.Flags.{flagsInvalid, isSynType, isSynAckType}
 use Rattle.flow.specs.Tcp.{readTcp}
 use Rattle.flow.specs.Reading.{tcpPart, afterIp, readPacket}
 use Rattle.gateway.specs.Decode.{AllBytes}
-use Rattle.gateway.proofs.Room.{RefusalFits}
 
 -- ---- byte strings
 
@@ -50,15 +49,16 @@ two-bytes s i h = pair (byteAt s i) (byteAt s (i + 1)) (h i) (h (i + 1))
 -- ---- the IP stage
 
 -- No refusal of the IP stage gives a number beside its own.
-small-fits : (r : Refusal) → number r < 7 → RefusalFits r
-unfolding number
-small-fits refusal.Version small = tt
-small-fits refusal.TooShort small = tt
-small-fits refusal.HeaderLength small = tt
-small-fits refusal.UnsupportedProtocol small = tt
-small-fits refusal.Fragment small = tt
-small-fits refusal.TcpTooShort small = tt
+small-fits : (r : PacketRefusal) → packetNumber r < 7 → packetValue r < 256
+small-fits refusal.Version small = omega arith
+small-fits refusal.TooShort small = omega arith
+small-fits refusal.HeaderLength small = omega arith
+small-fits refusal.UnsupportedProtocol small = omega arith
+small-fits refusal.Fragment small = omega arith
+small-fits refusal.TcpTooShort small = omega arith
 small-fits (refusal.InvalidTcpFlags flags) small = absurd (omega arith)
+small-fits refusal.DataOffset small = omega arith
+small-fits refusal.ExtensionHeaders small = omega arith
 
 -- ---- the TCP stage
 
@@ -67,7 +67,7 @@ abbrev pub RefusedFits : Answer → Type 0
 RefusedFits reading.Syn = Unit {0}
 RefusedFits reading.SynAck = Unit {0}
 RefusedFits reading.Nothing = Unit {0}
-RefusedFits (reading.Refused r) = RefusalFits r
+RefusedFits (reading.Refused r) = packetValue r < 256
 
 -- A reading's refusal, if it is one, fits.
 record ReadingFits (r : Reading) : Type 0 where

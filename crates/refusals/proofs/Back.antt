@@ -40,6 +40,32 @@ same r s n e =
     sym (back r) ∙ ap (λ (m : ℕ). refusalFrom m (valueOf (returned r))) n
     ∙ ap (λ (x : Returned). refusalFrom (number s) (valueOf x)) e ∙ back s
 
+-- Every refusal has a number, of one byte.
+pub numbered : (r : Refusal) → (0 < number r) × (number r < 256)
+numbered (refusal.Packet packet.Version) = (omega arith, omega arith)
+numbered (refusal.Packet packet.TooShort) = (omega arith, omega arith)
+numbered (refusal.Packet packet.HeaderLength) = (omega arith, omega arith)
+numbered (refusal.Packet packet.UnsupportedProtocol) = (omega arith, omega arith)
+numbered (refusal.Packet packet.Fragment) = (omega arith, omega arith)
+numbered (refusal.Packet packet.TcpTooShort) = (omega arith, omega arith)
+numbered (refusal.Packet (packet.InvalidTcpFlags byte)) = (omega arith, omega arith)
+numbered (refusal.Packet packet.DataOffset) = (omega arith, omega arith)
+numbered (refusal.Packet packet.ExtensionHeaders) = (omega arith, omega arith)
+numbered refusal.OptionsTooLong = (omega arith, omega arith)
+numbered (refusal.List list.DoesNotFit) = (omega arith, omega arith)
+numbered (refusal.List (list.BadRecord i)) = (omega arith, omega arith)
+numbered refusal.LayoutTooLong = (omega arith, omega arith)
+numbered refusal.BundleDoesNotFit = (omega arith, omega arith)
+numbered (refusal.BadLine at) = (omega arith, omega arith)
+numbered refusal.BufferTooShort = (omega arith, omega arith)
+numbered refusal.NoRoomForKey = (omega arith, omega arith)
+numbered refusal.NotACapture = (omega arith, omega arith)
+numbered refusal.FrameTooLong = (omega arith, omega arith)
+numbered refusal.CaptureEndsEarly = (omega arith, omega arith)
+numbered refusal.RowTooShort = (omega arith, omega arith)
+numbered refusal.RowDiffers = (omega arith, omega arith)
+numbered refusal.NoSuchRecord = (omega arith, omega arith)
+
 -- What holds of an answer's refusal, if it is one.
 abbrev pub IfRefused : (Refusal → Type 0) → Verdict → Type 0
 IfRefused P Verdict.accepted = Unit {0}

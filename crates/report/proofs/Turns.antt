@@ -8,15 +8,13 @@ use native.Mathlib.Nat.{zero-add}
 use lib.ListN.{length}
 use borrow.Author.Tests.{le-leb, lt-leb}
 use Rattle.report.specs.declared.Progress.{Progress}
-use Rattle.bundle.specs.declared.BundleCheck.{BundleCheck}
-use Rattle.bundle.specs.declared.BundleCheck.the-variants as check
-use Rattle.bundle.specs.Bundle.{packetCount, packetsOffset, packetEnd, bundleRefusal}
+use Rattle.bundle.specs.Bundle.{packetCount, packetsOffset, packetEnd}
 use Rattle.bundle.specs.Answers.{answerAt, packetLies}
 use Rattle.text.specs.Decimal.{decimal, newline}
 use Rattle.text.specs.Written.{written, PutAll}
 use Rattle.text.proofs.Writing.{nothing-written, all-both}
 use Rattle.report.specs.Text.{packetsWord, lineOf, headLine}
-use Rattle.report.specs.Pages.{Filled, Paged, Page, pageSize, pageFrom, fullPage, behind, refusedPage, headPage, firstOf}
+use Rattle.report.specs.Pages.{Filled, Paged, Page, pageSize, pageFrom, fullPage, behind, headPage}
 use Rattle.report.proofs.Writing.{line-length, numbered-length}
 
 -- Nothing more is put.
@@ -79,12 +77,3 @@ module _ (b page page' page'' : List ℕ) (n offset filled : ℕ) (r : Progress)
         rest .1,
         rest .2,
       ))
-
--- ---- a check by its number
-
-pub refused : (c : BundleCheck) (b : List ℕ) → (bundleRefusal c ≡ 0 → ⊥) → firstOf c b ≡ refusedPage (bundleRefusal c)
-unfolding bundleRefusal
-refused check.Good b some = absurd (some refl)
-refused check.DoesNotFit b some = refl
-refused check.ListDoesNotFit b some = refl
-refused (check.BadRecord i) b some = refl

@@ -7,7 +7,7 @@ use Rattle.text.specs.Decimal.{decimal, newline}
 use Rattle.text.specs.Written.{PutAll, Put}
 use Rattle.text.proofs.Decimal.{decimal-length}
 use Rattle.text.proofs.Writing.{both, put-all}
-use Rattle.ip.specs.Numbers.{number}
+use Rattle.refusals.specs.Refusals.{packetNumber}
 use Rattle.found.specs.declared.Found.{Found}
 use Rattle.found.specs.declared.Found.the-variants as found
 use Rattle.packet_answer.specs.declared.PacketAnswer.{PacketAnswer}
@@ -26,7 +26,7 @@ unfolding answerText
 answer-length (packet.Syn f) = omega (arith, length-append synWord (foundText f), found-length f)
 answer-length (packet.SynAck f) = omega (arith, length-append synackWord (foundText f), found-length f)
 answer-length packet.Nothing = omega arith
-answer-length (packet.Refused r) = omega (arith, length-append refusedWord (decimal (number r)), decimal-length (number r))
+answer-length (packet.Refused r) = omega (arith, length-append refusedWord (decimal (packetNumber r)), decimal-length (packetNumber r))
 
 pub line-length : (a : PacketAnswer) → length (lineOf a) ≤ 19
 unfolding lineOf

@@ -6,6 +6,9 @@ use mathlib.Core.List.{List, [], _∷_, _++_}
 use lib.Dec.{leb}
 use lib.ListN.{length}
 use Rattle.text.specs.Written.{written, PutAll}
+use Rattle.refusals.specs.declared.Refusal.{Refusal}
+use Rattle.refusals.specs.declared.Refusal.the-variants as refusal
+use Rattle.refusals.specs.Refusals.{number}
 use Rattle.bundle.specs.declared.BundleCheck.{BundleCheck}
 use Rattle.bundle.specs.declared.BundleCheck.the-variants as check
 use Rattle.packet_answer.specs.declared.PacketAnswer.{PacketAnswer}
@@ -23,16 +26,15 @@ linesOf (a ∷ rest) = lineOf a ++ linesOf rest
 -- "Output: `packets N`, then a line each. A refused bundle or list prints only `refused N`."
 abbrev pub textOf : BundleCheck → ℕ → List PacketAnswer → List ℕ
 textOf check.Good n answers = headLine n ++ linesOf answers
-textOf check.DoesNotFit n answers = refusedLine 12
-textOf check.ListDoesNotFit n answers = refusedLine 9
-textOf (check.BadRecord i) n answers = refusedLine 10
+textOf check.DoesNotFit n answers = refusedLine (number refusal.BundleDoesNotFit)
+textOf (check.List r) n answers = refusedLine (number (refusal.List r))
 
 unfoldable pub outputOf : List ℕ → List ℕ
 outputOf b = textOf (bundleAnswer b .check) (packetCount b) (bundleAnswer b .answers)
 
 -- Input that goes on past the buffer is over 65,535 bytes: refusal 12.
 unfoldable pub outputOfInput : List ℕ → Bool → List ℕ
-outputOfInput b longer = cond longer (refusedLine 12) (outputOf b)
+outputOfInput b longer = cond longer (refusedLine (number refusal.BundleDoesNotFit)) (outputOf b)
 
 -- ---- pages
 
@@ -66,8 +68,8 @@ pageFrom b filled at (suc n) =
 abbrev pub nextPage : List ℕ → ℕ → ℕ → Page
 nextPage b left at = pageFrom b 0 at left
 
-abbrev pub refusedPage : ℕ → Page
-refusedPage n = record { text = refusedLine n; left = 0; at = 0 }
+abbrev pub refusedPage : Refusal → Page
+refusedPage r = record { text = refusedLine (number r); left = 0; at = 0 }
 
 -- The first page: the line that comes first, and as many of the packets' as find room.
 abbrev pub headPage : List ℕ → Page
@@ -76,12 +78,11 @@ headPage b =
 
 abbrev pub firstOf : BundleCheck → List ℕ → Page
 firstOf check.Good b = headPage b
-firstOf check.DoesNotFit b = refusedPage 12
-firstOf check.ListDoesNotFit b = refusedPage 9
-firstOf (check.BadRecord i) b = refusedPage 10
+firstOf check.DoesNotFit b = refusedPage refusal.BundleDoesNotFit
+firstOf (check.List r) b = refusedPage (refusal.List r)
 
 unfoldable pub firstPage : List ℕ → Bool → Page
-firstPage b longer = cond longer (refusedPage 12) (firstOf (checkBundle b) b)
+firstPage b longer = cond longer (refusedPage refusal.BundleDoesNotFit) (firstOf (checkBundle b) b)
 
 -- What a function hands back of a page: how many bytes it has, and what is left.
 abbrev pub progressOf : Page → Progress

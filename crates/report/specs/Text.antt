@@ -2,7 +2,7 @@
 use Prim.Native.Nat.{ℕ}
 use mathlib.Core.List.{List, [], _∷_, _++_}
 use Rattle.text.specs.Decimal.{newline, decimal}
-use Rattle.ip.specs.Numbers.{number}
+use Rattle.refusals.specs.Refusals.{packetNumber}
 use Rattle.found.specs.declared.Found.{Found}
 use Rattle.found.specs.declared.Found.the-variants as found
 use Rattle.packet_answer.specs.declared.PacketAnswer.{PacketAnswer}
@@ -54,7 +54,7 @@ unfoldable pub answerText : PacketAnswer → List ℕ
 answerText (packet.Syn f) = synWord ++ foundText f
 answerText (packet.SynAck f) = synackWord ++ foundText f
 answerText packet.Nothing = nothingWord
-answerText (packet.Refused r) = refusedWord ++ decimal (number r)
+answerText (packet.Refused r) = refusedWord ++ decimal (packetNumber r)
 
 unfoldable pub lineOf : PacketAnswer → List ℕ
 lineOf a = answerText a ++ newline

@@ -4,8 +4,9 @@ ghost use Rattle.text.specs.Decimal.{decimal, newline};
 ghost use Rattle.text.specs.Written.{Put};
 ghost use Rattle.report.specs.Text.{foundText, lineOf};
 use found::Found;
-use ip::refusal_number;
 use packet_answer::PacketAnswer;
+use refusals::Refusal;
+use refusals::refusal_number;
 use text::put_byte;
 use text::put_decimal;
 use text::put_word;
@@ -43,8 +44,11 @@ pub(crate) fn put_line(page: &mut [u8], at: usize, answer: PacketAnswer) -> usiz
             put_found(page, next, found)
         }
         PacketAnswer::Nothing => put_word(page, at, b"nothing\n"),
-        PacketAnswer::Refused(refusal) => {
-            put_numbered(page, at, b"refused ", refusal_number(refusal) as u16)
-        }
+        PacketAnswer::Refused(refusal) => put_numbered(
+            page,
+            at,
+            b"refused ",
+            refusal_number(Refusal::Packet(refusal)) as u16,
+        ),
     }
 }

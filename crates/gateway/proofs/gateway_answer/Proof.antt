@@ -16,11 +16,8 @@ peer-of-requires c κs = search needs
 answer-packet-requires : tie.Need-answer-packet-requires
 answer-packet-requires c κs = search needs
 
-enum-told-2 : tie.Need-enum-told-2
-enum-told-2 c = search needs
-
-enum-known-i : tie.Need-enum-known-i
-enum-known-i c = search needs
+enum-known-refusal : tie.Need-enum-known-refusal
+enum-known-refusal c = search needs
 
 returns : tie.Need-returns
 unfolding gatewayAnswer
@@ -28,11 +25,7 @@ returns c = rw (sym (c .before .before .before .before .check-list .ensures) ∙
 
 returns-2 : tie.Need-returns-2
 unfolding gatewayAnswer
-returns-2 c = rw (sym (c .before .before .check-list .ensures) ∙ c .enum-told2 .given .1)
-
-returns-3 : tie.Need-returns-3
-unfolding gatewayAnswer
-returns-3 c = rw (sym (c .before .before .before .check-list .ensures) ∙ c .before .i .given .1)
+returns-2 c = rw (sym (c .before .before .before .check-list .ensures) ∙ c .before .refusal .given .1)
 
 pub gateway-answer-spec : {M : Type 1} → statement M
 gateway-answer-spec =
@@ -42,8 +35,6 @@ gateway-answer-spec =
     enum-told
     peer-of-requires
     answer-packet-requires
-    enum-told-2
-    enum-known-i
+    enum-known-refusal
     returns
-    returns-2
-    returns-3)
+    returns-2)

@@ -27,8 +27,11 @@ enum-known-answer-3 c = search needs
 refusal-number-requires : tie.Need-refusal-number-requires
 refusal-number-requires c κs = search needs
 
-given-by-requires : tie.Need-given-by-requires
-given-by-requires c κs = search needs
+packet-value-requires : tie.Need-packet-value-requires
+packet-value-requires c κs = search needs
+
+cast-plain : tie.Need-cast-plain
+cast-plain c = search needs
 
 plain-requires-2 : tie.Need-plain-requires-2
 plain-requires-2 c κs = search needs
@@ -47,7 +50,9 @@ returns-3 c = rw (c .before .enum-told .given .1, c .plain .ensures)
 
 returns-4 : tie.Need-returns-4
 unfolding packetFields
-returns-4 c = rw (c .before .before .before .before .answer3 .given .1, c .plain2 .ensures, c .before .given-by .ensures, c .before .before .refusal-number .ensures)
+returns-4 c =
+    let at = c .before .before in
+    rw (at .before .before .answer3 .given .1, c .plain2 .ensures, c .before .packet-value .ensures, at .refusal-number .ensures)
 
 pub packet-fields-spec : {M : Type 1} → statement M
 packet-fields-spec =
@@ -61,7 +66,8 @@ packet-fields-spec =
     plain-requires
     enum-known-answer-3
     refusal-number-requires
-    given-by-requires
+    packet-value-requires
+    cast-plain
     plain-requires-2
     returns
     returns-2

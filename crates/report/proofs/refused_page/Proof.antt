@@ -1,4 +1,4 @@
-use mathlib.Core.Path.{_∙_}
+use mathlib.Core.Path.{sym, _∙_}
 use native.Mathlib.Nat.{zero-add}
 use Rattle.report.specs.Text.{refusedWord, refusedLine}
 use Rattle.report.proofs.Writing.{numbered-put}
@@ -9,6 +9,12 @@ use Rattle.report.proofs.refused_page.Tie as tie
 slice-aggregate-put-numbered : tie.Need-slice-aggregate-put-numbered
 slice-aggregate-put-numbered c = search needs
 
+refusal-number-requires : tie.Need-refusal-number-requires
+refusal-number-requires c κs = search needs
+
+cast-put-numbered : tie.Need-cast-put-numbered
+cast-put-numbered c = search needs
+
 put-numbered-requires : tie.Need-put-numbered-requires
 put-numbered-requires c κs = search needs
 
@@ -16,8 +22,14 @@ returns : tie.Need-returns
 unfolding refusedLine
 returns c =
     let p = numbered-put _ _ refusedWord _ _ _ (search needs) (c .put-numbered .ensures) in
-    (rw (p .0 ∙ zero-add _), p .1)
+    rw (sym (c .before .refusal-number .ensures)) (rw (p .0 ∙ zero-add _), p .1)
 
 pub refused-page-spec : {M : Type 1} → statement M
 refused-page-spec =
-    tie.close (tie.spec slice-aggregate-put-numbered put-numbered-requires returns)
+    tie.close
+    (tie.spec
+    slice-aggregate-put-numbered
+    refusal-number-requires
+    cast-put-numbered
+    put-numbered-requires
+    returns)
