@@ -6,9 +6,9 @@ use mathlib.Core.Logic.{_↔_}
 use Prim.Native.Nat.{ℕ}
 use Rattle.tcp.specs.declared.Mss.{Mss}
 use Rattle.tcp.specs.declared.Mss.the-variants as mss
-use Rattle.ip.specs.Ip.{readIp}
+use Rattle.ip.specs.Ip.{IpStage, readIp}
 use Rattle.flow.specs.Tcp.{readTcp}
-use Rattle.flow.specs.Reading.{IpStage, TcpStage, readBy, readPacket}
+use Rattle.flow.specs.Reading.{TcpStage, readBy, readPacket}
 use Rattle.flow.specs.Peer.{withPeer, TakesPeer}
 use Rattle.alike.specs.Free.{DifferOnly}
 use Rattle.alike.specs.Packets.{IpLevel, AlikeBy, FreeBy, ExactHeader, document01}

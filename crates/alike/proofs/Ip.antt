@@ -16,9 +16,8 @@ use Rattle.ip.specs.declared.IpFacts.{IpFacts}
 use Rattle.ip.specs.declared.IpRead.{IpRead}
 use Rattle.ip.specs.declared.IpRead.the-variants as ip
 use Rattle.ip.specs.declared.Refusal.the-variants as refusal
-use Rattle.ip.specs.Ip.{ipv4Quirks, ipv4Facts, readIpv4, ipv6Quirks, ipv6Facts, readIpv6, byVersion, readIp}
+use Rattle.ip.specs.Ip.{ipv4Quirks, ipv4Facts, readIpv4, ipv6Quirks, ipv6Facts, readIpv6, IpStage, byVersion, readIp}
 use Rattle.ip.proofs.Ip.{Given, given4, given6}
-use Rattle.flow.specs.Reading.{IpStage}
 use Rattle.alike.specs.Free.{headerEnd4, lengthEnd4, headerEnd6, lengthEnd6, endBy}
 use Rattle.alike.specs.Packets.{IpLevel, HeaderBy, ipv4, ipv6, levelBy, document01}
 use Rattle.alike.specs.Stages.{KeepsLevel}

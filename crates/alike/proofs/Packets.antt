@@ -9,9 +9,9 @@ use Rattle.tcp.specs.declared.Mss.{Mss}
 use Rattle.ip.specs.declared.IpFacts.{IpFacts}
 use Rattle.ip.specs.declared.IpRead.{IpRead}
 use Rattle.ip.specs.declared.IpRead.the-variants as ip
-use Rattle.ip.specs.Ip.{readIp}
+use Rattle.ip.specs.Ip.{IpStage, readIp}
 use Rattle.flow.specs.Tcp.{readTcp}
-use Rattle.flow.specs.Reading.{IpStage, TcpStage, tcpPart, afterIp, readBy, readPacket}
+use Rattle.flow.specs.Reading.{TcpStage, tcpPart, afterIp, readBy, readPacket}
 use Rattle.alike.specs.Tcp.{AlikeTcp}
 use Rattle.alike.specs.Packets.{AlikeBody, IpLevel, AlikeBy, Alike, document01}
 use Rattle.alike.specs.Stages.{KeepsLevel, KeepsTcp}

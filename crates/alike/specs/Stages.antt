@@ -6,7 +6,8 @@ use lib.ListN.{length}
 use Rattle.tcp.specs.declared.Mss.{Mss}
 use Rattle.ip.specs.declared.IpFacts.{IpFacts}
 use Rattle.ip.specs.declared.IpRead.the-variants as ip
-use Rattle.flow.specs.Reading.{IpStage, TcpStage}
+use Rattle.ip.specs.Ip.{IpStage}
+use Rattle.flow.specs.Reading.{TcpStage}
 use Rattle.alike.specs.Tcp.{AlikeTcp}
 use Rattle.alike.specs.Packets.{IpLevel}
 

@@ -11,11 +11,11 @@ use Rattle.flow.specs.declared.Answer.{Answer}
 use Rattle.flow.specs.declared.Answer.the-variants as answer
 use Rattle.ip.specs.declared.IpRead.{IpRead}
 use Rattle.ip.specs.declared.IpRead.the-variants as ip
-use Rattle.ip.specs.Ip.{readIp}
+use Rattle.ip.specs.Ip.{IpStage, readIp}
 use Rattle.flow.specs.declared.Reading.{Reading}
 use Rattle.flow.specs.Flags.{flagsInvalid, isSynType, isSynAckType}
 use Rattle.flow.specs.Tcp.{observationOf, observationFrom, readTcp}
-use Rattle.flow.specs.Reading.{IpStage, TcpStage, tcpPart, afterIp, readBy, readPacket}
+use Rattle.flow.specs.Reading.{TcpStage, tcpPart, afterIp, readBy, readPacket}
 use Rattle.flow.specs.Peer.{peerBeside, putPeer, withPeer, TakesPeer}
 
 -- Whichever way the three tests of the TCP stage go.

@@ -9,15 +9,12 @@ use Rattle.ip.specs.declared.IpFacts.{IpFacts}
 use Rattle.ip.specs.declared.IpRead.{IpRead}
 use Rattle.ip.specs.declared.IpRead.the-variants as ip
 use Rattle.flow.specs.declared.Reading.{Reading}
-use Rattle.ip.specs.Ip.{readIp}
+use Rattle.ip.specs.Ip.{IpStage, readIp}
 use Rattle.refusals.specs.Refusals.{Verdict, packetRefused, numberOf}
 use Rattle.flow.specs.Tcp.{refusing, readTcp}
 
--- A reader has two stages, chosen apart. The IP stage gives the facts of a packet's IP header and the place of its TCP part, or a refusal.
-abbrev pub IpStage : Type 0
-IpStage = List ℕ → IpRead
-
--- The TCP stage sees those facts, the TCP part and the peer's MSS, and nothing else of the packet.
+-- A reader has two stages, chosen apart: an IP stage, and a TCP stage, which sees the IP stage's facts, the TCP part and the peer's MSS,
+-- and nothing else of the packet.
 abbrev pub TcpStage : Type 0
 TcpStage = IpFacts → List ℕ → Mss → Reading
 

@@ -87,8 +87,12 @@ readIpv6 p =
 
 -- ---- either
 
+-- An IP stage gives the facts of a packet's IP header and the place of its TCP part, or a refusal.
+abbrev pub IpStage : Type 0
+IpStage = List ℕ → IpRead
+
 -- Refusal 1: "packet empty, or top nibble of byte 0 not 4 or 6"; else the stage of the packet's version.
-abbrev pub byVersion : (List ℕ → IpRead) → (List ℕ → IpRead) → List ℕ → IpRead
+abbrev pub byVersion : IpStage → IpStage → IpStage
 byVersion four six p =
     cond (eqb (length p) 0) (ip.Refused refusal.Version)
     (cond (eqb (v4.version p) 4) (four p)
