@@ -15,7 +15,7 @@ same-length c = search needs
 returns : tie.Need-returns
 returns c =
     let last = c .before .before .before in
-    one-digit _ _ _ _ _ _ (last .before .before .if1 .taken) (last .digit .ensures) (c .before .before .put-byte .ensures)
+    one-digit _ _ _ _ _ _ (search needs) (last .digit .ensures) (c .before .before .put-byte .ensures)
 
 digit-requires-2 : tie.Need-digit-requires-2
 digit-requires-2 c κs = search needs
@@ -35,7 +35,7 @@ same-length-2 c = search needs
 returns-2 : tie.Need-returns-2
 returns-2 c =
     let last = c .before .before .before .before .before in
-    two-digits _ _ _ _ _ _ _ (search needs) (last .before .before .if2 .taken) (last .before .digit2 .ensures) (last .digit3 .ensures)
+    two-digits _ _ _ _ _ _ _ (search needs) (search needs) (last .before .digit2 .ensures) (last .digit3 .ensures)
     (c .before .before .put-word .ensures)
 
 digit-requires-4 : tie.Need-digit-requires-4
@@ -60,7 +60,7 @@ returns-3 : tie.Need-returns-3
 returns-3 c =
     let last = c .before .before .before .before .before in
     let mid = last .before in
-    three-digits _ _ _ _ _ _ _ _ (search needs) (mid .before .before .if3 .taken) (mid .before .digit4 .ensures) (mid .digit5 .ensures)
+    three-digits _ _ _ _ _ _ _ _ (search needs) (search needs) (mid .before .digit4 .ensures) (mid .digit5 .ensures)
     (last .digit6 .ensures) (c .before .before .put-word2 .ensures)
 
 put-long-requires : tie.Need-put-long-requires

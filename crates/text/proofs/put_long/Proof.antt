@@ -29,7 +29,7 @@ returns c =
     let last = c .before .before .before .before .before in
     let third = last .before in
     let second = third .before in
-    four-digits _ _ _ _ _ _ _ _ _ (search needs) (second .before .before .if1 .taken) (second .before .digit .ensures)
+    four-digits _ _ _ _ _ _ _ _ _ (search needs) (search needs) (second .before .digit .ensures)
     (second .digit2 .ensures) (third .digit3 .ensures) (last .digit4 .ensures) (c .before .before .put-word .ensures)
 
 digit-requires-5 : tie.Need-digit-requires-5
