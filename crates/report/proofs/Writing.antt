@@ -43,12 +43,11 @@ pub numbered-put
     → PutAll page at (word ++ decimal n ++ newline) next page'
 numbered-put page page' word n at next room = put-all page page' _ at next (omega (arith, numbered-length word n))
 
--- A word, and the line of what was found behind it.
-pub found-lined
-    : (page page' page'' word : List ℕ) (f : Found) (at next last : ℕ)
+-- A word, and a line behind it.
+pub lined
+    : (page page' page'' word line : List ℕ) (at next last : ℕ)
     → Put page at word next page'
-    → Put page' next (foundText f ++ newline) last page''
-    → Put page at (word ++ foundText f ++ newline) last page''
-found-lined page page' page'' word f at next last first second =
-    rw (append-assoc word (foundText f) newline)
-    (both page page' page'' word (foundText f ++ newline) at next last first second)
+    → Put page' next (line ++ newline) last page''
+    → Put page at (word ++ line ++ newline) last page''
+lined page page' page'' word line at next last first second =
+    rw (append-assoc word line newline) (both page page' page'' word (line ++ newline) at next last first second)

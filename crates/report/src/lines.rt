@@ -11,13 +11,20 @@ use text::put_byte;
 use text::put_decimal;
 use text::put_word;
 
+// A number, and the end of the line.
+fn put_number(page: &mut [u8], at: usize, n: u16) -> usize
+    ensures { λ r. ⌜ Put (now (page .entry)) at (decimal n ++ newline) r (now (page .exit)) ⌝ }
+{
+    let end = put_decimal(page, at, n);
+    put_byte(page, end, b'\n')
+}
+
 // A word, a number behind it, and the end of the line.
 pub(crate) fn put_numbered(page: &mut [u8], at: usize, word: &[u8], n: u16) -> usize
     ensures { λ r. ⌜ Put (now (page .entry)) at (now (word .entry) ++ decimal n ++ newline) r (now (page .exit)) ⌝ }
 {
     let next = put_word(page, at, word);
-    let end = put_decimal(page, next, n);
-    put_byte(page, end, b'\n')
+    put_number(page, next, n)
 }
 
 // What was found, and the end of the line.
@@ -26,8 +33,14 @@ fn put_found(page: &mut [u8], at: usize, found: Found) -> usize
 {
     match found {
         Found::None => put_word(page, at, b"none\n"),
-        Found::Exact(label) => put_numbered(page, at, b"exact ", label),
-        Found::Fuzzy(label, _) => put_numbered(page, at, b"fuzzy ", label),
+        Found::Exact(label) => {
+            let next = put_word(page, at, b"exact ");
+            put_number(page, next, label)
+        }
+        Found::Fuzzy(label, _) => {
+            let next = put_word(page, at, b"fuzzy ");
+            put_number(page, next, label)
+        }
     }
 }
 

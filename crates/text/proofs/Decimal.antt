@@ -1,13 +1,12 @@
--- Laws of decimals: how long they are, how they begin, that they are read back, and that five digits are put without those before.
+-- Laws of decimals: how long they are, how they begin, that they are read back, and that their digits are put.
 use mathlib.Core.Path.{_≡_, refl, sym, _∙_, ap, subst}
 use mathlib.Core.Bool.{Bool, true, false, cond, _&&_}
 use mathlib.Core.List.{List, [], _∷_, _++_, append-nil}
 use Prim.Native.Nat.{ℕ, _+_, _*_, _-_, _/_, _%_, _<_, _≤_}
 use native.Mathlib.Omega.{arith}
 use lib.Dec.{ltb, leb}
-use lib.ListN.{length, take, drop, length-drop}
-use lib.Seq.{take-all}
-use borrow.Author.Tests.{ltb-true, ltb-false, le-leb}
+use lib.ListN.{length, drop, length-drop}
+use borrow.Author.Tests.{ltb-true, ltb-false, lt-ltb, le-ltb, le-leb}
 use Rattle.basis.specs.Bytes.{byteAt}
 use Rattle.text.specs.Written.{Put}
 use Rattle.text.specs.Decimal.{newline, width, fiveDigits, decimal}
@@ -102,23 +101,57 @@ pub decimal-one : (m n : ℕ) → m < 100000 → n < 100000 → decimal m ≡ de
 decimal-one m n hm hn e =
     sym (read-decimal m [] (λ k. refl) hm) ∙ ap (λ (s : List ℕ). digitsRead 0 (s ++ [])) e ∙ read-decimal n [] (λ k. refl) hn
 
--- ---- five digits, without those before the first that counts
+-- ---- as many digits as a number has, put as a word
 
-pub digits-put
-    : (buffer buffer' : List ℕ) (at next n w a b c d e : ℕ)
-    → w ≡ width n
-    → a ≡ 48 + n / 10000 % 10
-    → b ≡ 48 + n / 1000 % 10
-    → c ≡ 48 + n / 100 % 10
-    → d ≡ 48 + n / 10 % 10
-    → e ≡ 48 + n % 10
-    → Put buffer at (take (5 - (5 - w)) (drop (5 - w) (a ∷ b ∷ c ∷ d ∷ e ∷ []))) next buffer'
-    → Put buffer at (decimal n) next buffer'
-unfolding decimal
-digits-put buffer buffer' at next n w a b c d e width-is a-is b-is c-is d-is e-is =
-    subst (λ (t : List ℕ). Put buffer at t next buffer') cut
-  where
-    cut : take (5 - (5 - w)) (drop (5 - w) (a ∷ b ∷ c ∷ d ∷ e ∷ [])) ≡ decimal n
-    cut =
-        take-all (5 - (5 - w)) _ (omega (arith, length-drop (5 - w) (a ∷ b ∷ c ∷ d ∷ e ∷ [])))
-        ∙ rw (width-is, a-is, b-is, c-is, d-is, e-is)
+module _ (buffer buffer' : List ℕ) (at next n : ℕ) where
+  abbrev As : List ℕ → Type 0
+  As digits = Put buffer at digits next buffer'
+
+  pub one-digit : (e : ℕ) → n < 10 → e ≡ 48 + n % 10 → As (e ∷ []) → As (decimal n)
+  unfolding decimal width
+  one-digit e h e-is = subst As (rw (lt-ltb n 10 h, e-is))
+
+  pub two-digits : (d e : ℕ) → 10 ≤ n → n < 100 → d ≡ 48 + n / 10 % 10 → e ≡ 48 + n % 10 → As (d ∷ e ∷ []) → As (decimal n)
+  unfolding decimal width
+  two-digits d e l h d-is e-is = subst As (rw (le-ltb n 10 l, lt-ltb n 100 h, d-is, e-is))
+
+  pub three-digits
+      : (c d e : ℕ)
+      → 100 ≤ n
+      → n < 1000
+      → c ≡ 48 + n / 100 % 10
+      → d ≡ 48 + n / 10 % 10
+      → e ≡ 48 + n % 10
+      → As (c ∷ d ∷ e ∷ [])
+      → As (decimal n)
+  unfolding decimal width
+  three-digits c d e l h c-is d-is e-is =
+      subst As (rw (le-ltb n 10 (omega arith), le-ltb n 100 l, lt-ltb n 1000 h, c-is, d-is, e-is))
+
+  pub four-digits
+      : (b c d e : ℕ)
+      → 1000 ≤ n
+      → n < 10000
+      → b ≡ 48 + n / 1000 % 10
+      → c ≡ 48 + n / 100 % 10
+      → d ≡ 48 + n / 10 % 10
+      → e ≡ 48 + n % 10
+      → As (b ∷ c ∷ d ∷ e ∷ [])
+      → As (decimal n)
+  unfolding decimal width
+  four-digits b c d e l h b-is c-is d-is e-is =
+      subst As (rw (le-ltb n 10 (omega arith), le-ltb n 100 (omega arith), le-ltb n 1000 l, lt-ltb n 10000 h, b-is, c-is, d-is, e-is))
+
+  pub five-digits
+      : (a b c d e : ℕ)
+      → 10000 ≤ n
+      → a ≡ 48 + n / 10000 % 10
+      → b ≡ 48 + n / 1000 % 10
+      → c ≡ 48 + n / 100 % 10
+      → d ≡ 48 + n / 10 % 10
+      → e ≡ 48 + n % 10
+      → As (a ∷ b ∷ c ∷ d ∷ e ∷ [])
+      → As (decimal n)
+  unfolding decimal width
+  five-digits a b c d e l a-is b-is c-is d-is e-is =
+      subst As (rw (le-ltb n 10 (omega arith), le-ltb n 100 (omega arith), le-ltb n 1000 (omega arith), le-ltb n 10000 l, a-is, b-is, c-is, d-is, e-is))

@@ -4,7 +4,7 @@ ghost use mathlib.Core.Path.{_≡_};
 ghost use mathlib.Core.List.{[], _∷_};
 ghost use Prim.Native.Nat.{_+_, _-_, _%_, _≤_};
 ghost use lib.ListN.{length};
-ghost use Rattle.text.specs.Decimal.{width, decimal};
+ghost use Rattle.text.specs.Decimal.{decimal};
 ghost use Rattle.text.specs.Written.{PutAll, Put};
 
 pub fn put_byte(buffer: &mut [u8], at: usize, byte: u8) -> usize
@@ -53,28 +53,15 @@ fn digit(n: u16) -> u8
     (48 + n % 10) as u8
 }
 
-fn width(n: u16) -> usize
-    ensures { λ r. ⌜ (r ≡ width n) × (r ≤ 5) ⌝ }
-{
-    if n < 10 {
-        return 1;
-    }
-    if n < 100 {
-        return 2;
-    }
-    if n < 1000 {
-        return 3;
-    }
-    if n < 10000 {
-        return 4;
-    }
-    5
-}
-
-// A number in decimal, without leading zeros.
-pub fn put_decimal(buffer: &mut [u8], at: usize, n: u16) -> usize
+// A number of four or five digits.
+fn put_long(buffer: &mut [u8], at: usize, n: u16) -> usize
+    requires { ⌜ 1000 ≤ n ⌝ }
     ensures { λ r. ⌜ Put (now (buffer .entry)) at (decimal n) r (now (buffer .exit)) ⌝ }
 {
+    if n < 10000 {
+        let digits = [digit(n / 1000), digit(n / 100), digit(n / 10), digit(n)];
+        return put_word(buffer, at, &digits);
+    }
     let digits = [
         digit(n / 10000),
         digit(n / 1000),
@@ -82,6 +69,23 @@ pub fn put_decimal(buffer: &mut [u8], at: usize, n: u16) -> usize
         digit(n / 10),
         digit(n),
     ];
-    let from = 5 - width(n);
-    put_word(buffer, at, &digits[from..5])
+    put_word(buffer, at, &digits)
+}
+
+// A number in decimal, without leading zeros.
+pub fn put_decimal(buffer: &mut [u8], at: usize, n: u16) -> usize
+    ensures { λ r. ⌜ Put (now (buffer .entry)) at (decimal n) r (now (buffer .exit)) ⌝ }
+{
+    if n < 10 {
+        return put_byte(buffer, at, digit(n));
+    }
+    if n < 100 {
+        let digits = [digit(n / 10), digit(n)];
+        return put_word(buffer, at, &digits);
+    }
+    if n < 1000 {
+        let digits = [digit(n / 100), digit(n / 10), digit(n)];
+        return put_word(buffer, at, &digits);
+    }
+    put_long(buffer, at, n)
 }

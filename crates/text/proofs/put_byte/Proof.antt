@@ -4,7 +4,7 @@ use Rattle.text.proofs.put_byte.Statement.{statement}
 use Rattle.text.proofs.put_byte.Tie as tie
 
 returns : tie.Need-returns
-returns c = put-nothing _ _ _ (c .if1 .taken)
+returns c = put-nothing _ _ _ (search needs)
 
 slice-write-buffer : tie.Need-slice-write-buffer
 slice-write-buffer c = search needs

@@ -1,3 +1,5 @@
+use Rattle.text.specs.Decimal.{decimal}
+use Rattle.report.proofs.Writing.{lined}
 use Rattle.report.specs.Text.{foundText}
 use borrow.Author.Needs.{needs}
 use Rattle.report.proofs.lines.put_found.Statement.{statement}
@@ -15,20 +17,26 @@ put-word-requires c κs = search needs
 enum-known-found : tie.Need-enum-known-found
 enum-known-found c = search needs
 
-slice-aggregate-put-numbered : tie.Need-slice-aggregate-put-numbered
-slice-aggregate-put-numbered c = search needs
+slice-aggregate-put-word-2 : tie.Need-slice-aggregate-put-word-2
+slice-aggregate-put-word-2 c = search needs
 
-put-numbered-requires : tie.Need-put-numbered-requires
-put-numbered-requires c κs = search needs
+put-word-requires-2 : tie.Need-put-word-requires-2
+put-word-requires-2 c κs = search needs
+
+put-number-requires : tie.Need-put-number-requires
+put-number-requires c κs = search needs
 
 enum-known-found-2 : tie.Need-enum-known-found-2
 enum-known-found-2 c = search needs
 
-slice-aggregate-put-numbered-2 : tie.Need-slice-aggregate-put-numbered-2
-slice-aggregate-put-numbered-2 c = search needs
+slice-aggregate-put-word-3 : tie.Need-slice-aggregate-put-word-3
+slice-aggregate-put-word-3 c = search needs
 
-put-numbered-requires-2 : tie.Need-put-numbered-requires-2
-put-numbered-requires-2 c κs = search needs
+put-word-requires-3 : tie.Need-put-word-requires-3
+put-word-requires-3 c κs = search needs
+
+put-number-requires-2 : tie.Need-put-number-requires-2
+put-number-requires-2 c κs = search needs
 
 same-length : tie.Need-same-length
 same-length c = search needs
@@ -42,14 +50,20 @@ same-length-2 c = search needs
 
 returns-2 : tie.Need-returns-2
 unfolding foundText
-returns-2 c = rw (c .before .before .before .before .before .before .found .given .1) (c .before .before .put-numbered .ensures)
+returns-2 c =
+    let word = c .before .before .before .before .before .before in
+    rw (word .before .before .before .before .found .given .1)
+    (lined _ _ _ _ (decimal _) _ _ _ (word .put-word2 .ensures) (c .before .before .put-number .ensures))
 
 same-length-3 : tie.Need-same-length-3
 same-length-3 c = search needs
 
 returns-3 : tie.Need-returns-3
 unfolding foundText
-returns-3 c = rw (c .before .before .before .before .before .before .found2 .given .1) (c .before .before .put-numbered2 .ensures)
+returns-3 c =
+    let word = c .before .before .before .before .before .before in
+    rw (word .before .before .before .before .found2 .given .1)
+    (lined _ _ _ _ (decimal _) _ _ _ (word .put-word3 .ensures) (c .before .before .put-number2 .ensures))
 
 pub put-found-spec : {M : Type 1} → statement M
 put-found-spec =
@@ -59,11 +73,13 @@ put-found-spec =
     slice-aggregate-put-word
     put-word-requires
     enum-known-found
-    slice-aggregate-put-numbered
-    put-numbered-requires
+    slice-aggregate-put-word-2
+    put-word-requires-2
+    put-number-requires
     enum-known-found-2
-    slice-aggregate-put-numbered-2
-    put-numbered-requires-2
+    slice-aggregate-put-word-3
+    put-word-requires-3
+    put-number-requires-2
     same-length
     returns
     same-length-2

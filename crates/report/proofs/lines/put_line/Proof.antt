@@ -1,6 +1,6 @@
 use mathlib.Core.Path.{sym}
-use Rattle.report.proofs.Writing.{found-lined}
-use Rattle.report.specs.Text.{answerText, lineOf}
+use Rattle.report.proofs.Writing.{lined}
+use Rattle.report.specs.Text.{foundText, answerText, lineOf}
 use borrow.Author.Needs.{needs}
 use Rattle.report.proofs.lines.put_line.Statement.{statement}
 use Rattle.report.proofs.lines.put_line.Tie as tie
@@ -61,7 +61,7 @@ unfolding lineOf answerText
 returns c =
     let word = c .before .before .before .before .before .before in
     rw (word .before .before .before .before .answer .given .1)
-    (found-lined _ _ _ _ _ _ _ _ (word .put-word .ensures) (c .before .before .put-found .ensures))
+    (lined _ _ _ _ (foundText _) _ _ _ (word .put-word .ensures) (c .before .before .put-found .ensures))
 
 same-length-2 : tie.Need-same-length-2
 same-length-2 c = search needs
@@ -71,7 +71,7 @@ unfolding lineOf answerText
 returns-2 c =
     let word = c .before .before .before .before .before .before in
     rw (word .before .before .before .before .answer2 .given .1)
-    (found-lined _ _ _ _ _ _ _ _ (word .put-word2 .ensures) (c .before .before .put-found2 .ensures))
+    (lined _ _ _ _ (foundText _) _ _ _ (word .put-word2 .ensures) (c .before .before .put-found2 .ensures))
 
 same-length-3 : tie.Need-same-length-3
 same-length-3 c = search needs

@@ -1,4 +1,5 @@
-use Rattle.text.proofs.Writing.{both}
+use Rattle.text.specs.Decimal.{decimal}
+use Rattle.report.proofs.Writing.{lined}
 use borrow.Author.Needs.{needs}
 use Rattle.report.proofs.lines.put_numbered.Statement.{statement}
 use Rattle.report.proofs.lines.put_numbered.Tie as tie
@@ -6,22 +7,16 @@ use Rattle.report.proofs.lines.put_numbered.Tie as tie
 put-word-requires : tie.Need-put-word-requires
 put-word-requires c κs = search needs
 
-put-decimal-requires : tie.Need-put-decimal-requires
-put-decimal-requires c κs = search needs
-
-put-byte-requires : tie.Need-put-byte-requires
-put-byte-requires c κs = search needs
+put-number-requires : tie.Need-put-number-requires
+put-number-requires c κs = search needs
 
 same-length : tie.Need-same-length
 same-length c = search needs
 
 returns : tie.Need-returns
 returns c =
-    let number = c .before .before .before .before .before .before in
-    let word = number .before .before .before .before in
-    both _ _ _ _ _ _ _ _ (both _ _ _ _ _ _ _ _ (word .put-word .ensures) (number .put-decimal .ensures)) (c .before .before .put-byte .ensures)
+    let word = c .before .before .before .before .before .before in
+    lined _ _ _ _ (decimal _) _ _ _ (word .put-word .ensures) (c .before .before .put-number .ensures)
 
 pub put-numbered-spec : {M : Type 1} → statement M
-put-numbered-spec =
-    tie.close
-    (tie.spec put-word-requires put-decimal-requires put-byte-requires same-length returns)
+put-numbered-spec = tie.close (tie.spec put-word-requires put-number-requires same-length returns)
