@@ -31,7 +31,7 @@ use Rattle.syn_options.specs.Walk.{putOption, walkFrom, startWalk, walkOf}
 use Rattle.ip.specs.declared.IpFacts.{IpFacts}
 use Rattle.ip.specs.declared.IpRead.{IpRead}
 use Rattle.ip.specs.declared.IpRead.the-variants as ip
-use Rattle.ip.specs.declared.Refusal.{Refusal}
+use Rattle.refusals.specs.declared.PacketRefusal.{PacketRefusal}
 use Rattle.ip.specs.Ip.{ipv4Quirks, ipv4Facts, readIpv4, ipv6Quirks, ipv6Facts, readIpv6, readIp}
 use Rattle.flow.specs.declared.Answer.{Answer}
 use Rattle.flow.specs.declared.Answer.the-variants as answer
@@ -164,7 +164,7 @@ module _ (peer : Mss) where
 -- ---- the IP stage
 
 data IpFits : IpRead → Type 0 where
-  refused : {r : Refusal} → IpFits (ip.Refused r)
+  refused : {r : PacketRefusal} → IpFits (ip.Refused r)
   facts : {f : IpFacts} → FactsFit f → IpFits (ip.Facts f)
 
 choose : (t : Bool) {a b : IpRead} → IpFits a → IpFits b → IpFits (cond t a b)

@@ -15,10 +15,12 @@ use Rattle.observable.specs.Observation.{emptyObservation}
 use Rattle.ip.specs.declared.IpFacts.{IpFacts}
 use Rattle.ip.specs.declared.IpRead.{IpRead}
 use Rattle.ip.specs.declared.IpRead.the-variants as ip
-use Rattle.ip.specs.declared.Refusal.{Refusal}
-use Rattle.ip.specs.declared.Refusal.the-variants as refusal
+use Rattle.refusals.specs.declared.PacketRefusal.{PacketRefusal}
+use Rattle.refusals.specs.declared.PacketRefusal.the-variants as refusal
 use Rattle.ip.specs.Ip.{ipv4Facts, readIpv4, ipv6Facts, readIpv6, readIp}
-use Rattle.ip.specs.Numbers.{number}
+use Rattle.refusals.specs.declared.Refusal.the-variants as table
+use Rattle.refusals.specs.Refusals.{packetNumber}
+use Rattle.refusals.proofs.Back.{numbered}
 use Rattle.flow.specs.declared.Answer.the-variants as answer
 use Rattle.flow.specs.declared.Reading.{Reading}
 use Rattle.flow.specs.Flags.{maskedType, flagsInvalid, isSynType, isSynAckType}
@@ -28,7 +30,7 @@ use Rattle.acceptance.specs.Refusals.{part4, part6, FlagsByte, Refused, 
 
 -- What the IP stage gives: a refusal under 7, or facts whose TCP part is the packet's.
 pub data IpGives (p : List ℕ) : IpRead → Type 0 where
-  refused : {r : Refusal} → number r < 7 → IpGives p (ip.Refused r)
+  refused : {r : PacketRefusal} → packetNumber r < 7 → IpGives p (ip.Refused r)
   facts : {f : IpFacts} → FlagsByte p (tcp.control (tcpPart f p)) → IpGives p (ip.Facts f)
 
 either : {p : List ℕ} (t : Bool) {a b : IpRead} → (t ≡ true → IpGives p a) → (t ≡ false → IpGives p b) → IpGives p (cond t a b)
@@ -36,11 +38,11 @@ either true x y = x refl
 either false x y = y refl
 
 module _ (p : List ℕ) where
-  under-7 : (r : Refusal) → number r < 7 → IpGives p (ip.Refused r)
+  under-7 : (r : PacketRefusal) → packetNumber r < 7 → IpGives p (ip.Refused r)
   under-7 r h = refused h
 
   of-v4 : v4.version p ≡ 4 → IpGives p (readIpv4 p)
-  unfolding readIpv4 ipv4Facts number
+  unfolding readIpv4 ipv4Facts
   of-v4 four =
       either (ltb (length p) 20) (λ e. under-7 refusal.TooShort (omega arith)) (λ e.
       either (ltb (v4.ihl p) 5) (λ e. under-7 refusal.HeaderLength (omega arith)) (λ e.
@@ -50,7 +52,7 @@ module _ (p : List ℕ) where
       facts {f = ipv4Facts p (v4.dataStart p) (v4.dataEnd p)} (FlagsByte.of4 four))))))
 
   of-v6 : v4.version p ≡ 6 → IpGives p (readIpv6 p)
-  unfolding readIpv6 ipv6Facts number
+  unfolding readIpv6 ipv6Facts
   of-v6 six =
       either (ltb (length p) 40) (λ e. under-7 refusal.TooShort (omega arith)) (λ e.
       either (not (eqb (v6.nextHeader p) 6)) (λ e. under-7 refusal.UnsupportedProtocol (omega arith)) (λ e.
@@ -58,7 +60,7 @@ module _ (p : List ℕ) where
       facts {f = ipv6Facts p (v6.payloadEnd p)} (FlagsByte.of6 six))))
 
   pub ip-gives : IpGives p (readIp p)
-  unfolding readIp number
+  unfolding readIp
   ip-gives =
       either (eqb (length p) 0) (λ e. under-7 refusal.Version (omega arith)) (λ e.
       either (eqb (v4.version p) 4) (λ e. of-v4 (eqb-true (v4.version p) 4 e)) (λ e.
@@ -68,7 +70,7 @@ module _ (p : List ℕ) where
   -- A reading that is no refusal, or one with what it may give.
   data ReadingGives : Reading → Type 0 where
     answered : {x : Reading} → Answered p x → ReadingGives x
-    refusing : {r : Refusal} → Refused p r → ReadingGives (record { answer = answer.Refused r; observation = emptyObservation })
+    refusing : {r : PacketRefusal} → Refused p r → ReadingGives (record { answer = answer.Refused r; observation = emptyObservation })
 
   pick : (t : Bool) {a b : Reading} → (t ≡ true → ReadingGives a) → (t ≡ false → ReadingGives b) → ReadingGives (cond t a b)
   pick true x y = x refl
@@ -90,16 +92,6 @@ module _ (p : List ℕ) where
   no-refusal (Answered.syn-ack b e) = refl
   no-refusal (Answered.neither b e g) = refl
 
-  some-number : (r : Refusal) → number r ≡ 0 → ⊥
-  unfolding number
-  some-number refusal.Version e = omega arith
-  some-number refusal.TooShort e = omega arith
-  some-number refusal.HeaderLength e = omega arith
-  some-number refusal.UnsupportedProtocol e = omega arith
-  some-number refusal.Fragment e = omega arith
-  some-number refusal.TcpTooShort e = omega arith
-  some-number (refusal.InvalidTcpFlags f) e = omega arith
-
   when-refused : (peer : Mss) {x : Reading} → ReadingGives x → x ≡ readPacket p peer → 0 < refusalOf (x .answer) → Gives p peer
   when-refused peer (answered a) same h = let none = no-refusal a in absurd (omega arith)
   when-refused peer (refusing {r} also) same h = record { why = r; reading = sym same; also = also }
@@ -107,7 +99,7 @@ module _ (p : List ℕ) where
   when-not : {x : Reading} → ReadingGives x → refusalOf (x .answer) ≡ 0 → Answered p x
   unfolding refusalOf
   when-not (answered a) e = a
-  when-not (refusing {r} also) e = absurd (some-number r e)
+  when-not (refusing {r} also) e = let some = numbered (table.Packet r) .0 in absurd (omega arith)
 
 pub packet-gives : (p : List ℕ) (peer : Mss) → 0 < refusalOf (readPacket p peer .answer) → Gives p peer
 unfolding readPacket

@@ -14,7 +14,7 @@ use Rattle.ip_options.specs.IpOptions.{ipv4OptionLength}
 use Rattle.ip_options.proofs.Laws.{v6-tcp}
 use Rattle.ip.specs.declared.IpRead.{IpRead}
 use Rattle.ip.specs.declared.IpRead.the-variants as ip
-use Rattle.ip.specs.declared.Refusal.the-variants as refusal
+use Rattle.refusals.specs.declared.PacketRefusal.the-variants as refusal
 use Rattle.ip.specs.Ip.{ipv4Quirks, ipv4Facts, readIpv4, ipv6Quirks, ipv6Facts, readIpv6, readIp}
 use Rattle.alike.specs.Ip.{AlikeIpv4, AlikeIpv6}
 use Rattle.alike.proofs.Places.{be16-alike, part-alike}

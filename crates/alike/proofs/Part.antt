@@ -15,7 +15,7 @@ use Rattle.rfc.specs.Rfc8200 as v6
 use Rattle.ip.specs.declared.IpFacts.{IpFacts}
 use Rattle.ip.specs.declared.IpRead.{IpRead}
 use Rattle.ip.specs.declared.IpRead.the-variants as ip
-use Rattle.ip.specs.declared.Refusal.{Refusal}
+use Rattle.refusals.specs.declared.PacketRefusal.{PacketRefusal}
 use Rattle.ip.specs.Ip.{ipv4Facts, readIpv4, ipv6Facts, readIpv6, readIp}
 use Rattle.alike.specs.Free.{headerEnd4, lengthEnd4, headerEnd6, lengthEnd6}
 
@@ -29,7 +29,7 @@ pub data Lies (p : List ℕ) (f : IpFacts) : Type 0 where
   between : {h l : ℕ} → Ends p h l → f .start ≡ h → f .end ≡ min l (length p) → Lies p f
 
 data Spans (p : List ℕ) : IpRead → Type 0 where
-  refused : {r : Refusal} → Spans p (ip.Refused r)
+  refused : {r : PacketRefusal} → Spans p (ip.Refused r)
   facts : {f : IpFacts} → Lies p f → Spans p (ip.Facts f)
 
 either : {p : List ℕ} (t : Bool) {a b : IpRead} → (t ≡ true → Spans p a) → (t ≡ false → Spans p b) → Spans p (cond t a b)
