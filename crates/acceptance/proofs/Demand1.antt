@@ -1,4 +1,5 @@
 -- Demand 1: the uniqueness theorems of the crates, collected.
+use Rattle.refusals.proofs.Unique as refusals
 use Rattle.numbers.proofs.Unique as numbers
 use Rattle.text.proofs.Unique as text
 use Rattle.quirks.proofs.Unique as quirks
@@ -30,7 +31,7 @@ use Rattle.basis.specs.Unique.{ExactlyOne}
 use Rattle.acceptance.specs.Lent.{writable}
 use Rattle.acceptance.specs.Promised.{Answers}
 use Prim.Native.Nat.{ℕ}
-use Rattle.acceptance.specs.Leaves.{Numbers, Quirks, TtlReading, Window, IpOptions}
+use Rattle.acceptance.specs.Leaves.{RefusalNumbers, Numbers, Quirks, TtlReading, Window, IpOptions}
 use Rattle.acceptance.specs.Reader.{Observable, OneOption, Options, Ip, Flow}
 use Rattle.acceptance.specs.Fitting.{Distances, Matching, Siglist, Held, Search}
 use Rattle.acceptance.specs.GivenOut.{Text, PacketAnswered, Bundle, Report, Gateway}
@@ -45,6 +46,14 @@ answered
     → writable signature κs ≡ []
     → Answers signature κs pre post a d
 answered asked u says lent = record { asks-nothing = asked; one = u; is = says (u .meets); only-reads = lent }
+
+of-refusals : RefusalNumbers
+of-refusals =
+    record {
+      refusal-number = λ r. answered tt (refusals.refusal-number-one r) (λ m. m) refl;
+      packet-value = λ r. answered tt (refusals.packet-value-one r) (λ m. m) refl;
+      list-value = λ r. answered tt (refusals.list-value-one r) (λ m. m) refl;
+    }
 
 of-numbers : Numbers
 of-numbers =
@@ -120,7 +129,6 @@ of-options =
 of-ip : Ip
 of-ip =
     record {
-      refusal-number = λ r. answered tt (ip.refusal-number-one r) (λ m. m) refl;
       read-ip = λ κs p. answered tt (ip.read-ip-one κs p) (λ m. m) refl;
     }
 
@@ -188,7 +196,6 @@ of-bundle : Bundle
 of-bundle =
     record {
       check-bundle = λ κs b. answered tt (bundle.check-bundle-one κs b) (λ m. m) refl;
-      bundle-refusal = λ c. answered tt (bundle.bundle-refusal-one c) (λ m. m) refl;
       packet-at = λ κs b at. answered tt (bundle.packet-at-one κs b at) (λ m. m) refl;
     }
 
@@ -235,6 +242,7 @@ of-gateway =
 pub demand1 : Demand1
 demand1 =
     record {
+      refusals = of-refusals;
       numbers = of-numbers;
       text = of-text;
       quirks = of-quirks;

@@ -19,7 +19,8 @@ use Rattle.observable.specs.Observation.{emptyLayout, emptyObservation}
 use Rattle.one_option.specs.Options.{asked, runsPast, optionsAfter}
 use Rattle.one_option.specs.See.{laterMss, laterScale, trailingNonzero, excessiveScaling, ownTimestampZero, peerTimestampNonzero, laterQuirks, seeOption}
 use Rattle.syn_options.specs.Walk.{entryByte, putEntry, walkFrom, walkOf}
-use Rattle.ip.specs.declared.Refusal.the-variants as refusal
+use Rattle.refusals.specs.declared.PacketRefusal.the-variants as refusal
+use Rattle.refusals.specs.declared.ListRefusal.the-variants as why
 use Rattle.ip.specs.Ip.{readIp}
 use Rattle.flow.specs.declared.Answer.the-variants as packet
 use Rattle.flow.specs.declared.Reading.{Reading}
@@ -103,7 +104,7 @@ answer-of-nothing : readPacket [] mss.Absent .answer ≡ packet.Refused refusal.
 unfolding readPacket readIp
 answer-of-nothing = refl
 
-nothing-fits : searchList emptyObservation [] ≡ answer.DoesNotFit
+nothing-fits : searchList emptyObservation [] ≡ answer.List why.DoesNotFit
 unfolding searchList checkList listFits emptyObservation emptyLayout be16
 nothing-fits = refl
 
@@ -132,7 +133,7 @@ shut-out =
           let z : _≡_ {A = ℕ} 0 1 = cc in
           omega arith;
       constant-search = λ c h.
-          let e : answer.Found (found.Exact 7) ≡ answer.DoesNotFit =
+          let e : answer.Found (found.Exact 7) ≡ answer.List why.DoesNotFit =
           sym (values .search .exact)
           ∙ h (readPacket packetA mss.Absent .observation) exampleList
           ∙ sym (h emptyObservation [])

@@ -123,8 +123,7 @@ gateway-alike p q peer l a = by-list (checkList l)
   where
     by-list : (c : ListAnswer) → afterList c p (peerOf peer) l ≡ afterList c q (peerOf peer) l
     by-list list.Good = ap gateway.Packet (answer-alike p q (peerOf peer) l a)
-    by-list list.DoesNotFit = refl
-    by-list (list.BadRecord i) = refl
+    by-list (list.Refused r) = refl
 
 gateway-same : GatewaySame
 gateway-same =
@@ -171,8 +170,7 @@ module _ (b c : List ℕ) (a : AlikeBundles b c) where
   unfolding outputOf bundleAnswer
   by-check check.Good e = rw (check-alike, e, same-answers, a .count)
   by-check check.DoesNotFit e = rw (check-alike, e)
-  by-check check.ListDoesNotFit e = rw (check-alike, e)
-  by-check (check.BadRecord i) e = rw (check-alike, e)
+  by-check (check.List r) e = rw (check-alike, e)
 
 output-alike : (b c : List ℕ) (longer : Bool) → AlikeBundles b c → outputOfInput b longer ≡ outputOfInput c longer
 unfolding outputOfInput

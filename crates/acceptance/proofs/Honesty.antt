@@ -8,7 +8,7 @@ use lib.Dec.{ltb}
 use lib.ListN.{length, getD}
 use Rattle.tcp.specs.declared.Mss.{Mss}
 use Rattle.observable.specs.declared.TcpObservation.{TcpObservation}
-use Rattle.ip.specs.declared.Refusal.{Refusal}
+use Rattle.refusals.specs.declared.PacketRefusal.{PacketRefusal}
 use Rattle.flow.specs.declared.Answer.the-variants as reading
 use Rattle.flow.specs.Reading.{readPacket}
 use Rattle.matching.specs.Fit.{featuresOf}
@@ -76,8 +76,7 @@ module _ (o : TcpObservation) (l : List ℕ) where
 
   after-found : (a : ListAnswer) (x : Found) → afterListCheck a o l ≡ answer.Found x → Outcome o l x
   after-found list.Good x e = let same : searchAll o l ≡ x = cc in rw (← same) found-outcome
-  after-found list.DoesNotFit x e = let z : _≡_ {A = ℕ} 0 1 = cc in absurd (omega arith)
-  after-found (list.BadRecord i) x e = let z : _≡_ {A = ℕ} 0 1 = cc in absurd (omega arith)
+  after-found (list.Refused r) x e = let z : _≡_ {A = ℕ} 0 1 = cc in absurd (omega arith)
 
   search-outcome : (x : Found) → searchList o l ≡ answer.Found x → Outcome o l x
   unfolding searchList
@@ -108,7 +107,7 @@ module _ (p : List ℕ) (peer : Mss) (l : List ℕ) where
   unfolding answerOf
   nothing-answer e = rw e
 
-  refused-answer : (r : Refusal) → readPacket p peer .answer ≡ reading.Refused r → answerOf p peer l ≡ packet.Refused r
+  refused-answer : (r : PacketRefusal) → readPacket p peer .answer ≡ reading.Refused r → answerOf p peer l ≡ packet.Refused r
   unfolding answerOf
   refused-answer r e = rw e
 
@@ -128,8 +127,7 @@ outcome-of (gateway.Packet (packet.Syn f)) = found-outcome-of 1 f
 outcome-of (gateway.Packet (packet.SynAck f)) = found-outcome-of 2 f
 outcome-of (gateway.Packet packet.Nothing) = refl
 outcome-of (gateway.Packet (packet.Refused r)) = refl
-outcome-of gateway.ListDoesNotFit = refl
-outcome-of (gateway.BadRecord i) = refl
+outcome-of (gateway.List r) = refl
 
 -- A packet's own answer, as the gateway's that holds it.
 unwrapped : (a b : PacketAnswer) → gateway.Packet a ≡ gateway.Packet b → a ≡ b

@@ -22,7 +22,6 @@ use Rattle.one_option.specs.Options.{asked, runsPast, optionsAfter}
 use Rattle.one_option.specs.See.{laterMss, laterScale, trailingNonzero, excessiveScaling, ownTimestampZero, peerTimestampNonzero, laterQuirks, seeOption}
 use Rattle.syn_options.specs.Walk.{entryByte, putEntry, walkFrom, walkOf}
 use Rattle.ip.specs.Ip.{ipv4Quirks, ipv4Facts, readIpv4, ipv6Quirks, ipv6Facts, readIpv6, readIp}
-use Rattle.ip.specs.Numbers.{number}
 use Rattle.flow.specs.declared.Reading.{Reading}
 use Rattle.flow.specs.Flags.{maskedType, flagsInvalid, isSynType, isSynAckType}
 use Rattle.flow.specs.Tcp.{headerQuirks, quirksOfHeaders, payloadClass, observationOf, observationFrom, knownPeer, readTcp}
@@ -90,7 +89,7 @@ unfolding readPacket readIp readIpv4 ipv4Facts ipv4Quirks ipv4OptionLength readi
 other-kind = refl
 
 pub not-free : NotFree
-unfolding readPacket readIp readIpv4 ipv4Facts ipv4Quirks ipv4OptionLength readIpv6 ipv6Facts ipv6Quirks ipv6ExtensionLength readingOf guessOf initialOf readTcp flagsInvalid maskedType isSynType isSynAckType knownPeer observationFrom observationOf quirksOfHeaders headerQuirks payloadClass walkOf walkFrom optionsAfter asked runsPast putEntry entryByte seeOption laterMss laterScale laterQuirks trailingNonzero excessiveScaling ownTimestampZero peerTimestampNonzero anyNonzero addIf with bitOf placeOf empty fromQuirks be16 be32 refusalOf number
+unfolding readPacket readIp readIpv4 ipv4Facts ipv4Quirks ipv4OptionLength readIpv6 ipv6Facts ipv6Quirks ipv6ExtensionLength readingOf guessOf initialOf readTcp flagsInvalid maskedType isSynType isSynAckType knownPeer observationFrom observationOf quirksOfHeaders headerQuirks payloadClass walkOf walkFrom optionsAfter asked runsPast putEntry entryByte seeOption laterMss laterScale laterQuirks trailingNonzero excessiveScaling ownTimestampZero peerTimestampNonzero anyNonzero addIf with bitOf placeOf empty fromQuirks be16 be32 refusalOf
 not-free =
     record {
       apart = λ p q differs a. differs (read-alike p q mss.Absent a);

@@ -11,10 +11,12 @@ use Rattle.tcp.specs.declared.Mss.{Mss}
 use Rattle.observable.specs.Observation.{emptyObservation}
 use Rattle.ip.specs.declared.IpFacts.{IpFacts}
 use Rattle.ip.specs.declared.IpRead.{IpRead}
-use Rattle.ip.specs.declared.Refusal.{Refusal}
-use Rattle.ip.specs.declared.Refusal.the-variants as refusal
+use Rattle.refusals.specs.declared.PacketRefusal.{PacketRefusal}
+use Rattle.refusals.specs.declared.PacketRefusal.the-variants as refusal
+use Rattle.refusals.specs.declared.Refusal.the-variants as table
+use Rattle.refusals.specs.Refusals.{packetNumber}
+use Rattle.refusals.proofs.Back.{numbered}
 use Rattle.ip.specs.Ip.{ipv4Facts, ipv6Facts}
-use Rattle.ip.specs.Numbers.{number}
 use Rattle.ip.proofs.Ip.{Given, given}
 use Rattle.flow.specs.declared.Answer.the-variants as answer
 use Rattle.flow.specs.declared.Reading.{Reading}
@@ -27,7 +29,7 @@ module _ (p : List ℕ) where
   -- A reading that is no refusal, or one with what it may give.
   data ReadingGives : Reading → Type 0 where
     answered : {x : Reading} → Answered p x → ReadingGives x
-    refusing : {r : Refusal} → Refused p r → ReadingGives (record { answer = answer.Refused r; observation = emptyObservation })
+    refusing : {r : PacketRefusal} → Refused p r → ReadingGives (record { answer = answer.Refused r; observation = emptyObservation })
 
   pick : (t : Bool) {a b : Reading} → (t ≡ true → ReadingGives a) → (t ≡ false → ReadingGives b) → ReadingGives (cond t a b)
   pick true x y = x refl
@@ -54,16 +56,6 @@ module _ (p : List ℕ) where
   no-refusal (Answered.syn-ack b e) = refl
   no-refusal (Answered.neither b e g) = refl
 
-  some-number : (r : Refusal) → number r ≡ 0 → ⊥
-  unfolding number
-  some-number refusal.Version e = omega arith
-  some-number refusal.TooShort e = omega arith
-  some-number refusal.HeaderLength e = omega arith
-  some-number refusal.UnsupportedProtocol e = omega arith
-  some-number refusal.Fragment e = omega arith
-  some-number refusal.TcpTooShort e = omega arith
-  some-number (refusal.InvalidTcpFlags f) e = omega arith
-
   when-refused : (peer : Mss) {x : Reading} → ReadingGives x → x ≡ readPacket p peer → 0 < refusalOf (x .answer) → Gives p peer
   when-refused peer (answered a) same h = let none = no-refusal a in absurd (omega arith)
   when-refused peer (refusing {r} also) same h = record { why = r; reading = sym same; also = also }
@@ -71,7 +63,7 @@ module _ (p : List ℕ) where
   when-not : {x : Reading} → ReadingGives x → refusalOf (x .answer) ≡ 0 → Answered p x
   unfolding refusalOf
   when-not (answered a) e = a
-  when-not (refusing {r} also) e = absurd (some-number r e)
+  when-not (refusing {r} also) e = let some = numbered (table.Packet r) .0 in absurd (omega arith)
 
 pub packet-gives : (p : List ℕ) (peer : Mss) → 0 < refusalOf (readPacket p peer .answer) → Gives p peer
 unfolding readPacket

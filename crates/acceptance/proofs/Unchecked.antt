@@ -16,6 +16,7 @@ use Rattle.matching.specs.declared.SignatureFit.the-variants as fit
 use Rattle.matching.specs.Fit.{featuresOf, fitOf}
 use Rattle.sigrecord.specs.Record.{entryCount, scalarsGood}
 use Rattle.siglist.specs.declared.ListAnswer.{ListAnswer}
+use Rattle.refusals.specs.declared.ListRefusal.the-variants as why
 use Rattle.siglist.specs.declared.ListAnswer.the-variants as list
 use Rattle.siglist.specs.List.{recordCount, recordAt, listFits, layoutLies, recordGood, checkList}
 use Rattle.siglist.proofs.FirstBad.{Checked, first-bad-named}
@@ -84,11 +85,11 @@ module _ (f : Features) (kinds bytes l : List ℕ) (long : 40 < f .count) where
 
 -- ---- a list that does not fit
 
-never-unfit : {l : List ℕ} {a : ListAnswer} → Checked l 0 (recordCount l) a → a ≡ list.DoesNotFit → ⊥
+never-unfit : {l : List ℕ} {a : ListAnswer} → Checked l 0 (recordCount l) a → a ≡ list.Refused why.DoesNotFit → ⊥
 never-unfit (Checked.all-good all) e = let z : _≡_ {A = ℕ} 0 1 = cc in omega arith
 never-unfit (Checked.first-bad k b u bad before) e = let z : _≡_ {A = ℕ} 0 1 = cc in omega arith
 
-unfit : (l : List ℕ) → checkList l ≡ list.DoesNotFit → listFits l ≡ false
+unfit : (l : List ℕ) → checkList l ≡ list.Refused why.DoesNotFit → listFits l ≡ false
 unfit l e = by-test (listFits l) refl
   where
     by-test : (t : Bool) → listFits l ≡ t → t ≡ false
@@ -98,8 +99,7 @@ unfit l e = by-test (listFits l) refl
 good-code : (a : ListAnswer) → listCode a ≡ 0 → a ≡ list.Good
 unfolding listCode codeOf fieldsOf
 good-code list.Good e = refl
-good-code list.DoesNotFit e = absurd (omega arith)
-good-code (list.BadRecord i) e = absurd (omega arith)
+good-code (list.Refused r) e = absurd (omega arith)
 
 -- ---- the statements
 

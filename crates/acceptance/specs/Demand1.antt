@@ -3,12 +3,13 @@
 -- the product, crate by crate, over the function's own contract and signature (Promised.antt says what a line says), with the definition
 -- that the one result is: the leaves, the reader, the fit and the search, and what is given out. The order is that of crates.txt; a
 -- function that is added gets a line in its crate's record.
-use Rattle.acceptance.specs.Leaves.{Numbers, Quirks, TtlReading, Window, IpOptions}
+use Rattle.acceptance.specs.Leaves.{RefusalNumbers, Numbers, Quirks, TtlReading, Window, IpOptions}
 use Rattle.acceptance.specs.Reader.{Observable, OneOption, Options, Ip, Flow}
 use Rattle.acceptance.specs.Fitting.{Distances, Matching, Siglist, Held, Search}
 use Rattle.acceptance.specs.GivenOut.{Text, PacketAnswered, Bundle, Report, Gateway}
 
 pub record Demand1 : Type 0 where
+  pub refusals : RefusalNumbers
   pub numbers : Numbers
   pub text : Text
   pub quirks : Quirks

@@ -16,11 +16,9 @@ use Rattle.siglist.specs.List.{checkList}
 use Rattle.packet_answer.specs.Packet.{peerOf, answerOf}
 use Rattle.packet_answer.proofs.peer_of as peer-of'
 use Rattle.packet_answer.proofs.answer_packet as answer-packet'
-use Rattle.bundle.specs.declared.BundleCheck.{BundleCheck}
-use Rattle.bundle.specs.Bundle.{checkBundle, bundleRefusal}
+use Rattle.bundle.specs.Bundle.{checkBundle}
 use Rattle.bundle.specs.Answers.{packetAt}
 use Rattle.bundle.proofs.check_bundle as check-bundle'
-use Rattle.bundle.proofs.bundle_refusal as bundle-refusal'
 use Rattle.bundle.proofs.packet_at as packet-at'
 use Rattle.report.specs.declared.Progress.{Progress}
 use Rattle.report.specs.Pages.{pageSize, firstPage, nextPage, allPages, outputOfInput}
@@ -58,10 +56,6 @@ pub record Bundle : Type 0 where
       : (κs : Lfts 1) (bundle : RefT (List ℕ))
       → Answers check-bundle'.signature κs (check-bundle'.Reads.Pre κs) (check-bundle'.Reads.Post κs)
       (bundle, tt) (checkBundle (now bundle))
-  pub bundle-refusal
-      : (c : BundleCheck)
-      → Answers bundle-refusal'.signature tt (bundle-refusal'.Reads.Pre tt) (bundle-refusal'.Reads.Post tt)
-      (c, tt) (bundleRefusal c)
   pub packet-at
       : (κs : Lfts 1) (bundle : RefT (List ℕ)) (at : ℕ)
       → Answers packet-at'.signature κs (packet-at'.Reads.Pre κs) (packet-at'.Reads.Post κs)

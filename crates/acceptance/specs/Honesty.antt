@@ -8,7 +8,7 @@ use Prim.Native.Nat.{ℕ, _%_, _<_}
 use Rattle.tcp.specs.declared.Mss.{Mss}
 use Rattle.quirks.specs.Quirks.{isEmpty}
 use Rattle.observable.specs.declared.TcpObservation.{TcpObservation}
-use Rattle.ip.specs.declared.Refusal.{Refusal}
+use Rattle.refusals.specs.declared.PacketRefusal.{PacketRefusal}
 use Rattle.flow.specs.declared.Answer.the-variants as reading
 use Rattle.flow.specs.Reading.{readPacket}
 use Rattle.distances.specs.declared.TtlFit.{TtlFit}
@@ -119,8 +119,7 @@ outcomeOf (gateway.Packet (packet.Syn f)) = whichOf f
 outcomeOf (gateway.Packet (packet.SynAck f)) = whichOf f
 outcomeOf (gateway.Packet packet.Nothing) = 4
 outcomeOf (gateway.Packet (packet.Refused r)) = 5
-outcomeOf gateway.ListDoesNotFit = 5
-outcomeOf (gateway.BadRecord i) = 5
+outcomeOf (gateway.List r) = 5
 
 -- The number that a gateway gets for a packet, the peer's MSS and a list (`termread_answer`).
 abbrev pub codeAt : List ℕ → ℕ → List ℕ → ℕ
@@ -164,7 +163,7 @@ pub record Honesty : Type 0 where
   pub nothing-answer
       : (p : List ℕ) (peer : Mss) (l : List ℕ) → readPacket p peer .answer ≡ reading.Nothing → answerOf p peer l ≡ packet.Nothing
   pub refused-answer
-      : (p : List ℕ) (peer : Mss) (l : List ℕ) (r : Refusal)
+      : (p : List ℕ) (peer : Mss) (l : List ℕ) (r : PacketRefusal)
       → readPacket p peer .answer ≡ reading.Refused r
       → answerOf p peer l ≡ packet.Refused r
   -- No two of the three answers are one.

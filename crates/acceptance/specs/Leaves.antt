@@ -1,4 +1,4 @@
--- Demand 1, a line for each public function. The leaves: widened bytes and sums, quirks.rs, ttl.rs, window_size.rs, ip_options.rs.
+-- Demand 1, a line for each public function. The leaves: refusals, widened bytes and sums, quirks.rs, ttl.rs, window_size.rs, ip_options.rs.
 use mathlib.Core.Bool.{Bool}
 use mathlib.Core.List.{List}
 use Prim.Native.Nat.{ℕ, _+_, _*_, _-_, min}
@@ -6,6 +6,13 @@ use contract.Lifetimes.{Lfts}
 use denote.Ref.{RefT, now}
 use Rattle.tcp.specs.declared.IpVersion.{IpVersion}
 use Rattle.tcp.specs.declared.Mss.{Mss}
+use Rattle.refusals.specs.declared.PacketRefusal.{PacketRefusal}
+use Rattle.refusals.specs.declared.ListRefusal.{ListRefusal}
+use Rattle.refusals.specs.declared.Refusal.{Refusal}
+use Rattle.refusals.specs.Refusals.{number, packetValue, listValue}
+use Rattle.refusals.proofs.refusal_number as refusal-number'
+use Rattle.refusals.proofs.packet_value as packet-value'
+use Rattle.refusals.proofs.list_value as list-value'
 use Rattle.numbers.proofs.wide as wide'
 use Rattle.numbers.proofs.be16 as be16'
 use Rattle.numbers.proofs.be32 as be32'
@@ -38,6 +45,20 @@ use Rattle.ip_options.proofs.calculate_ipv4_length as calculate-ipv4-length'
 use Rattle.ip_options.proofs.calculate_ipv6_length as calculate-ipv6-length'
 use Rattle.observable.proofs.TcpObservation.empty as empty'
 use Rattle.acceptance.specs.Promised.{Answers}
+
+pub record RefusalNumbers : Type 0 where
+  pub refusal-number
+      : (refusal : Refusal)
+      → Answers refusal-number'.signature tt (refusal-number'.Reads.Pre tt) (refusal-number'.Reads.Post tt)
+      (refusal, tt) (number refusal)
+  pub packet-value
+      : (refusal : PacketRefusal)
+      → Answers packet-value'.signature tt (packet-value'.Reads.Pre tt) (packet-value'.Reads.Post tt)
+      (refusal, tt) (packetValue refusal)
+  pub list-value
+      : (refusal : ListRefusal)
+      → Answers list-value'.signature tt (list-value'.Reads.Pre tt) (list-value'.Reads.Post tt)
+      (refusal, tt) (listValue refusal)
 
 pub record Numbers : Type 0 where
   pub wide : (x : ℕ) → Answers wide'.signature tt (wide'.Reads.Pre tt) (wide'.Reads.Post tt) (x, tt) x

@@ -21,10 +21,7 @@ use Rattle.one_option.proofs.later_quirks as later-quirks'
 use Rattle.syn_options.specs.Walk.{walkOf, parseOptionsRaw}
 use Rattle.syn_options.proofs.walk_options as walk-options'
 use Rattle.syn_options.proofs.parse_options_raw as parse-options-raw'
-use Rattle.ip.specs.declared.Refusal.{Refusal}
 use Rattle.ip.specs.Ip.{readIp}
-use Rattle.ip.specs.Numbers.{number}
-use Rattle.ip.proofs.refusal_number as refusal-number'
 use Rattle.ip.proofs.read_ip as read-ip'
 use Rattle.flow.specs.Reading.{readPacket}
 use Rattle.flow.proofs.read_packet as read-packet'
@@ -71,10 +68,6 @@ pub record Options : Type 0 where
       (buf, tt) (parseOptionsRaw (now buf))
 
 pub record Ip : Type 0 where
-  pub refusal-number
-      : (refusal : Refusal)
-      → Answers refusal-number'.signature tt (refusal-number'.Reads.Pre tt) (refusal-number'.Reads.Post tt)
-      (refusal, tt) (number refusal)
   pub read-ip
       : (κs : Lfts 1) (packet : RefT (List ℕ))
       → Answers read-ip'.signature κs (read-ip'.Reads.Pre κs) (read-ip'.Reads.Post κs)
