@@ -11,7 +11,6 @@ use siglist::check_list;
 use siglist::read_header;
 
 mod finding;
-mod raw;
 
 // A search's answer: what it finds, or refusal 11, 9 or 10.
 pub enum SearchAnswer {

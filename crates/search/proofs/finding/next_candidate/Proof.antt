@@ -2,6 +2,7 @@
 use Rattle.search.proofs.Rows.{passed-over}
 use Rattle.search.proofs.Fits.{gate-fails}
 use Rattle.search.specs.Search.{searchFrom, numbersFrom}
+use Rattle.matching.specs.Fit.{passes}
 use Rattle.siglist.specs.List.{AreasFit}
 use Rattle.found.specs.declared.Found.{Found}
 use mathlib.Core.List.{List}
@@ -43,15 +44,16 @@ part-raw-start c = search needs
 part-raw-end : tie.Need-part-raw-end Inv-loop μ-loop
 part-raw-end c = search needs
 
-gates-at-requires : tie.Need-gates-at-requires Inv-loop μ-loop
-gates-at-requires c κs = search needs
+passes-gates-requires : tie.Need-passes-gates-requires Inv-loop μ-loop
+passes-gates-requires c κs = search needs
 
 returns : tie.Need-returns Inv-loop μ-loop
+unfolding passes
 returns c =
     let l = c .before .before .before .before .before .before .loop in (
       l .inv .0,
       l .inv .1,
-      λ inside. rw (← l .inv .2 .recordsAt) (sym (c .before .gates-at .ensures) ∙ c .if2 .taken),
+      λ inside. rw (← l .inv .2 .recordsAt) (sym (c .before .passes-gates .ensures) ∙ c .if2 .taken),
       l .inv .3,
     )
 
@@ -62,6 +64,7 @@ loop-less : tie.Need-loop-less Inv-loop μ-loop
 loop-less c = search needs
 
 loop-again : tie.Need-loop-again Inv-loop μ-loop
+unfolding passes
 loop-again c =
     let a = c .before .before .before .before .before .before .before .before .args in
     let l = c .before .before .before .before .before .before .loop in
@@ -71,7 +74,7 @@ loop-again c =
       fits,
       λ held kinds bytes.
           passed-over (a .observed) kinds bytes (a .list .now) held (l .i) (a .areas .records) (c .before .before .before .before .if1 .taken)
-          (gate-fails (a .observed) kinds bytes (a .list .now) (a .areas) (l .i) fits (c .before .before .before .before .if1 .taken) (rw (← fits .recordsAt) (sym (c .before .gates-at .ensures) ∙ c .if2 .left)))
+          (gate-fails (a .observed) kinds bytes (a .list .now) (a .areas) (l .i) fits (c .before .before .before .before .if1 .taken) (rw (← fits .recordsAt) (sym (c .before .passes-gates .ensures) ∙ c .if2 .left)))
           ∙ l .inv .3 held kinds bytes,
     )
 
@@ -91,7 +94,7 @@ next-candidate-spec =
     sub-raw
     part-raw-start
     part-raw-end
-    gates-at-requires
+    passes-gates-requires
     returns
     add-i
     loop-less
