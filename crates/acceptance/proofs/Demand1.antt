@@ -175,8 +175,12 @@ of-siglist =
       read-header = λ κs l. answered tt (siglist.read-header-one κs l) (λ m. m) refl;
       record-at = λ κs l a i.
           let u = siglist.record-at-one κs l a i in
-          let lent = record { ptr = l .ptr; name = l .name; now = u .the } in
-          record { asks-nothing = tt; one = u; is = u .meets lent refl; only-reads = refl };
+          record {
+            asks-nothing = tt;
+            one = u;
+            is = u .meets (record { ptr = l .ptr; name = l .name; now = u .the }) refl;
+            only-reads = refl;
+          };
       check-list = λ κs l. answered tt (siglist.check-list-one κs l) (λ m. m) refl;
     }
 
