@@ -12,7 +12,6 @@ use Rattle.syn_options.proofs.Unique as syn-options
 use Rattle.ip.proofs.Unique as ip
 use Rattle.flow.proofs.Unique as flow
 use Rattle.distances.proofs.Unique as distances
-use Rattle.gates.proofs.Unique as gates
 use Rattle.matching.proofs.Unique as matching
 use Rattle.sigrecord.proofs.Unique as sigrecord
 use Rattle.siglist.proofs.Unique as siglist
@@ -33,7 +32,7 @@ use Rattle.acceptance.specs.Promised.{Answers}
 use Prim.Native.Nat.{ℕ}
 use Rattle.acceptance.specs.Leaves.{RefusalNumbers, Numbers, Quirks, TtlReading, Window, IpOptions}
 use Rattle.acceptance.specs.Reader.{Observable, OneOption, Options, Ip, Flow}
-use Rattle.acceptance.specs.Fitting.{Distances, Matching, Siglist, Held, Search}
+use Rattle.acceptance.specs.Fitting.{Sigrecord, Distances, Matching, Siglist, Held, Search}
 use Rattle.acceptance.specs.GivenOut.{Text, PacketAnswered, Bundle, Report, Gateway}
 use Rattle.acceptance.specs.Demand1.{Demand1}
 
@@ -61,6 +60,8 @@ of-numbers =
       wide = λ x. answered tt (numbers.wide-one x) (λ m. m) refl;
       be16 = λ high low. answered tt (numbers.be16-one high low) (λ m. m) refl;
       be32 = λ high low. answered tt (numbers.be32-one high low) (λ m. m) refl;
+      byte-at = λ κs s i. answered tt (numbers.byte-at-one κs s i) (λ m. m) refl;
+      be16-at = λ κs s i. answered tt (numbers.be16-at-one κs s i) (λ m. m) refl;
       least = λ a b. answered tt (numbers.least-one a b) (λ m. m) refl;
       saturating-sub = λ a b. answered tt (numbers.saturating-sub-one a b) (λ m. m) refl;
       saturating-add = λ a b. answered tt (numbers.saturating-add-one a b) (λ m. m) refl;
@@ -138,23 +139,40 @@ of-flow =
       read-packet = λ κs p peer. answered tt (flow.read-packet-one κs p peer) (λ m. m) refl;
     }
 
+of-sigrecord : Sigrecord
+of-sigrecord =
+    record {
+      mss-of = λ κs r. answered tt (sigrecord.mss-of-one κs r) (λ m. m) refl;
+      window-of = λ κs r. answered tt (sigrecord.window-of-one κs r) (λ m. m) refl;
+      scale-of = λ κs r. answered tt (sigrecord.scale-of-one κs r) (λ m. m) refl;
+      signature-of = λ κs r. answered tt (sigrecord.signature-of-one κs r) (λ m. m) refl;
+      first-entry = λ κs r. answered tt (sigrecord.first-entry-one κs r) (λ m. m) refl;
+      entry-count = λ κs r. answered tt (sigrecord.entry-count-one κs r) (λ m. m) refl;
+      label-of = λ κs r. answered tt (sigrecord.label-of-one κs r) (λ m. m) refl;
+      scalars-well-formed = λ κs r. answered tt (sigrecord.scalars-well-formed-one κs r) (λ m. m) refl;
+      entry-good = λ k b. answered tt (sigrecord.entry-good-one k b) (λ m. m) refl;
+      entries-good = λ κs r. answered tt (sigrecord.entries-good-one κs r) (λ m. m) refl;
+    }
+
 of-distances : Distances
 of-distances =
     record {
       ttl-fit = λ o s. answered tt (distances.ttl-fit-one o s) (λ m. m) refl;
       report-hop-distance = λ o s. answered tt (distances.report-hop-distance-one o s) (λ m. m) refl;
       window-size-matches = λ o s m. answered tt (distances.window-size-matches-one o s m) (λ m. m) refl;
+      ip-version-matches = λ o s. answered tt (distances.ip-version-matches-one o s) (λ m. m) refl;
+      payload-size-matches = λ o s. answered tt (distances.payload-size-matches-one o s) (λ m. m) refl;
     }
 
 of-matching : Matching
 of-matching =
     record {
-      olen-matches = λ o s. answered tt (gates.olen-matches-one o s) (λ m. m) refl;
-      mss-matches = λ o s. answered tt (gates.mss-matches-one o s) (λ m. m) refl;
-      wscale-matches = λ o s. answered tt (gates.wscale-matches-one o s) (λ m. m) refl;
+      olen-matches = λ o s. answered tt (matching.olen-matches-one o s) (λ m. m) refl;
+      mss-matches = λ o s. answered tt (matching.mss-matches-one o s) (λ m. m) refl;
+      wscale-matches = λ o s. answered tt (matching.wscale-matches-one o s) (λ m. m) refl;
       quirks-fit = λ o s. answered tt (matching.quirks-fit-one o s) (λ m. m) refl;
-      olayout-matches = λ κs ks bs n es m. answered tt (gates.olayout-matches-one κs ks bs n es m) (λ m. m) refl;
-      entry-good = λ k b. answered tt (gates.entry-good-one k b) (λ m. m) refl;
+      olayout-matches = λ κs ks bs n es m. answered tt (matching.olayout-matches-one κs ks bs n es m) (λ m. m) refl;
+      passes-gates = λ κs r f. answered tt (matching.passes-gates-one κs r f) (λ m. m) refl;
       features-of = λ o. answered tt (matching.features-of-one o) (λ m. m) refl;
       tolerance = λ f s. answered tt (matching.tolerance-one f s) (λ m. m) refl;
     }
@@ -163,9 +181,14 @@ of-siglist : Siglist
 of-siglist =
     record {
       read-header = λ κs l. answered tt (siglist.read-header-one κs l) (λ m. m) refl;
-      ip-version-matches = λ o s. answered tt (sigrecord.ip-version-matches-one o s) (λ m. m) refl;
-      payload-size-matches = λ o s. answered tt (sigrecord.payload-size-matches-one o s) (λ m. m) refl;
-      scalars-well-formed = λ κs r. answered tt (sigrecord.scalars-well-formed-one κs r) (λ m. m) refl;
+      record-at = λ κs l a i.
+          let u = siglist.record-at-one κs l a i in
+          record {
+            asks-nothing = tt;
+            one = u;
+            is = u .meets (record { ptr = l .ptr; name = l .name; now = u .the }) refl;
+            only-reads = refl;
+          };
       check-list = λ κs l. answered tt (siglist.check-list-one κs l) (λ m. m) refl;
     }
 
@@ -254,6 +277,7 @@ demand1 =
       options = of-options;
       ip = of-ip;
       flow = of-flow;
+      sigrecord = of-sigrecord;
       distances = of-distances;
       matching = of-matching;
       siglist = of-siglist;

@@ -10,11 +10,12 @@ use lib.Seq.{take-take}
 use borrow.Author.Tests.{le-ltb, ne-eqb, leb-true}
 use Rattle.basis.proofs.Tests.{and-left, and-right, and-false}
 use Rattle.syn_options.specs.Walk.{walkOf, parseOptionsRaw}
-use Rattle.gates.specs.Gates.{layoutMatches}
+use Rattle.matching.specs.Gates.{layoutMatches}
 use Rattle.matching.specs.declared.Features.{Features}
 use Rattle.matching.specs.declared.SignatureFit.the-variants as fit
 use Rattle.matching.specs.Fit.{featuresOf, fitOf}
-use Rattle.sigrecord.specs.Record.{entryCount, scalarsGood}
+use Rattle.sigrecord.specs.Record.{entryCount}
+use Rattle.sigrecord.specs.WellFormed.{scalarsGood}
 use Rattle.siglist.specs.declared.ListAnswer.{ListAnswer}
 use Rattle.refusals.specs.declared.ListRefusal.the-variants as why
 use Rattle.siglist.specs.declared.ListAnswer.the-variants as list

@@ -19,11 +19,11 @@ use Rattle.matching.specs.declared.FuzzyReason.{FuzzyReason}
 use Rattle.matching.specs.declared.Hops.the-variants as hops
 use Rattle.matching.specs.declared.QuirksFit.{QuirksFit}
 use Rattle.matching.specs.declared.QuirksFit.the-variants as quirksfit
-use Rattle.matching.specs.declared.Signature.{Signature}
+use Rattle.sigrecord.specs.declared.Signature.{Signature}
 use Rattle.matching.specs.declared.SignatureFit.{SignatureFit}
 use Rattle.matching.specs.declared.SignatureFit.the-variants as fit
 use Rattle.matching.specs.declared.Tolerated.{Tolerated}
-use Rattle.gates.specs.Gates.{layoutMatches}
+use Rattle.matching.specs.Gates.{layoutMatches}
 use Rattle.matching.specs.Tolerance.{maskedQuirks, quirksFit}
 use Rattle.matching.specs.Fit.{featuresOf, scalarGates, fitOf}
 use Rattle.sigrecord.specs.Record.{labelOf}

@@ -4,6 +4,7 @@ use mathlib.Core.List.{List}
 use Prim.Native.Nat.{ℕ, _+_, _*_, _-_, min}
 use contract.Lifetimes.{Lfts}
 use denote.Ref.{RefT, now}
+use Rattle.basis.specs.Bytes as bytes
 use Rattle.tcp.specs.declared.IpVersion.{IpVersion}
 use Rattle.tcp.specs.declared.Mss.{Mss}
 use Rattle.refusals.specs.declared.PacketRefusal.{PacketRefusal}
@@ -16,6 +17,8 @@ use Rattle.refusals.proofs.list_value as list-value'
 use Rattle.numbers.proofs.wide as wide'
 use Rattle.numbers.proofs.be16 as be16'
 use Rattle.numbers.proofs.be32 as be32'
+use Rattle.numbers.proofs.byte_at as byte-at'
+use Rattle.numbers.proofs.be16_at as be16-at'
 use Rattle.numbers.proofs.least as least'
 use Rattle.numbers.proofs.saturating_sub as saturating-sub'
 use Rattle.numbers.proofs.saturating_add as saturating-add'
@@ -70,6 +73,14 @@ pub record Numbers : Type 0 where
       : (high low : ℕ)
       → Answers be32'.signature tt (be32'.Reads.Pre tt) (be32'.Reads.Post tt)
       (high, (low, tt)) (high * 65536 + low)
+  pub byte-at
+      : (κs : Lfts 1) (s : RefT (List ℕ)) (i : ℕ)
+      → Answers byte-at'.signature κs (byte-at'.Reads.Pre κs) (byte-at'.Reads.Post κs)
+      (s, (i, tt)) (bytes.byteAt (now s) i)
+  pub be16-at
+      : (κs : Lfts 1) (s : RefT (List ℕ)) (i : ℕ)
+      → Answers be16-at'.signature κs (be16-at'.Reads.Pre κs) (be16-at'.Reads.Post κs)
+      (s, (i, tt)) (bytes.be16 (now s) i)
   pub least : (a b : ℕ) → Answers least'.signature tt (least'.Reads.Pre tt) (least'.Reads.Post tt) (a, (b, tt)) (min a b)
   pub saturating-sub
       : (a b : ℕ)

@@ -4,6 +4,7 @@ use mathlib.Core.List.{List, [], _∷_}
 use Prim.Native.Nat.{ℕ, _+_}
 use lib.ListN.{length}
 use contract.Lifetimes.{Lfts}
+use denote.Ref.{RefT, now}
 use denote.Signature as kit
 use Rattle.basis.specs.Unique.{ExactlyOne}
 use Rattle.text.specs.Written.{written, room}
@@ -21,6 +22,17 @@ pub record Answers
   where
     pub asks-nothing : pre arguments
     pub one : ExactlyOne R (λ (r : R). post arguments r arguments)
+    pub is : one .the ≡ result
+    pub only-reads : writable signature κs ≡ []
+
+-- A function that gives back a part of what it is lent: exactly one row of bytes, lent from wherever, meets its contract.
+pub record PartAnswers
+    {A : Type 0} (signature : kit.Signature) (κs : Lfts (signature .lifetimes))
+    (pre : A → Type 0) (post : A → RefT (List ℕ) → A → Type 0) (arguments : A) (result : List ℕ)
+    : Type 0
+  where
+    pub asks-nothing : pre arguments
+    pub one : ExactlyOne (List ℕ) (λ (v : List ℕ). (r : RefT (List ℕ)) → now r ≡ v → post arguments r arguments)
     pub is : one .the ≡ result
     pub only-reads : writable signature κs ≡ []
 

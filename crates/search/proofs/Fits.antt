@@ -10,15 +10,16 @@ use borrow.Author.Tests.{lt-ltb, eq-eqb}
 use Rattle.matching.specs.declared.Features.{Features}
 use Rattle.matching.specs.declared.SignatureFit.{SignatureFit}
 use Rattle.matching.specs.declared.SignatureFit.the-variants as fit
-use Rattle.gates.specs.Gates.{entriesGood, layoutMatches}
-use Rattle.matching.specs.Fit.{scalarGates, toleranceOf, fitOf}
+use Rattle.sigrecord.specs.Layout.{entriesGood}
+use Rattle.matching.specs.Gates.{layoutMatches}
+use Rattle.matching.specs.Fit.{scalarGates, passes, toleranceOf, fitOf}
 use Rattle.basis.proofs.Tests.{and-left, and-right, and-false, and-true}
 use Rattle.siglist.specs.declared.Areas.{Areas}
-use Rattle.sigrecord.specs.Record.{signatureOf, firstEntry, entryCount, scalarsGood}
+use Rattle.sigrecord.specs.Record.{signatureOf, firstEntry, entryCount}
 use Rattle.siglist.specs.List.{recordCount, layoutCount, AreasFit, recordAt, entriesOf, layoutLies, recordGood}
-use Rattle.sigrecord.specs.Record.{scalarsWellFormed}
+use Rattle.sigrecord.specs.WellFormed.{scalarsGood, scalarsWellFormed}
 use Rattle.found.specs.Rank.{isNone}
-use Rattle.search.specs.Search.{passes, fitAt}
+use Rattle.search.specs.Search.{fitAt}
 use Rattle.siglist.proofs.List.{list-fits}
 
 no-match : (m g s p : Bool) → m && g ≡ false → m && (s && (p && g)) ≡ false

@@ -9,6 +9,7 @@ use native.Mathlib.Omega.{arith}
 use lib.ListN.{getD}
 use Rattle.matching.specs.declared.Features.{Features}
 use Rattle.matching.specs.declared.SignatureFit.the-variants as fit
+use Rattle.matching.specs.Fit.{passes}
 use Rattle.found.specs.declared.Found.{Found}
 use Rattle.found.specs.declared.Found.the-variants as found
 use Rattle.found.specs.Least.{unranked, Place, nowhere, number, rankThere, prefer, leastFrom, firstLeast, numbersFrom}
@@ -17,7 +18,7 @@ use Rattle.found.proofs.Least as least
 use Rattle.siglist.specs.declared.Areas.{Areas}
 use Rattle.siglist.specs.List.{recordAt, listFits, AreasFit}
 use Rattle.search.specs.Next.{Next}
-use Rattle.search.specs.Search.{passes, fitAt, candidateAt, rankAt, foundAt, searchRow}
+use Rattle.search.specs.Search.{fitAt, candidateAt, rankAt, foundAt, searchRow}
 use Rattle.search.proofs.Fits.{gate-fails}
 
 -- What does not fit comes last.

@@ -5,7 +5,7 @@ use mathlib.Core.Bool.{true, false}
 use mathlib.Core.List.{List}
 use Rattle.matching.specs.declared.Features.{Features}
 use Rattle.siglist.specs.List.{recordAt}
-use Rattle.search.specs.Search.{passes}
+use Rattle.matching.specs.Fit.{passes}
 
 -- The first of n records from one on that passes the gates, or n.
 pub record Next (f : Features) (l : List ℕ) (n from r : ℕ) : Type 0 where

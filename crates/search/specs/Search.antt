@@ -2,14 +2,14 @@
 -- reason; else none", as the first record of least rank. It goes over a row of record numbers; the plain search takes 0, 1, .. to
 -- the last.
 use Prim.Native.Nat.{ℕ}
-use mathlib.Core.Bool.{Bool, cond, _&&_}
+use mathlib.Core.Bool.{cond, _&&_}
 use mathlib.Core.List.{List}
-use lib.Dec.{ltb, eqb}
+use lib.Dec.{ltb}
 use Rattle.observable.specs.declared.TcpObservation.{TcpObservation}
 use Rattle.matching.specs.declared.Features.{Features}
 use Rattle.matching.specs.declared.SignatureFit.{SignatureFit}
 use Rattle.matching.specs.declared.SignatureFit.the-variants as fit
-use Rattle.matching.specs.Fit.{featuresOf, scalarGates, fitOf}
+use Rattle.matching.specs.Fit.{featuresOf, fitOf}
 use Rattle.found.specs.declared.Found.{Found}
 use Rattle.found.specs.declared.Found.the-variants as found
 use Rattle.found.specs.Least.{Place, nowhere, number, firstLeast, numbersFrom}
@@ -29,10 +29,6 @@ fitAt f kinds bytes l i =
     cond (listFits l && ltb i (recordCount l) && recordGood l i)
     (fitOf f kinds bytes (signatureOf (recordAt l i)) (entryCount (recordAt l i)) (entriesOf l (recordAt l i)))
     fit.None
-
--- A record passes the gates, the entries of its layout apart.
-unfoldable pub passes : Features → List ℕ → Bool
-passes f r = eqb (f .count) (entryCount r) && scalarGates f (signatureOf r)
 
 -- What is found in record i alone, and the record's rank.
 unfoldable pub candidateAt : Features → List ℕ → List ℕ → List ℕ → ℕ → Found

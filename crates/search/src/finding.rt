@@ -2,104 +2,32 @@
 ghost use mathlib.Core.Path.{_≡_};
 ghost use mathlib.Core.Bool.{true, _&&_};
 ghost use lib.Dec.{leb};
-ghost use Rattle.distances.specs.DistanceGates.{windowMatches};
-ghost use Rattle.gates.specs.Gates.{mssMatches, scaleMatches, layoutMatches};
+ghost use Rattle.matching.specs.Fit.{passes};
+ghost use Rattle.matching.specs.Gates.{layoutMatches};
 ghost use Prim.Native.Nat.{_+_, _*_, _≤_, _<_};
 ghost use lib.ListN.{length};
-ghost use Rattle.sigrecord.specs.Record.{entryCount, labelOf, mssOf, scaleOf, windowOf};
+ghost use Rattle.sigrecord.specs.Record.{entryCount, labelOf};
 ghost use Rattle.siglist.specs.List.{recordAt, entriesOf, AreasFit, recordGood};
 ghost use Rattle.found.specs.Least.{prefer, numbersFrom};
 ghost use Rattle.found.specs.Rank.{rankOf};
 ghost use Rattle.search.specs.Next.{Next};
-ghost use Rattle.search.specs.Search.{passes, fitAt, candidateAt, searchRow};
-use crate::raw::mss_of;
-use crate::raw::scale_of;
-use crate::raw::signature_of;
-use crate::raw::window_of;
-use distances::WindowSize;
-use distances::window_size_matches;
+ghost use Rattle.search.specs.Search.{fitAt, candidateAt, searchRow};
 use found::Found;
 use found::found_of;
 use found::is_none;
 use found::prefer_found;
 use found::rank_of;
-use gates::mss_matches;
-use gates::olayout_matches;
-use gates::olen_matches;
-use gates::wscale_matches;
 use matching::Features;
 use matching::SignatureFit;
+use matching::olayout_matches;
+use matching::passes_gates;
 use matching::tolerance;
 use numbers::be16;
 use numbers::wide;
 use siglist::Areas;
 use sigrecord::RECORD;
-use sigrecord::ip_version_matches;
-use sigrecord::payload_size_matches;
 use sigrecord::scalars_well_formed;
-use tcp::Mss;
-use tcp::Wscale;
-use window_size::Multiplier;
-
-// Gates of a record, each read off its bytes.
-pub(crate) fn mss_gate(observed: Mss, present: u8, high: u8, low: u8) -> bool
-    ensures { λ r. ⌜ r ≡ mssMatches observed (mssOf present (high * 256 + low)) ⌝ }
-{
-    mss_matches(observed, mss_of(present, be16(high, low)))
-}
-
-pub(crate) fn scale_gate(observed: Wscale, present: u8, number: u8) -> bool
-    ensures { λ r. ⌜ r ≡ scaleMatches observed (scaleOf present number) ⌝ }
-{
-    wscale_matches(observed, scale_of(present, number))
-}
-
-// Most windows are declared as multiples of the MSS, so that form is tested first.
-pub(crate) fn window_gate(
-    observed: u16,
-    multiplier: Multiplier,
-    form: u8,
-    high: u8,
-    low: u8,
-) -> bool
-    ensures { λ r. ⌜ r ≡ windowMatches observed (windowOf form (high * 256 + low)) multiplier ⌝ }
-{
-    if form == 3 {
-        return window_size_matches(observed, WindowSize::Mss(low), multiplier);
-    }
-    window_size_matches(observed, window_of(form, be16(high, low)), multiplier)
-}
-
-// The gates of a record but for the entries of its layout, those first that reject most.
-pub(crate) fn gates_at(observed: Features, raw: &[u8]) -> bool
-    requires { ⌜ length (now raw) ≡ 24 ⌝ }
-    ensures { λ r. ⌜ r ≡ passes observed (now (raw .entry)) ⌝ }
-{
-    if observed.count != wide(raw[20]) as usize {
-        return false;
-    }
-    let wscale = observed.wscale;
-    if !scale_gate(wscale, raw[11], raw[12]) {
-        return false;
-    }
-    let mss = observed.mss;
-    if !mss_gate(mss, raw[5], raw[6], raw[7]) {
-        return false;
-    }
-    if !olen_matches(observed.olen, raw[4]) {
-        return false;
-    }
-    let pclass = observed.pclass;
-    if !payload_size_matches(pclass, raw[13]) {
-        return false;
-    }
-    let version = observed.version;
-    if !ip_version_matches(version, raw[0]) {
-        return false;
-    }
-    let multiplier = observed.multiplier;
-    window_gate(observed.wsize, multiplier, raw[8], raw[9], raw[10])
-}
+use sigrecord::signature_of;
 
 // Whether so many entries from one on lie within the layout area.
 pub(crate) fn entries_lie(areas: Areas, first: usize, count: usize) -> bool
@@ -207,7 +135,7 @@ pub(crate) fn next_candidate(observed: Features, list: &[u8], areas: Areas, from
         let at = areas.records_offset + RECORD * i;
         let end_of_record = at + RECORD;
         let raw = &list[at..end_of_record];
-        if gates_at(observed, raw) {
+        if passes_gates(observed, raw) {
             return i;
         }
         i += 1;

@@ -12,7 +12,6 @@ use siglist::check_list;
 use siglist::read_header;
 
 mod finding;
-mod raw;
 
 // A search's answer: what it finds, or why it or its list is refused.
 pub enum SearchAnswer {

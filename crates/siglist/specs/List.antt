@@ -2,8 +2,8 @@
 use mathlib.Core.Path.{_≡_}
 use Prim.Native.Nat.{ℕ, zero, suc, _+_, _*_, _≤_}
 use mathlib.Core.Bool.{Bool, cond, _&&_}
-use mathlib.Core.List.{List}
-use lib.Dec.{leb}
+use mathlib.Core.List.{List, []}
+use lib.Dec.{leb, ltb}
 use lib.ListN.{length}
 use Rattle.basis.specs.Bytes.{be16, part}
 use Rattle.siglist.specs.declared.Areas.{Areas}
@@ -13,8 +13,9 @@ use Rattle.siglist.specs.declared.ListAnswer.{ListAnswer}
 use Rattle.siglist.specs.declared.ListAnswer.the-variants as answer
 use Rattle.refusals.specs.declared.ListRefusal.the-variants as refusal
 use Rattle.refusals.specs.Refusals.{Verdict, listRefused, numberOf}
-use Rattle.gates.specs.Gates.{entriesGood}
-use Rattle.sigrecord.specs.Record.{firstEntry, entryCount, scalarsGood}
+use Rattle.sigrecord.specs.Layout.{entriesGood}
+use Rattle.sigrecord.specs.Record.{firstEntry, entryCount}
+use Rattle.sigrecord.specs.WellFormed.{scalarsGood}
 
 -- "Header of 8 bytes, four two-byte numbers: signature count, offset of records, layout entry count, offset of layout entries."
 abbrev pub recordCount : List ℕ → ℕ
@@ -62,6 +63,13 @@ recordStart l i = recordsOffset l + 24 * i
 
 abbrev pub recordAt : List ℕ → ℕ → List ℕ
 recordAt l i = part (recordStart l i) (recordStart l i + 24) l
+
+-- Record i by the numbers of a header, on every byte string: its 24 bytes, or none if it is not among the records or these do not fit.
+unfoldable pub recordOf : List ℕ → Areas → ℕ → List ℕ
+recordOf l a i =
+    cond (ltb i (a .records) && areaFits (a .«records_offset») (24 * a .records) l)
+    (part (a .«records_offset» + 24 * i) (a .«records_offset» + 24 * i + 24) l)
+    []
 
 -- So many layout entries from one on, where they lie.
 abbrev pub entriesFrom : List ℕ → ℕ → ℕ → List ℕ

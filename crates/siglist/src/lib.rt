@@ -2,13 +2,13 @@
 ghost use mathlib.Core.Path.{_≡_};
 ghost use Prim.Native.Nat.{_+_, _*_, _≤_, _<_};
 ghost use lib.ListN.{length};
-ghost use Rattle.gates.specs.Gates.{entriesGood};
-ghost use Rattle.siglist.specs.List.{listFits, areasOf, headerOf, AreasFit, layoutLies, recordGood, checkList};
-use gates::entry_good;
-use numbers::be16;
-use numbers::wide;
+ghost use Rattle.siglist.specs.List.{listFits, areasOf, headerOf, AreasFit, recordOf, layoutLies, recordGood, checkList};
+use numbers::be16_at;
 use refusals::ListRefusal;
 use sigrecord::RECORD;
+use sigrecord::entries_good;
+use sigrecord::entry_count;
+use sigrecord::first_entry;
 use sigrecord::scalars_well_formed;
 
 // A list is well formed, or refused.
@@ -34,14 +34,13 @@ pub enum Header {
 }
 
 fn areas_of(list: &[u8]) -> Areas
-    requires { ⌜ 8 ≤ length (now list) ⌝ }
     ensures { λ r. ⌜ r ≡ areasOf (now (list .entry)) ⌝ }
 {
     Areas {
-        records: be16(list[0], list[1]) as usize,
-        records_offset: be16(list[2], list[3]) as usize,
-        entries: be16(list[4], list[5]) as usize,
-        entries_offset: be16(list[6], list[7]) as usize,
+        records: be16_at(list, 0) as usize,
+        records_offset: be16_at(list, 2) as usize,
+        entries: be16_at(list, 4) as usize,
+        entries_offset: be16_at(list, 6) as usize,
     }
 }
 
@@ -51,10 +50,10 @@ fn list_fits(list: &[u8]) -> bool
     if list.len() < HEADER {
         return false;
     }
-    let records = be16(list[0], list[1]) as usize;
-    let records_offset = be16(list[2], list[3]) as usize;
-    let entries = be16(list[4], list[5]) as usize;
-    let entries_offset = be16(list[6], list[7]) as usize;
+    let records = be16_at(list, 0) as usize;
+    let records_offset = be16_at(list, 2) as usize;
+    let entries = be16_at(list, 4) as usize;
+    let entries_offset = be16_at(list, 6) as usize;
     if list.len() < records_offset + RECORD * records {
         return false;
     }
@@ -71,19 +70,23 @@ pub fn read_header(list: &[u8]) -> Header
     Header::Fits(areas_of(list))
 }
 
-fn entries_good(entries: &[u8], count: usize) -> bool
-    requires { ⌜ 2 * count ≤ length (now entries) ⌝ }
-    ensures { λ r. ⌜ r ≡ entriesGood (now (entries .entry)) count ⌝ }
+// The bytes of record i of a list, and none if its header's numbers do not have it in the list.
+pub fn record_at<'a>(list: &'a [u8], areas: Areas, i: usize) -> &'a [u8]
+    ensures { λ r. ⌜ now r ≡ recordOf (now (list .entry)) areas i ⌝ }
 {
-    let mut i = 0;
-    while i < count {
-        let at = 2 * i;
-        if !entry_good(entries[at], entries[at + 1]) {
-            return false;
-        }
-        i += 1;
+    let offset = areas.records_offset;
+    if areas.records <= i {
+        return &list[0..0];
     }
-    true
+    if list.len() < offset {
+        return &list[0..0];
+    }
+    if (list.len() - offset) / RECORD < areas.records {
+        return &list[0..0];
+    }
+    let start = offset + RECORD * i;
+    let end = start + RECORD;
+    &list[start..end]
 }
 
 fn layout_good(list: &[u8], areas: Areas, first: usize, count: usize) -> bool
@@ -101,24 +104,22 @@ fn layout_good(list: &[u8], areas: Areas, first: usize, count: usize) -> bool
     }
     let start = areas.entries_offset + 2 * first;
     let end = start + 2 * count;
-    entries_good(&list[start..end], count)
+    entries_good(&list[start..end])
 }
 
 fn record_good(list: &[u8], areas: Areas, i: usize) -> bool
     requires { ⌜ AreasFit (now list) areas × (i < areas .records) ⌝ }
     ensures { λ r. ⌜ r ≡ recordGood (now (list .entry)) i ⌝ }
 {
-    let start = areas.records_offset + RECORD * i;
-    let end = start + RECORD;
-    let raw = &list[start..end];
+    let raw = record_at(list, areas, i);
     if !scalars_well_formed(raw) {
         return false;
     }
     layout_good(
         list,
         areas,
-        be16(raw[18], raw[19]) as usize,
-        wide(raw[20]) as usize,
+        first_entry(raw) as usize,
+        entry_count(raw) as usize,
     )
 }
 

@@ -1,6 +1,6 @@
 -- `siglist::check_list` meets its contract.
 use native.Mathlib.Nat.{sub-zero}
-use Rattle.siglist.proofs.List.{areas-fit, header-fits, record-good-turn, record-bad-turn, records-end}
+use Rattle.siglist.proofs.List.{areas-fit, record-good-turn, record-bad-turn, records-end}
 use Rattle.siglist.specs.List.{recordCount, AreasFit, recordsFrom, checkList}
 use Prim.Native.Nat.{_≤_, _-_}
 use borrow.Author.Tests.{not-true, not-false}
@@ -24,7 +24,7 @@ unfolding checkList
 returns c = rw (sym (c .before .list-fits .ensures) ∙ not-true (c .before .list-fits .result) (c .if1 .taken))
 
 areas-of-requires : tie.Need-areas-of-requires Inv-loop μ-loop
-areas-of-requires c κs = header-fits (c .before .before .before .args .list .now) (sym (c .before .list-fits .ensures) ∙ not-false (c .before .list-fits .result) (c .if1 .left))
+areas-of-requires c κs = search needs
 
 loop-holds : tie.Need-loop-holds Inv-loop μ-loop
 loop-holds c =

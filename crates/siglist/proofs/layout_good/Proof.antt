@@ -1,9 +1,10 @@
 -- `siglist::layout_good` meets its contract.
 use Rattle.siglist.specs.List.{layoutCount, layoutLies}
 use Rattle.basis.proofs.Rules.{cases}
-use Prim.Native.Nat.{_+_}
+use Prim.Native.Nat.{_+_, _*_}
 use borrow.Author.Tests.{le-leb, lt-leb}
 use native.Mathlib.Omega.{arith}
+use Rattle.siglist.proofs.List.{row-of}
 use borrow.Author.Needs.{needs}
 use Rattle.siglist.proofs.layout_good.Statement.{statement}
 use Rattle.siglist.proofs.layout_good.Tie as tie
@@ -53,9 +54,17 @@ entries-good-requires c κs = search needs
 returns-4 : tie.Need-returns-4
 unfolding layoutLies
 returns-4 c =
-    let a = c .before .before .before .before .before .before .before .before .before .args in
-    let pre = c .before .before .before .before .before .before .before .before .before .pre in
-    rw (le-leb (a .count) 40 (omega arith), le-leb (a .first + a .count) (layoutCount (a .list .now)) (omega arith), ← pre .entriesAt, c .entries-good .ensures)
+    let at-start = c .before .before .before .before .before .before .before .before .before in
+    let a = at-start .args in
+    let pre = at-start .pre in
+    let start = a .areas .«entries_offset» + 2 * a .first in
+    rw (
+      le-leb (a .count) 40 (omega arith),
+      le-leb (a .first + a .count) (layoutCount (a .list .now)) (omega arith),
+      ← pre .entriesAt,
+      c .entries-good .ensures,
+      row-of (a .list .now) start (a .count) (omega arith),
+    )
 
 pub layout-good-spec : {M : Type 1} → statement M
 layout-good-spec =

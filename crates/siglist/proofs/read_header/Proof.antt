@@ -1,5 +1,4 @@
 -- `siglist::read_header` meets its contract.
-use Rattle.siglist.proofs.List.{header-fits}
 use Rattle.siglist.specs.List.{headerOf}
 use borrow.Author.Tests.{not-true, not-false}
 use mathlib.Core.Path.{sym, _∙_}
@@ -15,7 +14,7 @@ unfolding headerOf
 returns c = rw (sym (c .before .list-fits .ensures) ∙ not-true (c .before .list-fits .result) (c .if1 .taken))
 
 areas-of-requires : tie.Need-areas-of-requires
-areas-of-requires c κs = header-fits (c .before .before .before .args .list .now) (sym (c .before .list-fits .ensures) ∙ not-false (c .before .list-fits .result) (c .if1 .left))
+areas-of-requires c κs = search needs
 
 returns-2 : tie.Need-returns-2
 unfolding headerOf

@@ -1,5 +1,5 @@
 -- `sigrecord::scalars_well_formed` meets its contract.
-use Rattle.sigrecord.specs.Record.{scalarsWellFormed}
+use Rattle.sigrecord.specs.WellFormed.{scalarsWellFormed}
 use Rattle.basis.proofs.Rules.{cases}
 use borrow.Author.Needs.{needs}
 use Rattle.sigrecord.proofs.scalars_well_formed.Statement.{statement}

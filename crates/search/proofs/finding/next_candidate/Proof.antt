@@ -1,6 +1,6 @@
 -- `search::next_candidate` meets its contract.
 use Rattle.search.proofs.Rows.{one-farther}
-use Rattle.search.specs.Search.{passes}
+use Rattle.matching.specs.Fit.{passes}
 use Rattle.siglist.specs.List.{recordAt, AreasFit}
 use mathlib.Core.Bool.{false}
 use mathlib.Core.Path.{_≡_, sym, _∙_}
@@ -39,8 +39,8 @@ part-raw-start c = search needs
 part-raw-end : tie.Need-part-raw-end Inv-loop μ-loop
 part-raw-end c = search needs
 
-gates-at-requires : tie.Need-gates-at-requires Inv-loop μ-loop
-gates-at-requires c κs = search needs
+passes-gates-requires : tie.Need-passes-gates-requires Inv-loop μ-loop
+passes-gates-requires c κs = search needs
 
 returns : tie.Need-returns Inv-loop μ-loop
 returns c =
@@ -48,7 +48,7 @@ returns c =
     record {
       reached = l .inv .0;
       within = l .inv .1;
-      candidate = λ inside. rw (← l .inv .2 .recordsAt) (sym (c .before .gates-at .ensures) ∙ c .if2 .taken);
+      candidate = λ inside. rw (← l .inv .2 .recordsAt) (sym (c .before .passes-gates .ensures) ∙ c .if2 .taken);
       between = l .inv .3;
     }
 
@@ -65,7 +65,7 @@ loop-again c =
       search needs,
       search needs,
       fits,
-      one-farther _ _ _ (l .i) (l .inv .3) (rw (← fits .recordsAt) (sym (c .before .gates-at .ensures) ∙ c .if2 .left)),
+      one-farther _ _ _ (l .i) (l .inv .3) (rw (← fits .recordsAt) (sym (c .before .passes-gates .ensures) ∙ c .if2 .left)),
     )
 
 returns-2 : tie.Need-returns-2 Inv-loop μ-loop
@@ -86,7 +86,7 @@ next-candidate-spec =
     sub-raw
     part-raw-start
     part-raw-end
-    gates-at-requires
+    passes-gates-requires
     returns
     add-i
     loop-less

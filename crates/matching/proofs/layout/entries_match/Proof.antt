@@ -1,0 +1,97 @@
+-- `matching::entries_match` meets its contract.
+use mathlib.Core.Path.{_≡_, sym, _∙_}
+use mathlib.Core.Bool.{true}
+use Prim.Native.Nat.{_≤_, _-_}
+use native.Mathlib.Omega.{arith}
+use borrow.Author.Tests.{not-true, not-false}
+use Rattle.basis.proofs.Tests.{and-false}
+use Rattle.sigrecord.specs.Layout.{entriesGood}
+use Rattle.sigrecord.proofs.Laws.{none-bad, one-more-good, one-bad}
+use Rattle.matching.specs.Gates.{entriesMatch}
+use Rattle.matching.proofs.Entries.{no-entry, entry-matches, kind-differs, byte-differs}
+use borrow.Author.Needs.{needs}
+use Rattle.matching.proofs.layout.entries_match.Statement.{statement}
+use Rattle.matching.proofs.layout.entries_match.Tie as tie
+
+abbrev Inv-loop : tie.InvT-loop
+Inv-loop kinds bytes entries count i₀ i = (i ≤ count) × (entriesMatch kinds bytes entries i ≡ true) × (entriesGood entries i ≡ true)
+
+abbrev μ-loop : tie.MeasureT-loop
+μ-loop kinds bytes entries count i₀ i = count - i
+
+loop-holds : tie.Need-loop-holds Inv-loop μ-loop
+loop-holds c = (search needs, no-entry _ _ _, none-bad _)
+
+mul-at : tie.Need-mul-at Inv-loop μ-loop
+mul-at c = search needs
+
+add-byte : tie.Need-add-byte Inv-loop μ-loop
+add-byte c = search needs
+
+shared-slice-read-byte : tie.Need-shared-slice-read-byte Inv-loop μ-loop
+shared-slice-read-byte c = search needs
+
+shared-slice-read-if1 : tie.Need-shared-slice-read-if1 Inv-loop μ-loop
+shared-slice-read-if1 c = search needs
+
+returns : tie.Need-returns Inv-loop μ-loop
+returns c = rw (byte-differs (c .before .before .before .before .before .before .before .before .args .kinds .now) (c .before .before .before .before .before .before .before .before .args .bytes .now) (c .before .before .before .before .before .before .before .before .args .entries .now) (c .before .before .before .before .before .before .before .before .args .count) (c .before .before .before .before .loop .i) (c .before .before .before .loop-test .taken) (c .if1 .taken))
+
+kind-allows-requires : tie.Need-kind-allows-requires Inv-loop μ-loop
+kind-allows-requires c κs = search needs
+
+returns-2 : tie.Need-returns-2 Inv-loop μ-loop
+returns-2 c =
+    let a = c .before .before .before .before .before .before .before .before .before .before .args in
+    rw (one-bad (a .entries .now) (a .count) (c .before .before .before .before .before .before .loop .i) (c .before .before .before .before .before .loop-test .taken) (sym (c .before .kind-allows .ensures) ∙ not-true (c .before .kind-allows .result) (c .if2 .taken))) (sym (and-false (entriesMatch (a .kinds .now) (a .bytes .now) (a .entries .now) (a .count))))
+
+shared-slice-read-if3 : tie.Need-shared-slice-read-if3 Inv-loop μ-loop
+shared-slice-read-if3 c = search needs
+
+shared-slice-read-if3-2 : tie.Need-shared-slice-read-if3-2 Inv-loop μ-loop
+shared-slice-read-if3-2 c = search needs
+
+returns-3 : tie.Need-returns-3 Inv-loop μ-loop
+returns-3 c = rw (kind-differs (c .before .before .before .before .before .before .before .before .before .before .before .before .before .args .kinds .now) (c .before .before .before .before .before .before .before .before .before .before .before .before .before .args .bytes .now) (c .before .before .before .before .before .before .before .before .before .before .before .before .before .args .entries .now) (c .before .before .before .before .before .before .before .before .before .before .before .before .before .args .count) (c .before .before .before .before .before .before .before .before .before .loop .i) (c .before .before .before .before .before .before .before .before .loop-test .taken) (c .if3 .taken))
+
+add-i : tie.Need-add-i Inv-loop μ-loop
+add-i c = search needs
+
+loop-less : tie.Need-loop-less Inv-loop μ-loop
+loop-less c = search needs
+
+loop-again : tie.Need-loop-again Inv-loop μ-loop
+loop-again c =
+    let a = c .before .before .before .before .before .before .before .before .before .before .before .before .before .args in
+    let l = c .before .before .before .before .before .before .before .before .before .loop in (
+      search needs,
+      entry-matches (a .kinds .now) (a .bytes .now) (a .entries .now) (l .i) (c .if3 .left) (c .before .before .before .before .before .if1 .left) (l .inv .1),
+      one-more-good (a .entries .now) (l .i) (sym (c .before .before .before .before .kind-allows .ensures) ∙ not-false (c .before .before .before .before .kind-allows .result) (c .before .before .before .if2 .left)) (l .inv .2),
+    )
+
+returns-4 : tie.Need-returns-4 Inv-loop μ-loop
+returns-4 c =
+    let end : c .before .loop .i ≡ c .before .before .before .before .before .args .count = omega arith in
+    rw (rw end at (c .before .loop .inv .1), rw end at (c .before .loop .inv .2))
+
+pub entries-match-spec : {M : Type 1} → statement M
+entries-match-spec =
+    tie.close
+    (tie.spec
+    Inv-loop
+    μ-loop
+    loop-holds
+    mul-at
+    add-byte
+    shared-slice-read-byte
+    shared-slice-read-if1
+    returns
+    kind-allows-requires
+    returns-2
+    shared-slice-read-if3
+    shared-slice-read-if3-2
+    returns-3
+    add-i
+    loop-less
+    loop-again
+    returns-4)

@@ -1,0 +1,37 @@
+-- `matching::olayout_matches` meets its contract.
+use borrow.Author.Tests.{le-leb, lt-leb}
+use lib.ListN.{length}
+use native.Mathlib.Omega.{arith}
+use Prim.Native.Nat.{_*_}
+use Rattle.basis.proofs.Rules.{cases}
+use Rattle.matching.specs.Gates.{layoutMatches}
+use borrow.Author.Needs.{needs}
+use Rattle.matching.proofs.olayout_matches.Statement.{statement}
+use Rattle.matching.proofs.olayout_matches.Tie as tie
+
+returns : tie.Need-returns
+unfolding layoutMatches
+returns c = search cases
+
+returns-2 : tie.Need-returns-2
+unfolding layoutMatches
+returns-2 c = search cases
+
+returns-3 : tie.Need-returns-3
+unfolding layoutMatches
+returns-3 c = search cases
+
+returns-4 : tie.Need-returns-4
+unfolding layoutMatches
+returns-4 c = rw (lt-leb (2 * c .before .before .before .before .before .before .before .args .declared) (length (c .before .before .before .before .before .before .before .args .entries .now)) (omega arith)) (search cases)
+
+entries-match-requires : tie.Need-entries-match-requires
+entries-match-requires c κs = search needs
+
+returns-5 : tie.Need-returns-5
+unfolding layoutMatches
+returns-5 c = rw (le-leb (2 * c .before .before .before .before .before .before .before .before .args .declared) (length (c .before .before .before .before .before .before .before .before .args .entries .now)) (omega arith), c .entries-match .ensures) (search cases)
+
+pub olayout-matches-spec : {M : Type 1} → statement M
+olayout-matches-spec =
+    tie.close (tie.spec returns returns-2 returns-3 returns-4 entries-match-requires returns-5)

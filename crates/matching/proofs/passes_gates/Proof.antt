@@ -1,0 +1,148 @@
+-- `matching::passes_gates` meets its contract.
+use Rattle.matching.specs.Fit.{scalarGates, passes}
+use Rattle.sigrecord.specs.Record.{signatureOf, entryCount}
+use Rattle.basis.proofs.Tests.{and-false, and-true}
+use mathlib.Core.Path.{sym, _∙_}
+use borrow.Author.Tests.{not-true, not-false, eq-eqb, ne-eqb}
+use borrow.Author.Needs.{needs}
+use Rattle.matching.proofs.passes_gates.Statement.{statement}
+use Rattle.matching.proofs.passes_gates.Tie as tie
+
+entry-count-requires : tie.Need-entry-count-requires
+entry-count-requires c κs = search needs
+
+cast-if1 : tie.Need-cast-if1
+cast-if1 c = search needs
+
+returns : tie.Need-returns
+unfolding passes
+returns c =
+    let at-start = c .before .before .before .before in
+    rw
+    (ne-eqb (at-start .args .observed .count) (entryCount (at-start .args .raw .now))
+    (λ e. c .if1 .taken (e ∙ sym (c .before .before .entry-count .ensures))))
+
+scale-of-requires : tie.Need-scale-of-requires
+scale-of-requires c κs = search needs
+
+wscale-matches-requires : tie.Need-wscale-matches-requires
+wscale-matches-requires c κs = search needs
+
+returns-2 : tie.Need-returns-2
+unfolding passes scalarGates
+returns-2 c =
+    let fails = not-true (c .before .wscale-matches .result) (c .if2 .taken) in
+    simp (← c .before .before .scale-of .ensures, ← c .before .wscale-matches .ensures, fails, and-false)
+
+mss-of-requires : tie.Need-mss-of-requires
+mss-of-requires c κs = search needs
+
+mss-matches-requires : tie.Need-mss-matches-requires
+mss-matches-requires c κs = search needs
+
+returns-3 : tie.Need-returns-3
+unfolding passes scalarGates
+returns-3 c =
+    let fails = not-true (c .before .mss-matches .result) (c .if3 .taken) in
+    simp (← c .before .before .mss-of .ensures, ← c .before .mss-matches .ensures, fails, and-false)
+
+byte-at-requires : tie.Need-byte-at-requires
+byte-at-requires c κs = search needs
+
+olen-matches-requires : tie.Need-olen-matches-requires
+olen-matches-requires c κs = search needs
+
+returns-4 : tie.Need-returns-4
+unfolding passes scalarGates signatureOf
+returns-4 c =
+    let fails = not-true (c .before .olen-matches .result) (c .if4 .taken) in
+    simp (← c .before .before .byte-at .ensures, ← c .before .olen-matches .ensures, fails, and-false)
+
+byte-at-requires-2 : tie.Need-byte-at-requires-2
+byte-at-requires-2 c κs = search needs
+
+payload-size-matches-requires : tie.Need-payload-size-matches-requires
+payload-size-matches-requires c κs = search needs
+
+returns-5 : tie.Need-returns-5
+unfolding passes scalarGates signatureOf
+returns-5 c =
+    let fails = not-true (c .before .payload-size-matches .result) (c .if5 .taken) in
+    simp (← c .before .before .byte-at2 .ensures, ← c .before .payload-size-matches .ensures, fails, and-false)
+
+byte-at-requires-3 : tie.Need-byte-at-requires-3
+byte-at-requires-3 c κs = search needs
+
+ip-version-matches-requires : tie.Need-ip-version-matches-requires
+ip-version-matches-requires c κs = search needs
+
+returns-6 : tie.Need-returns-6
+unfolding passes scalarGates signatureOf
+returns-6 c =
+    let fails = not-true (c .before .ip-version-matches .result) (c .if6 .taken) in
+    simp (← c .before .before .byte-at3 .ensures, ← c .before .ip-version-matches .ensures, fails, and-false)
+
+window-of-requires : tie.Need-window-of-requires
+window-of-requires c κs = search needs
+
+window-size-matches-requires : tie.Need-window-size-matches-requires
+window-size-matches-requires c κs = search needs
+
+returns-7 : tie.Need-returns-7
+unfolding passes scalarGates signatureOf
+returns-7 c =
+    let at-version = c .before .before in
+    let at-payload = at-version .before .before .before in
+    let at-olen = at-payload .before .before .before in
+    let at-mss = at-olen .before .before .before in
+    let at-scale = at-mss .before .before .before in
+    let at-count = at-scale .before .before .before in
+    let at-start = at-count .before .before .before .before in
+    let same = at-count .if1 .left ∙ at-count .before .before .entry-count .ensures in
+    simp (
+      eq-eqb (at-start .args .observed .count) (entryCount (at-start .args .raw .now)) same,
+      ← at-scale .before .before .scale-of .ensures,
+      ← at-scale .before .wscale-matches .ensures,
+      not-false (at-scale .before .wscale-matches .result) (at-scale .if2 .left),
+      ← at-mss .before .before .mss-of .ensures,
+      ← at-mss .before .mss-matches .ensures,
+      not-false (at-mss .before .mss-matches .result) (at-mss .if3 .left),
+      ← at-olen .before .before .byte-at .ensures,
+      ← at-olen .before .olen-matches .ensures,
+      not-false (at-olen .before .olen-matches .result) (at-olen .if4 .left),
+      ← at-payload .before .before .byte-at2 .ensures,
+      ← at-payload .before .payload-size-matches .ensures,
+      not-false (at-payload .before .payload-size-matches .result) (at-payload .if5 .left),
+      ← at-version .before .before .byte-at3 .ensures,
+      ← at-version .before .ip-version-matches .ensures,
+      not-false (at-version .before .ip-version-matches .result) (at-version .if6 .left),
+      ← c .before .window-of .ensures,
+      ← c .window-size-matches .ensures,
+      and-true,
+    )
+
+pub passes-gates-spec : {M : Type 1} → statement M
+passes-gates-spec =
+    tie.close
+    (tie.spec
+    entry-count-requires
+    cast-if1
+    returns
+    scale-of-requires
+    wscale-matches-requires
+    returns-2
+    mss-of-requires
+    mss-matches-requires
+    returns-3
+    byte-at-requires
+    olen-matches-requires
+    returns-4
+    byte-at-requires-2
+    payload-size-matches-requires
+    returns-5
+    byte-at-requires-3
+    ip-version-matches-requires
+    returns-6
+    window-of-requires
+    window-size-matches-requires
+    returns-7)
