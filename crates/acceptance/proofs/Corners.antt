@@ -44,8 +44,10 @@ corners =
       header-0-version = refl;
       header-0-port =
           free-byte noHeaderAndPart 20 1 (FreePacket.in-tcp (omega arith) FreeTcp.ports) (omega arith) (omega arith);
-      cut-identification = free-byte cutIdentification 4 2 (FreePacket.header (ItemBy.four refl (FreeIpv4.identification refl))) (omega arith) (omega arith);
+      cut-identification =
+          free-byte cutIdentification 4 2 (FreePacket.header (ItemBy.four refl (FreeIpv4.identification refl))) (omega arith) (omega arith);
       cut-identification-zero = cut-identification-zero;
-      cut-flow-label = free-byte cutFlowLabel 1 2 (FreePacket.header (ItemBy.six refl (FreeIpv6.flowLabel refl refl))) (omega arith) (omega arith);
+      cut-flow-label =
+          free-byte cutFlowLabel 1 2 (FreePacket.header (ItemBy.six refl (FreeIpv6.flowLabel refl refl))) (omega arith) (omega arith);
       cut-flow-label-zero = cut-flow-label-zero;
     }

@@ -85,7 +85,10 @@ ip-row p = by-stage (readIp p) refl (given p)
     at-seven : First (PacketRow p) packetOrder (refusalOf (readPacket p mss.Absent .answer))
     at-seven = refusals .packet p mss.Absent (refusalOf (readPacket p mss.Absent .answer)) .0 refl
 
-    stage-number : (x : IpRead) → readIp p ≡ x → refusalOf (readPacket p mss.Absent .answer) ≡ refusalOf (afterIp readTcp x p mss.Absent .answer)
+    stage-number
+        : (x : IpRead)
+        → readIp p ≡ x
+        → refusalOf (readPacket p mss.Absent .answer) ≡ refusalOf (afterIp readTcp x p mss.Absent .answer)
     stage-number x e = ap (λ (y : IpRead). refusalOf (afterIp readTcp y p mss.Absent .answer)) e
 
     refused-number : (r : PacketRefusal) → refusalOf (afterIp readTcp (ip.Refused r) p mss.Absent .answer) ≡ packetNumber r

@@ -64,9 +64,10 @@ module _ (p : List ℕ) (peer : Mss) where
   pub peer-only-synack : (other : Mss) → (readPacket p peer .answer ≡ answer.SynAck → ⊥) → readPacket p peer ≡ readPacket p other
   unfolding withPeer peerBeside
   peer-only-synack other no-synack =
+      let without = readPacket p mss.Absent in
       with-peer p peer
-      ∙ ap (λ (m : Mss). record { answer = readPacket p mss.Absent .answer; observation = putPeer m (readPacket p mss.Absent .observation) })
-      (none (readPacket p mss.Absent .answer) (λ e. no-synack (same-answer ∙ e)))
+      ∙ ap (λ (m : Mss). record { answer = without .answer; observation = putPeer m (without .observation) })
+      (none (without .answer) (λ e. no-synack (same-answer ∙ e)))
       ∙ sym (with-peer p other)
     where
       none : (a : Answer) → (a ≡ answer.SynAck → ⊥) → peerBeside a peer ≡ peerBeside a other

@@ -27,7 +27,8 @@ unfolding readTcp
 returns c =
     let flags = control (c .before .before .before .before .before .args .tcp .now) in
     let valid = c .before .before .is-valid in
-    let bad : flagsInvalid flags ≡ true = not-false (flagsInvalid flags) (sym (valid .ensures) ∙ not-true (valid .result) (c .before .if1 .taken)) in
+    let bad : flagsInvalid flags ≡ true =
+    not-false (flagsInvalid flags) (sym (valid .ensures) ∙ not-true (valid .result) (c .before .if1 .taken)) in
     simp (c .refuse .ensures, bad)
 
 tcp-type-requires : tie.Need-tcp-type-requires
