@@ -88,5 +88,12 @@ pub(crate) fn scalars_good(raw: &[u8]) -> bool
     let scale = presence_good(byte_at(raw, SCALE_PRESENT), wide(byte_at(raw, SCALE)));
     let payload = byte_at(raw, PAYLOAD) <= 2;
     let zero = byte_at(raw, ZERO) == 0;
-    version_good(raw) & ttl_good(raw) & mss & window_good(raw) & scale & payload & quirks_good(raw) & zero
+    version_good(raw)
+        & ttl_good(raw)
+        & mss
+        & window_good(raw)
+        & scale
+        & payload
+        & quirks_good(raw)
+        & zero
 }

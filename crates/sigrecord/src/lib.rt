@@ -22,22 +22,39 @@ pub const RECORD: usize = 24;
 
 // Where each number of a record stands.
 pub const VERSION: usize = 0;
+
 pub const TTL_FORM: usize = 1;
+
 pub const TTL: usize = 2;
+
 pub const DISTANCE: usize = 3;
+
 pub const OPTION_LENGTH: usize = 4;
+
 pub const MSS_PRESENT: usize = 5;
+
 pub const MSS: usize = 6;
+
 pub const WINDOW_FORM: usize = 8;
+
 pub const WINDOW: usize = 9;
+
 pub const SCALE_PRESENT: usize = 11;
+
 pub const SCALE: usize = 12;
+
 pub const PAYLOAD: usize = 13;
+
 pub const QUIRKS: usize = 14;
+
 pub const QUIRKS_LOW: usize = 16;
+
 pub const FIRST_ENTRY: usize = 18;
+
 pub const ENTRY_COUNT: usize = 20;
+
 pub const ZERO: usize = 21;
+
 pub const LABEL: usize = 22;
 
 // The IP version that a signature declares.

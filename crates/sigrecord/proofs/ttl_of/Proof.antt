@@ -23,10 +23,11 @@ unfolding signatureOf ttlOf
 returns-2 c =
     let at-byte-at2 = c .before .before .before in
     let at-byte-at = at-byte-at2 .before in
-    simp
-    ( ← at-byte-at .byte-at .ensures
-    , ← at-byte-at2 .byte-at2 .ensures
-    , ← c .byte-at3 .ensures )
+    simp (
+      ← at-byte-at .byte-at .ensures,
+      ← at-byte-at2 .byte-at2 .ensures,
+      ← c .byte-at3 .ensures,
+    )
     (search cases)
 
 returns-3 : tie.Need-returns-3
@@ -34,9 +35,10 @@ unfolding signatureOf ttlOf
 returns-3 c =
     let at-byte-at2 = c .before .before .before in
     let at-byte-at = at-byte-at2 .before in
-    simp
-    ( ← at-byte-at .byte-at .ensures
-    , ← at-byte-at2 .byte-at2 .ensures )
+    simp (
+      ← at-byte-at .byte-at .ensures,
+      ← at-byte-at2 .byte-at2 .ensures,
+    )
     (search cases)
 
 returns-4 : tie.Need-returns-4
@@ -44,9 +46,10 @@ unfolding signatureOf ttlOf
 returns-4 c =
     let at-byte-at2 = c .before .before .before in
     let at-byte-at = at-byte-at2 .before in
-    simp
-    ( ← at-byte-at .byte-at .ensures
-    , ← at-byte-at2 .byte-at2 .ensures )
+    simp (
+      ← at-byte-at .byte-at .ensures,
+      ← at-byte-at2 .byte-at2 .ensures,
+    )
     (search cases)
 
 pub ttl-of-spec : {M : Type 1} → statement M

@@ -27,9 +27,10 @@ unfolding signatureOf windowOf
 returns-3 c =
     let at-be16-at = c .before .before .before in
     let at-byte-at = at-be16-at .before in
-    simp
-    ( ← at-byte-at .byte-at .ensures
-    , ← at-be16-at .be16-at .ensures )
+    simp (
+      ← at-byte-at .byte-at .ensures,
+      ← at-be16-at .be16-at .ensures,
+    )
     (search cases)
 
 returns-4 : tie.Need-returns-4
@@ -37,9 +38,10 @@ unfolding signatureOf windowOf
 returns-4 c =
     let at-be16-at = c .before .before .before .before in
     let at-byte-at = at-be16-at .before in
-    simp
-    ( ← at-byte-at .byte-at .ensures
-    , ← at-be16-at .be16-at .ensures )
+    simp (
+      ← at-byte-at .byte-at .ensures,
+      ← at-be16-at .be16-at .ensures,
+    )
     (search cases)
 
 cast-t8 : tie.Need-cast-t8
@@ -50,9 +52,10 @@ unfolding signatureOf windowOf
 returns-5 c =
     let at-be16-at = c .before .before .before .before in
     let at-byte-at = at-be16-at .before in
-    simp
-    ( ← at-byte-at .byte-at .ensures
-    , ← at-be16-at .be16-at .ensures )
+    simp (
+      ← at-byte-at .byte-at .ensures,
+      ← at-be16-at .be16-at .ensures,
+    )
     (search cases)
 
 pub window-of-spec : {M : Type 1} → statement M

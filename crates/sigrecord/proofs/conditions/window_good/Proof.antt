@@ -24,9 +24,10 @@ unfolding windowGood
 returns-3 c =
     let at-be16-at = c .before .before .before in
     let at-byte-at = at-be16-at .before in
-    simp
-    ( ← at-byte-at .byte-at .ensures
-    , ← at-be16-at .be16-at .ensures )
+    simp (
+      ← at-byte-at .byte-at .ensures,
+      ← at-be16-at .be16-at .ensures,
+    )
     (search cases)
 
 returns-4 : tie.Need-returns-4
@@ -34,9 +35,10 @@ unfolding windowGood
 returns-4 c =
     let at-be16-at = c .before .before .before in
     let at-byte-at = at-be16-at .before in
-    simp
-    ( ← at-byte-at .byte-at .ensures
-    , ← at-be16-at .be16-at .ensures )
+    simp (
+      ← at-byte-at .byte-at .ensures,
+      ← at-be16-at .be16-at .ensures,
+    )
     (search cases)
 
 pub window-good-spec : {M : Type 1} → statement M
