@@ -23,14 +23,18 @@ returns-3 c = search cases
 
 returns-4 : tie.Need-returns-4
 unfolding layoutMatches
-returns-4 c = rw (lt-leb (2 * c .before .before .before .before .before .before .before .args .declared) (length (c .before .before .before .before .before .before .before .args .entries .now)) (omega arith)) (search cases)
+returns-4 c =
+    let a = c .before .before .before .before .before .before .before .args in
+    rw (lt-leb (2 * a .declared) (length (a .entries .now)) (omega arith)) (search cases)
 
 entries-match-requires : tie.Need-entries-match-requires
 entries-match-requires c κs = search needs
 
 returns-5 : tie.Need-returns-5
 unfolding layoutMatches
-returns-5 c = rw (le-leb (2 * c .before .before .before .before .before .before .before .before .args .declared) (length (c .before .before .before .before .before .before .before .before .args .entries .now)) (omega arith), c .entries-match .ensures) (search cases)
+returns-5 c =
+    let a = c .before .before .before .before .before .before .before .before .args in
+    rw (le-leb (2 * a .declared) (length (a .entries .now)) (omega arith), c .entries-match .ensures) (search cases)
 
 pub olayout-matches-spec : {M : Type 1} → statement M
 olayout-matches-spec =

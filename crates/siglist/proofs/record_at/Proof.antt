@@ -18,7 +18,7 @@ part-result-end c = search needs
 returns : tie.Need-returns
 returns c =
     let a = c .before .before .before .args in
-    sym (past-the-last (a .list .now) (a .areas) (a .i) (c .before .if1 .taken))
+    sym (past-the-last (a .list .now) (a .areas) (a .i) (omega arith))
 
 sub-result-2 : tie.Need-sub-result-2
 sub-result-2 c = search needs

@@ -19,7 +19,7 @@ from-bits-requires c κs = search needs
 
 returns : tie.Need-returns
 unfolding signatureOf be32
-returns c = simp (← c .before .before .before .be16-at .ensures, ← c .before .before .be16-at2 .ensures, ← c .before .be32 .ensures, ← c .from-bits .ensures)
+returns c = cc
 
 pub quirks-of-spec : {M : Type 1} → statement M
 quirks-of-spec =

@@ -35,15 +35,23 @@ shared-slice-read-if1 : tie.Need-shared-slice-read-if1 Inv-loop μ-loop
 shared-slice-read-if1 c = search needs
 
 returns : tie.Need-returns Inv-loop μ-loop
-returns c = rw (byte-differs (c .before .before .before .before .before .before .before .before .args .kinds .now) (c .before .before .before .before .before .before .before .before .args .bytes .now) (c .before .before .before .before .before .before .before .before .args .entries .now) (c .before .before .before .before .before .before .before .before .args .count) (c .before .before .before .before .loop .i) (c .before .before .before .loop-test .taken) (c .if1 .taken))
+returns c =
+    let at-test = c .before .before .before in
+    let a = at-test .before .before .before .before .before .args in
+    rw
+    (byte-differs (a .kinds .now) (a .bytes .now) (a .entries .now) (a .count) (at-test .before .loop .i) (at-test .loop-test .taken)
+    (c .if1 .taken))
 
 kind-allows-requires : tie.Need-kind-allows-requires Inv-loop μ-loop
 kind-allows-requires c κs = search needs
 
 returns-2 : tie.Need-returns-2 Inv-loop μ-loop
 returns-2 c =
-    let a = c .before .before .before .before .before .before .before .before .before .before .args in
-    rw (one-bad (a .entries .now) (a .count) (c .before .before .before .before .before .before .loop .i) (c .before .before .before .before .before .loop-test .taken) (sym (c .before .kind-allows .ensures) ∙ not-true (c .before .kind-allows .result) (c .if2 .taken))) (sym (and-false (entriesMatch (a .kinds .now) (a .bytes .now) (a .entries .now) (a .count))))
+    let at-test = c .before .before .before .before .before in
+    let a = at-test .before .before .before .before .before .args in
+    let bad = sym (c .before .kind-allows .ensures) ∙ not-true (c .before .kind-allows .result) (c .if2 .taken) in
+    rw (one-bad (a .entries .now) (a .count) (at-test .before .loop .i) (at-test .loop-test .taken) bad)
+    (sym (and-false (entriesMatch (a .kinds .now) (a .bytes .now) (a .entries .now) (a .count))))
 
 shared-slice-read-if3 : tie.Need-shared-slice-read-if3 Inv-loop μ-loop
 shared-slice-read-if3 c = search needs
@@ -52,7 +60,12 @@ shared-slice-read-if3-2 : tie.Need-shared-slice-read-if3-2 Inv-loop μ-loop
 shared-slice-read-if3-2 c = search needs
 
 returns-3 : tie.Need-returns-3 Inv-loop μ-loop
-returns-3 c = rw (kind-differs (c .before .before .before .before .before .before .before .before .before .before .before .before .before .args .kinds .now) (c .before .before .before .before .before .before .before .before .before .before .before .before .before .args .bytes .now) (c .before .before .before .before .before .before .before .before .before .before .before .before .before .args .entries .now) (c .before .before .before .before .before .before .before .before .before .before .before .before .before .args .count) (c .before .before .before .before .before .before .before .before .before .loop .i) (c .before .before .before .before .before .before .before .before .loop-test .taken) (c .if3 .taken))
+returns-3 c =
+    let at-test = c .before .before .before .before .before .before .before .before in
+    let a = at-test .before .before .before .before .before .args in
+    rw
+    (kind-differs (a .kinds .now) (a .bytes .now) (a .entries .now) (a .count) (at-test .before .loop .i) (at-test .loop-test .taken)
+    (c .if3 .taken))
 
 add-i : tie.Need-add-i Inv-loop μ-loop
 add-i c = search needs
@@ -62,11 +75,14 @@ loop-less c = search needs
 
 loop-again : tie.Need-loop-again Inv-loop μ-loop
 loop-again c =
-    let a = c .before .before .before .before .before .before .before .before .before .before .before .before .before .args in
-    let l = c .before .before .before .before .before .before .before .before .before .loop in (
+    let at-kind = c .before .before .before .before in
+    let at-loop = at-kind .before .before .before .before .before in
+    let a = at-loop .before .before .before .before .args in
+    let l = at-loop .loop in
+    let good = sym (at-kind .kind-allows .ensures) ∙ not-false (at-kind .kind-allows .result) (c .before .before .before .if2 .left) in (
       search needs,
-      entry-matches (a .kinds .now) (a .bytes .now) (a .entries .now) (l .i) (c .if3 .left) (c .before .before .before .before .before .if1 .left) (l .inv .1),
-      one-more-good (a .entries .now) (l .i) (sym (c .before .before .before .before .kind-allows .ensures) ∙ not-false (c .before .before .before .before .kind-allows .result) (c .before .before .before .if2 .left)) (l .inv .2),
+      entry-matches (a .kinds .now) (a .bytes .now) (a .entries .now) (l .i) (c .if3 .left) (at-kind .before .if1 .left) (l .inv .1),
+      one-more-good (a .entries .now) (l .i) good (l .inv .2),
     )
 
 returns-4 : tie.Need-returns-4 Inv-loop μ-loop
