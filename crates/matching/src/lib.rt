@@ -9,8 +9,8 @@ use distances::TtlFit;
 use distances::ip_version_matches;
 use distances::payload_size_matches;
 use distances::ttl_fit;
-use distances::window_size_matches;
-use layout::entries_match;
+use gates::entries_match;
+use gates::window_gate;
 use numbers::byte_at;
 use observable::TcpObservation;
 use quirks::QuirkSet;
@@ -22,7 +22,6 @@ use sigrecord::VERSION;
 use sigrecord::entry_count;
 use sigrecord::mss_of;
 use sigrecord::scale_of;
-use sigrecord::window_of;
 use tcp::IpVersion;
 use tcp::Mss;
 use tcp::PayloadSize;
@@ -31,7 +30,7 @@ use ttl::Ttl;
 use ttl::observed_ttl;
 use window_size::Multiplier;
 
-mod layout;
+mod gates;
 
 // What a fit looks at in an observation, the entries of the layout apart.
 pub struct Features {
@@ -167,7 +166,7 @@ pub fn passes_gates(observed: Features, raw: &[u8]) -> bool
         return false;
     }
     let multiplier = observed.multiplier;
-    window_size_matches(observed.wsize, window_of(raw), multiplier)
+    window_gate(observed.wsize, multiplier, raw)
 }
 
 // ---- what may be tolerated

@@ -39,6 +39,8 @@ pub const WINDOW_FORM: usize = 8;
 
 pub const WINDOW: usize = 9;
 
+pub const WINDOW_LOW: usize = 10;
+
 pub const SCALE_PRESENT: usize = 11;
 
 pub const SCALE: usize = 12;
@@ -136,15 +138,11 @@ pub fn mss_of(raw: &[u8]) -> Mss
     Mss::Present(be16_at(raw, MSS))
 }
 
-// Most windows are declared as multiples of the MSS, so that form is tested first.
 pub fn window_of(raw: &[u8]) -> WindowSize
     ensures { λ r. ⌜ r ≡ signatureOf (now (raw .entry)) .wsize ⌝ }
 {
     let form = byte_at(raw, WINDOW_FORM);
     let number = be16_at(raw, WINDOW);
-    if form == 3 {
-        return WindowSize::Mss((number % 256) as u8);
-    }
     if form == 0 {
         return WindowSize::Any;
     }
@@ -153,6 +151,9 @@ pub fn window_of(raw: &[u8]) -> WindowSize
     }
     if form == 2 {
         return WindowSize::Mod(number);
+    }
+    if form == 3 {
+        return WindowSize::Mss((number % 256) as u8);
     }
     WindowSize::Mtu((number % 256) as u8)
 }

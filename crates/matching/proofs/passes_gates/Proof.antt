@@ -82,16 +82,13 @@ returns-6 c =
     let fails = not-true (c .before .ip-version-matches .result) (c .if6 .taken) in
     simp (← c .before .before .byte-at3 .ensures, ← c .before .ip-version-matches .ensures, fails, and-false)
 
-window-of-requires : tie.Need-window-of-requires
-window-of-requires c κs = search needs
-
-window-size-matches-requires : tie.Need-window-size-matches-requires
-window-size-matches-requires c κs = search needs
+window-gate-requires : tie.Need-window-gate-requires
+window-gate-requires c κs = search needs
 
 returns-7 : tie.Need-returns-7
 unfolding passes scalarGates signatureOf
 returns-7 c =
-    let at-version = c .before .before in
+    let at-version = c .before in
     let at-payload = at-version .before .before .before in
     let at-olen = at-payload .before .before .before in
     let at-mss = at-olen .before .before .before in
@@ -116,8 +113,7 @@ returns-7 c =
       ← at-version .before .before .byte-at3 .ensures,
       ← at-version .before .ip-version-matches .ensures,
       not-false (at-version .before .ip-version-matches .result) (at-version .if6 .left),
-      ← c .before .window-of .ensures,
-      ← c .window-size-matches .ensures,
+      ← c .window-gate .ensures,
       and-true,
     )
 
@@ -143,6 +139,5 @@ passes-gates-spec =
     byte-at-requires-3
     ip-version-matches-requires
     returns-6
-    window-of-requires
-    window-size-matches-requires
+    window-gate-requires
     returns-7)

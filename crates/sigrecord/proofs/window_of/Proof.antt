@@ -11,12 +11,9 @@ byte-at-requires c κs = search needs
 be16-at-requires : tie.Need-be16-at-requires
 be16-at-requires c κs = search needs
 
-cast-t6 : tie.Need-cast-t6
-cast-t6 c = search needs
-
 returns : tie.Need-returns
 unfolding signatureOf windowOf
-returns c = simp (← c .before .before .byte-at .ensures, ← c .before .be16-at .ensures, c .if1 .taken)
+returns c = simp (← c .before .before .byte-at .ensures, ← c .before .be16-at .ensures) (search cases)
 
 returns-2 : tie.Need-returns-2
 unfolding signatureOf windowOf
@@ -32,6 +29,9 @@ returns-3 c =
       ← at-be16-at .be16-at .ensures,
     )
     (search cases)
+
+cast-t6 : tie.Need-cast-t6
+cast-t6 c = search needs
 
 returns-4 : tie.Need-returns-4
 unfolding signatureOf windowOf
@@ -64,10 +64,10 @@ window-of-spec =
     (tie.spec
     byte-at-requires
     be16-at-requires
-    cast-t6
     returns
     returns-2
     returns-3
+    cast-t6
     returns-4
     cast-t8
     returns-5)

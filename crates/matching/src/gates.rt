@@ -1,11 +1,20 @@
-// The layout of an observation against the entries of a signature, compared where they lie.
+// Two gates where they lie in a list: the layout of an observation against a signature's entries, and its window against a record's.
 ghost use mathlib.Core.Path.{_≡_};
 ghost use mathlib.Core.Bool.{_&&_};
 ghost use Prim.Native.Nat.{_*_, _≤_, _<_};
 ghost use lib.ListN.{length};
 ghost use Rattle.basis.specs.Bytes.{byteAt};
 ghost use Rattle.sigrecord.specs.Layout.{entryGood, entriesGood};
+ghost use Rattle.sigrecord.specs.Record.{signatureOf};
+ghost use Rattle.distances.specs.DistanceGates.{windowMatches};
 ghost use Rattle.matching.specs.Gates.{entriesMatch};
+use distances::window_size_matches;
+use numbers::byte_at;
+use sigrecord::WINDOW_FORM;
+use sigrecord::WINDOW_LOW;
+use sigrecord::WindowSize;
+use sigrecord::window_of;
+use window_size::Multiplier;
 
 // Whether an entry is good, of which the byte was read: its kind is read only where that decides.
 pub(crate) fn kind_allows(entries: &[u8], at: usize, byte: u8) -> bool
@@ -40,4 +49,18 @@ pub(crate) fn entries_match(kinds: &[u8], bytes: &[u8], entries: &[u8], count: u
         i += 1;
     }
     true
+}
+
+// Most windows are declared as multiples of the MSS, so that form is tested first, and its number is one byte.
+pub(crate) fn window_gate(observed: u16, multiplier: Multiplier, raw: &[u8]) -> bool
+    ensures { λ r. ⌜ r ≡ windowMatches observed (signatureOf (now (raw .entry)) .wsize) multiplier ⌝ }
+{
+    if byte_at(raw, WINDOW_FORM) == 3 {
+        return window_size_matches(
+            observed,
+            WindowSize::Mss(byte_at(raw, WINDOW_LOW)),
+            multiplier,
+        );
+    }
+    window_size_matches(observed, window_of(raw), multiplier)
 }

@@ -10,8 +10,8 @@ use Rattle.sigrecord.proofs.Laws.{none-bad, one-more-good, one-bad}
 use Rattle.matching.specs.Gates.{entriesMatch}
 use Rattle.matching.proofs.Entries.{no-entry, entry-matches, kind-differs, byte-differs}
 use borrow.Author.Needs.{needs}
-use Rattle.matching.proofs.layout.entries_match.Statement.{statement}
-use Rattle.matching.proofs.layout.entries_match.Tie as tie
+use Rattle.matching.proofs.gates.entries_match.Statement.{statement}
+use Rattle.matching.proofs.gates.entries_match.Tie as tie
 
 abbrev Inv-loop : tie.InvT-loop
 Inv-loop kinds bytes entries count i₀ i = (i ≤ count) × (entriesMatch kinds bytes entries i ≡ true) × (entriesGood entries i ≡ true)

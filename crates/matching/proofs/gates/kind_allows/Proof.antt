@@ -2,8 +2,8 @@
 use Rattle.basis.proofs.Rules.{cases}
 use Rattle.sigrecord.specs.Layout.{entryGood}
 use borrow.Author.Needs.{needs}
-use Rattle.matching.proofs.layout.kind_allows.Statement.{statement}
-use Rattle.matching.proofs.layout.kind_allows.Tie as tie
+use Rattle.matching.proofs.gates.kind_allows.Statement.{statement}
+use Rattle.matching.proofs.gates.kind_allows.Tie as tie
 
 returns : tie.Need-returns
 unfolding entryGood
