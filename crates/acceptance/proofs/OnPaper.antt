@@ -43,7 +43,8 @@ module _ (l : List ℕ) (bytes : AllBytes l) where
   small why.DoesNotFit e = omega arith
   small (why.BadRecord i) e = let within = refusals .list-gives l i e .within in let two = two-bytes l 0 bytes in omega arith
 
-  refused-code : (r : ListRefusal) → checkList l ≡ list.Refused r → codeOf (fieldsOf (gateway.List r)) ≡ refusedCode (listPaper (list.Refused r))
+  refused-code
+      : (r : ListRefusal) → checkList l ≡ list.Refused r → codeOf (fieldsOf (gateway.List r)) ≡ refusedCode (listPaper (list.Refused r))
   unfolding fieldsOf
   refused-code r e = rw (mod-eq-of-lt (small r e)) (plain-code (listNumber r) (listValue r))
 
