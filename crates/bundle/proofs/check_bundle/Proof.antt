@@ -6,21 +6,12 @@ use borrow.Author.Needs.{needs}
 use Rattle.bundle.proofs.check_bundle.Statement.{statement}
 use Rattle.bundle.proofs.check_bundle.Tie as tie
 
-bundle-fits-requires : tie.Need-bundle-fits-requires
-bundle-fits-requires c κs = search needs
-
 returns : tie.Need-returns
 unfolding checkBundle
 returns c = rw (sym (c .before .bundle-fits .ensures) ∙ not-true (c .before .bundle-fits .result) (c .if1 .taken))
 
 check-list-of-requires : tie.Need-check-list-of-requires
 check-list-of-requires c κs = list-within (c .before .before .before .args .bundle .now) (sym (c .before .bundle-fits .ensures) ∙ not-false (c .before .bundle-fits .result) (c .if1 .left))
-
-enum-told : tie.Need-enum-told
-enum-told c = search needs
-
-enum-known-refusal : tie.Need-enum-known-refusal
-enum-known-refusal c = search needs
 
 returns-2 : tie.Need-returns-2
 unfolding checkBundle
@@ -43,11 +34,5 @@ returns-3 c =
 pub check-bundle-spec : {M : Type 1} → statement M
 check-bundle-spec =
     tie.close
-    (tie.spec
-    bundle-fits-requires
-    returns
-    check-list-of-requires
-    enum-told
-    enum-known-refusal
-    returns-2
+    (tie.spec (λ c κs. search needs) returns check-list-of-requires (λ c. search needs) (λ c. search needs) returns-2
     returns-3)

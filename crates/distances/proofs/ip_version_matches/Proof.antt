@@ -4,12 +4,6 @@ use borrow.Author.Needs.{needs}
 use Rattle.distances.proofs.ip_version_matches.Statement.{statement}
 use Rattle.distances.proofs.ip_version_matches.Tie as tie
 
-enum-told : tie.Need-enum-told
-enum-told c = search needs
-
-enum-told-2 : tie.Need-enum-told-2
-enum-told-2 c = search needs
-
 returns : tie.Need-returns
 returns c = rw (c .enum-told .given .1) (v4-passes (c .before .before .args .code))
 
@@ -17,4 +11,5 @@ returns-2 : tie.Need-returns-2
 returns-2 c = rw (c .enum-told2 .given .1) (v6-passes (c .before .before .args .code))
 
 pub ip-version-matches-spec : {M : Type 1} → statement M
-ip-version-matches-spec = tie.close (tie.spec enum-told enum-told-2 returns returns-2)
+ip-version-matches-spec =
+    tie.close (tie.spec (λ c. search needs) (λ c. search needs) returns returns-2)

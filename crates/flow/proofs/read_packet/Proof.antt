@@ -8,18 +8,6 @@ use borrow.Author.Needs.{needs}
 use Rattle.flow.proofs.read_packet.Statement.{statement}
 use Rattle.flow.proofs.read_packet.Tie as tie
 
-read-ip-requires : tie.Need-read-ip-requires
-read-ip-requires c κs = search needs
-
-enum-known-refusal : tie.Need-enum-known-refusal
-enum-known-refusal c = search needs
-
-refuse-requires : tie.Need-refuse-requires
-refuse-requires c κs = search needs
-
-enum-known-facts : tie.Need-enum-known-facts
-enum-known-facts c = search needs
-
 sub-visit-tcp : tie.Need-sub-visit-tcp
 sub-visit-tcp c =
     let lies = tcp-part-lies _ _ (sym (c .before .before .before .read-ip .ensures) ∙ c .before .facts .given .1) in
@@ -56,14 +44,5 @@ returns-2 c =
 pub read-packet-spec : {M : Type 1} → statement M
 read-packet-spec =
     tie.close
-    (tie.spec
-    read-ip-requires
-    enum-known-refusal
-    refuse-requires
-    enum-known-facts
-    sub-visit-tcp
-    part-visit-tcp-start
-    part-visit-tcp-end
-    visit-tcp-requires
-    returns
-    returns-2)
+    (tie.spec (λ c κs. search needs) (λ c. search needs) (λ c κs. search needs) (λ c. search needs) sub-visit-tcp
+    part-visit-tcp-start part-visit-tcp-end visit-tcp-requires returns returns-2)

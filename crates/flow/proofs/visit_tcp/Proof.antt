@@ -13,15 +13,6 @@ use borrow.Author.Needs.{needs}
 use Rattle.flow.proofs.visit_tcp.Statement.{statement}
 use Rattle.flow.proofs.visit_tcp.Tie as tie
 
-shared-slice-read-flags : tie.Need-shared-slice-read-flags
-shared-slice-read-flags c = search needs
-
-is-valid-requires : tie.Need-is-valid-requires
-is-valid-requires c κs = search needs
-
-refuse-requires : tie.Need-refuse-requires
-refuse-requires c κs = search needs
-
 returns : tie.Need-returns
 unfolding readTcp
 returns c =
@@ -30,15 +21,6 @@ returns c =
     let bad : flagsInvalid flags ≡ true =
     not-false (flagsInvalid flags) (sym (valid .ensures) ∙ not-true (valid .result) (c .before .if1 .taken)) in
     simp (c .refuse .ensures, bad)
-
-tcp-type-requires : tie.Need-tcp-type-requires
-tcp-type-requires c κs = search needs
-
-is-opening-requires : tie.Need-is-opening-requires
-is-opening-requires c κs = search needs
-
-empty-requires : tie.Need-empty-requires
-empty-requires c κs = search needs
 
 returns-2 : tie.Need-returns-2
 unfolding readTcp isSynType isSynAckType
@@ -56,15 +38,6 @@ returns-2 c =
       neither-first (eqb (maskedType flags) 2) (eqb (maskedType flags) 18) neither,
       neither-second (eqb (maskedType flags) 2) (eqb (maskedType flags) 18) neither,
     )
-
-opening-answer-requires : tie.Need-opening-answer-requires
-opening-answer-requires c κs = search needs
-
-peer-taken-requires : tie.Need-peer-taken-requires
-peer-taken-requires c κs = search needs
-
-observe-requires : tie.Need-observe-requires
-observe-requires c κs = search needs
 
 returns-3 : tie.Need-returns-3
 unfolding readTcp isSynType isSynAckType
@@ -91,16 +64,6 @@ returns-3 c =
 pub visit-tcp-spec : {M : Type 1} → statement M
 visit-tcp-spec =
     tie.close
-    (tie.spec
-    shared-slice-read-flags
-    is-valid-requires
-    refuse-requires
-    returns
-    tcp-type-requires
-    is-opening-requires
-    empty-requires
-    returns-2
-    opening-answer-requires
-    peer-taken-requires
-    observe-requires
-    returns-3)
+    (tie.spec (λ c. search needs) (λ c κs. search needs) (λ c κs. search needs) returns (λ c κs. search needs)
+    (λ c κs. search needs) (λ c κs. search needs) returns-2 (λ c κs. search needs) (λ c κs. search needs)
+    (λ c κs. search needs) returns-3)

@@ -4,15 +4,6 @@ use borrow.Author.Needs.{needs}
 use Rattle.found.proofs.found_of.Statement.{statement}
 use Rattle.found.proofs.found_of.Tie as tie
 
-enum-told : tie.Need-enum-told
-enum-told c = search needs
-
-enum-told-2 : tie.Need-enum-told-2
-enum-told-2 c = search needs
-
-enum-known-fit : tie.Need-enum-known-fit
-enum-known-fit c = search needs
-
 returns : tie.Need-returns
 unfolding foundOf
 returns c = simp (c .enum-told .given .1)
@@ -27,4 +18,4 @@ returns-3 c = simp (c .before .fit .given .1)
 
 pub found-of-spec : {M : Type 1} → statement M
 found-of-spec =
-    tie.close (tie.spec enum-told enum-told-2 enum-known-fit returns returns-2 returns-3)
+    tie.close (tie.spec (λ c. search needs) (λ c. search needs) (λ c. search needs) returns returns-2 returns-3)

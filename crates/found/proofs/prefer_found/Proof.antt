@@ -7,12 +7,6 @@ use borrow.Author.Needs.{needs}
 use Rattle.found.proofs.prefer_found.Statement.{statement}
 use Rattle.found.proofs.prefer_found.Tie as tie
 
-rank-of-requires : tie.Need-rank-of-requires
-rank-of-requires c κs = search needs
-
-rank-of-requires-2 : tie.Need-rank-of-requires-2
-rank-of-requires-2 c κs = search needs
-
 returns : tie.Need-returns
 returns c = sym (preferred rankOf _ _ (omega (arith, c .before .rank-of2 .ensures, c .before .before .rank-of .ensures)))
 
@@ -20,4 +14,5 @@ returns-2 : tie.Need-returns-2
 returns-2 c = sym (kept rankOf _ _ (omega (arith, c .before .rank-of2 .ensures, c .before .before .rank-of .ensures)))
 
 pub prefer-found-spec : {M : Type 1} → statement M
-prefer-found-spec = tie.close (tie.spec rank-of-requires rank-of-requires-2 returns returns-2)
+prefer-found-spec =
+    tie.close (tie.spec (λ c κs. search needs) (λ c κs. search needs) returns returns-2)

@@ -3,27 +3,6 @@ use borrow.Author.Needs.{needs}
 use Rattle.gateway.proofs.fields_of.Statement.{statement}
 use Rattle.gateway.proofs.fields_of.Tie as tie
 
-enum-known-answer : tie.Need-enum-known-answer
-enum-known-answer c = search needs
-
-packet-fields-requires : tie.Need-packet-fields-requires
-packet-fields-requires c κs = search needs
-
-enum-known-answer-2 : tie.Need-enum-known-answer-2
-enum-known-answer-2 c = search needs
-
-refusal-number-requires : tie.Need-refusal-number-requires
-refusal-number-requires c κs = search needs
-
-list-value-requires : tie.Need-list-value-requires
-list-value-requires c κs = search needs
-
-cast-plain : tie.Need-cast-plain
-cast-plain c = search needs
-
-plain-requires : tie.Need-plain-requires
-plain-requires c κs = search needs
-
 returns : tie.Need-returns
 unfolding fieldsOf
 returns c = rw (c .before .before .answer .given .1, c .packet-fields .ensures)
@@ -37,13 +16,5 @@ returns-2 c =
 pub fields-of-spec : {M : Type 1} → statement M
 fields-of-spec =
     tie.close
-    (tie.spec
-    enum-known-answer
-    packet-fields-requires
-    enum-known-answer-2
-    refusal-number-requires
-    list-value-requires
-    cast-plain
-    plain-requires
-    returns
-    returns-2)
+    (tie.spec (λ c. search needs) (λ c κs. search needs) (λ c. search needs) (λ c κs. search needs)
+    (λ c κs. search needs) (λ c. search needs) (λ c κs. search needs) returns returns-2)

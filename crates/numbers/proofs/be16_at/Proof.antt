@@ -13,18 +13,6 @@ returns c =
     let s = c .before .before .args .s .now in
     rw (List·getD-eq-default s 0 (c .if1 .taken), List·getD-eq-default s 0 {n = c .before .before .args .i + 1} (omega arith))
 
-byte-at-requires : tie.Need-byte-at-requires
-byte-at-requires c κs = search needs
-
-add-byte-at : tie.Need-add-byte-at
-add-byte-at c = search needs
-
-byte-at-requires-2 : tie.Need-byte-at-requires-2
-byte-at-requires-2 c κs = search needs
-
-be16-requires : tie.Need-be16-requires
-be16-requires c κs = search needs
-
 returns-2 : tie.Need-returns-2
 unfolding be16
 returns-2 c = simp (c .be16 .ensures, c .before .byte-at2 .ensures, c .before .before .byte-at .ensures)
@@ -32,4 +20,5 @@ returns-2 c = simp (c .be16 .ensures, c .before .byte-at2 .ensures, c .before .b
 pub be16-at-spec : {M : Type 1} → statement M
 be16-at-spec =
     tie.close
-    (tie.spec returns byte-at-requires add-byte-at byte-at-requires-2 be16-requires returns-2)
+    (tie.spec returns (λ c κs. search needs) (λ c. search needs) (λ c κs. search needs) (λ c κs. search needs)
+    returns-2)

@@ -8,14 +8,9 @@ use Rattle.one_option.proofs.length_byte.Tie as tie
 returns : tie.Need-returns
 returns c = rw (List·getD-eq-default (c .before .args .options .now) 0 {n = c .before .args .start} (omega arith))
 
-shared-slice-read-result : tie.Need-shared-slice-read-result
-shared-slice-read-result c = search needs
-
 cast-result : tie.Need-cast-result
 cast-result c = omega (arith, c .shared-slice-known .given (c .before .before .args .start))
 
-returns-2 : tie.Need-returns-2
-returns-2 c = search needs
-
 pub length-byte-spec : {M : Type 1} → statement M
-length-byte-spec = tie.close (tie.spec returns shared-slice-read-result cast-result returns-2)
+length-byte-spec =
+    tie.close (tie.spec returns (λ c. search needs) cast-result (λ c. search needs))

@@ -5,36 +5,15 @@ use borrow.Author.Needs.{needs}
 use Rattle.report.proofs.first_page.Statement.{statement}
 use Rattle.report.proofs.first_page.Tie as tie
 
-refused-page-requires : tie.Need-refused-page-requires
-refused-page-requires c κs = search needs
-
 returns : tie.Need-returns
 unfolding firstPage
 returns c = rw (c .before .before .if1 .taken) (c .refused-page .ensures)
-
-check-bundle-requires : tie.Need-check-bundle-requires
-check-bundle-requires c κs = search needs
-
-enum-told : tie.Need-enum-told
-enum-told c = search needs
 
 head-page-requires : tie.Need-head-page-requires
 head-page-requires c κs =
     let at = c .before .before .before in
     let b = at .before .before .before .args .bundle .now in
     list-within b (good-fits b (sym (at .check-bundle .ensures) ∙ c .before .enum-told .given .1)) .0
-
-enum-told-2 : tie.Need-enum-told-2
-enum-told-2 c = search needs
-
-refused-page-requires-2 : tie.Need-refused-page-requires-2
-refused-page-requires-2 c κs = search needs
-
-enum-known-refusal : tie.Need-enum-known-refusal
-enum-known-refusal c = search needs
-
-refused-page-requires-3 : tie.Need-refused-page-requires-3
-refused-page-requires-3 c κs = search needs
 
 returns-2 : tie.Need-returns-2
 unfolding firstPage
@@ -57,16 +36,5 @@ returns-4 c =
 pub first-page-spec : {M : Type 1} → statement M
 first-page-spec =
     tie.close
-    (tie.spec
-    refused-page-requires
-    returns
-    check-bundle-requires
-    enum-told
-    head-page-requires
-    enum-told-2
-    refused-page-requires-2
-    enum-known-refusal
-    refused-page-requires-3
-    returns-2
-    returns-3
-    returns-4)
+    (tie.spec (λ c κs. search needs) returns (λ c κs. search needs) (λ c. search needs) head-page-requires
+    (λ c. search needs) (λ c κs. search needs) (λ c. search needs) (λ c κs. search needs) returns-2 returns-3 returns-4)

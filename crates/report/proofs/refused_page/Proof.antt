@@ -6,18 +6,6 @@ use borrow.Author.Needs.{needs}
 use Rattle.report.proofs.refused_page.Statement.{statement}
 use Rattle.report.proofs.refused_page.Tie as tie
 
-slice-aggregate-put-numbered : tie.Need-slice-aggregate-put-numbered
-slice-aggregate-put-numbered c = search needs
-
-refusal-number-requires : tie.Need-refusal-number-requires
-refusal-number-requires c κs = search needs
-
-cast-put-numbered : tie.Need-cast-put-numbered
-cast-put-numbered c = search needs
-
-put-numbered-requires : tie.Need-put-numbered-requires
-put-numbered-requires c κs = search needs
-
 returns : tie.Need-returns
 unfolding refusedLine
 returns c =
@@ -26,10 +14,4 @@ returns c =
 
 pub refused-page-spec : {M : Type 1} → statement M
 refused-page-spec =
-    tie.close
-    (tie.spec
-    slice-aggregate-put-numbered
-    refusal-number-requires
-    cast-put-numbered
-    put-numbered-requires
-    returns)
+    tie.close (tie.spec (λ c. search needs) (λ c κs. search needs) (λ c. search needs) (λ c κs. search needs) returns)

@@ -4,13 +4,11 @@ use borrow.Author.Needs.{needs}
 use Rattle.syn_options.proofs.step_inside.Statement.{statement}
 use Rattle.syn_options.proofs.step_inside.Tie as tie
 
-option-step-requires : tie.Need-option-step-requires
-option-step-requires c κs = search needs
-
 returns : tie.Need-returns
 returns c =
     let lies = step-lies _ _ (c .option-step .ensures) (c .before .before .pre) in
     (c .option-step .ensures, lies .0, lies .1)
 
 pub step-inside-spec : {M : Type 1} → statement M
-step-inside-spec = tie.close (tie.spec option-step-requires returns)
+step-inside-spec =
+    tie.close (tie.spec (λ c κs. search needs) returns)

@@ -28,75 +28,6 @@ abbrev μ-loop : tie.MeasureT-loop
 μ-loop options stop syn olayout₀ count₀ mss₀ wscale₀ shown₀ malformed₀ at₀ olayout count mss wscale shown malformed at =
     length options - at
 
-start-walk-requires : tie.Need-start-walk-requires Inv-loop μ-loop
-start-walk-requires c κs = search needs
-
-loop-holds : tie.Need-loop-holds Inv-loop μ-loop
-loop-holds c = search needs
-
-step-inside-requires : tie.Need-step-inside-requires Inv-loop μ-loop
-step-inside-requires c κs = search needs
-
-stops-requires : tie.Need-stops-requires Inv-loop μ-loop
-stops-requires c κs = search needs
-
-add-start : tie.Need-add-start Inv-loop μ-loop
-add-start c = search needs
-
-element-write-olayout : tie.Need-element-write-olayout Inv-loop μ-loop
-element-write-olayout c = search needs
-
-sub-entry-byte : tie.Need-sub-entry-byte Inv-loop μ-loop
-sub-entry-byte c = search needs
-
-entry-byte-requires : tie.Need-entry-byte-requires Inv-loop μ-loop
-entry-byte-requires c κs = search needs
-
-element-write-olayout-2 : tie.Need-element-write-olayout-2 Inv-loop μ-loop
-element-write-olayout-2 c = search needs
-
-add-count : tie.Need-add-count Inv-loop μ-loop
-add-count c = search needs
-
-sub-later-mss : tie.Need-sub-later-mss Inv-loop μ-loop
-sub-later-mss c = search needs
-
-part-later-mss-start : tie.Need-part-later-mss-start Inv-loop μ-loop
-part-later-mss-start c = search needs
-
-part-later-mss-end : tie.Need-part-later-mss-end Inv-loop μ-loop
-part-later-mss-end c = search needs
-
-later-mss-requires : tie.Need-later-mss-requires Inv-loop μ-loop
-later-mss-requires c κs = search needs
-
-sub-later-scale : tie.Need-sub-later-scale Inv-loop μ-loop
-sub-later-scale c = search needs
-
-part-later-scale-start : tie.Need-part-later-scale-start Inv-loop μ-loop
-part-later-scale-start c = search needs
-
-part-later-scale-end : tie.Need-part-later-scale-end Inv-loop μ-loop
-part-later-scale-end c = search needs
-
-later-scale-requires : tie.Need-later-scale-requires Inv-loop μ-loop
-later-scale-requires c κs = search needs
-
-sub-later-quirks : tie.Need-sub-later-quirks Inv-loop μ-loop
-sub-later-quirks c = search needs
-
-part-later-quirks-start : tie.Need-part-later-quirks-start Inv-loop μ-loop
-part-later-quirks-start c = search needs
-
-part-later-quirks-end : tie.Need-part-later-quirks-end Inv-loop μ-loop
-part-later-quirks-end c = search needs
-
-later-quirks-requires : tie.Need-later-quirks-requires Inv-loop μ-loop
-later-quirks-requires c κs = search needs
-
-loop-less : tie.Need-loop-less Inv-loop μ-loop
-loop-less c = search needs
-
 loop-again : tie.Need-loop-again Inv-loop μ-loop
 unfolding seeOption
 loop-again c =
@@ -146,32 +77,8 @@ returns-2 c =
 pub walk-part-spec : {M : Type 1} → statement M
 walk-part-spec =
     tie.close
-    (tie.spec
-    Inv-loop
-    μ-loop
-    start-walk-requires
-    loop-holds
-    step-inside-requires
-    stops-requires
-    add-start
-    element-write-olayout
-    sub-entry-byte
-    entry-byte-requires
-    element-write-olayout-2
-    add-count
-    sub-later-mss
-    part-later-mss-start
-    part-later-mss-end
-    later-mss-requires
-    sub-later-scale
-    part-later-scale-start
-    part-later-scale-end
-    later-scale-requires
-    sub-later-quirks
-    part-later-quirks-start
-    part-later-quirks-end
-    later-quirks-requires
-    loop-less
-    loop-again
-    returns
-    returns-2)
+    (tie.spec Inv-loop μ-loop (λ c κs. search needs) (λ c. search needs) (λ c κs. search needs) (λ c κs. search needs)
+    (λ c. search needs) (λ c. search needs) (λ c. search needs) (λ c κs. search needs) (λ c. search needs)
+    (λ c. search needs) (λ c. search needs) (λ c. search needs) (λ c. search needs) (λ c κs. search needs)
+    (λ c. search needs) (λ c. search needs) (λ c. search needs) (λ c κs. search needs) (λ c. search needs)
+    (λ c. search needs) (λ c. search needs) (λ c κs. search needs) (λ c. search needs) loop-again returns returns-2)

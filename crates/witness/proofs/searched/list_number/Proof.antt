@@ -5,18 +5,9 @@ use borrow.Author.Needs.{needs}
 use Rattle.witness.proofs.searched.list_number.Statement.{statement}
 use Rattle.witness.proofs.searched.list_number.Tie as tie
 
-refusal-number-requires : tie.Need-refusal-number-requires
-refusal-number-requires c κs = search needs
-
-cast-result : tie.Need-cast-result
-cast-result c = search needs
-
 returns : tie.Need-returns
 unfolding listShown
 returns c = rw (c .refusal-number .ensures) (search cases)
-
-list-value-requires : tie.Need-list-value-requires
-list-value-requires c κs = search needs
 
 returns-2 : tie.Need-returns-2
 unfolding listShown
@@ -28,5 +19,4 @@ returns-3 c = search cases
 
 pub list-number-spec : {M : Type 1} → statement M
 list-number-spec =
-    tie.close
-    (tie.spec refusal-number-requires cast-result returns list-value-requires returns-2 returns-3)
+    tie.close (tie.spec (λ c κs. search needs) (λ c. search needs) returns (λ c κs. search needs) returns-2 returns-3)
