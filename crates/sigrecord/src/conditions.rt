@@ -80,20 +80,30 @@ pub(crate) fn quirks_good(raw: &[u8]) -> bool
     quirks_of(raw).difference(QuirkSet::SEVENTEEN).is_empty()
 }
 
-// All of them, each asked of every record: a well-formed one meets them all.
+// All of them.
 pub(crate) fn scalars_good(raw: &[u8]) -> bool
     ensures { λ r. ⌜ r ≡ scalarsGood (now (raw .entry)) ⌝ }
 {
-    let mss = presence_good(byte_at(raw, MSS_PRESENT), be16_at(raw, MSS));
-    let scale = presence_good(byte_at(raw, SCALE_PRESENT), wide(byte_at(raw, SCALE)));
-    let payload = byte_at(raw, PAYLOAD) <= 2;
-    let zero = byte_at(raw, ZERO) == 0;
-    version_good(raw)
-        & ttl_good(raw)
-        & mss
-        & window_good(raw)
-        & scale
-        & payload
-        & quirks_good(raw)
-        & zero
+    if !version_good(raw) {
+        return false;
+    }
+    if !ttl_good(raw) {
+        return false;
+    }
+    if !presence_good(byte_at(raw, MSS_PRESENT), be16_at(raw, MSS)) {
+        return false;
+    }
+    if !window_good(raw) {
+        return false;
+    }
+    if !presence_good(byte_at(raw, SCALE_PRESENT), wide(byte_at(raw, SCALE))) {
+        return false;
+    }
+    if 2 < byte_at(raw, PAYLOAD) {
+        return false;
+    }
+    if !quirks_good(raw) {
+        return false;
+    }
+    byte_at(raw, ZERO) == 0
 }
