@@ -1,12 +1,11 @@
 -- Laws of a record's fit: a gate that fails, a bad record, and a record that is well formed and passes the gates.
-use mathlib.Core.Path.{_≡_, refl}
+use mathlib.Core.Path.{_≡_, refl, sym, _∙_}
 use mathlib.Core.Bool.{Bool, true, false, cond, _&&_, true≢false, false≢true}
 use mathlib.Core.List.{List}
 use Prim.Native.Nat.{ℕ, _+_, _<_}
 use native.Mathlib.Omega.{arith}
 use lib.Dec.{eqb, leb}
-use lib.ListN.{length}
-use borrow.Author.Tests.{lt-ltb, eq-eqb}
+use borrow.Author.Tests.{lt-ltb}
 use Rattle.matching.specs.declared.Features.{Features}
 use Rattle.matching.specs.declared.SignatureFit.{SignatureFit}
 use Rattle.matching.specs.declared.SignatureFit.the-variants as fit
@@ -17,10 +16,12 @@ use Rattle.basis.proofs.Tests.{and-left, and-right, and-false, and-true}
 use Rattle.siglist.specs.declared.Areas.{Areas}
 use Rattle.sigrecord.specs.Record.{signatureOf, firstEntry, entryCount}
 use Rattle.siglist.specs.List.{recordCount, layoutCount, AreasFit, recordAt, entriesOf, layoutLies, recordGood}
-use Rattle.sigrecord.specs.WellFormed.{scalarsGood, scalarsWellFormed}
+use Rattle.sigrecord.specs.WellFormed.{scalarsWellFormed}
+use Rattle.sigrecord.proofs.Laws.{whole}
 use Rattle.found.specs.Rank.{isNone}
 use Rattle.search.specs.Search.{fitAt}
-use Rattle.siglist.proofs.List.{list-fits}
+use Rattle.search.specs.Candidate.{holds, candidateFit}
+use Rattle.siglist.proofs.List.{list-fits, record-whole}
 
 no-match : (m g s p : Bool) → m && g ≡ false → m && (s && (p && g)) ≡ false
 no-match false g s p e = refl
@@ -69,60 +70,45 @@ module _ (f : Features) (kinds bytes l : List ℕ) (a : Areas) (i : ℕ) (fits :
   pub gate-fails : passes f (recordAt l i) ≡ false → fitAt f kinds bytes l i ≡ fit.None
   gate-fails e = rw (as-one-test, e)
 
-  pub not-tolerated : isNone (toleranceOf f (signatureOf (recordAt l i))) ≡ true → fitAt f kinds bytes l i ≡ fit.None
-  not-tolerated e =
-      rw (as-one-test, is-none (toleranceOf f (signatureOf (recordAt l i))) e) (either-way (passes f (recordAt l i) && (Matches && recordGood l i)))
+  pub gates-pass : passes f (recordAt l i) ≡ true → fitAt f kinds bytes l i ≡ candidateFit f kinds bytes l (recordAt l i)
+  unfolding candidateFit holds recordGood
+  gates-pass e = as-one-test ∙ rw (e, whole (recordAt l i) (record-whole l a i fits inside))
 
-  pub not-held : Matches && recordGood l i ≡ false → fitAt f kinds bytes l i ≡ fit.None
-  not-held e = rw (as-one-test, e, and-false (passes f (recordAt l i)))
+pub not-tolerated
+    : (f : Features) (kinds bytes l r : List ℕ)
+    → isNone (toleranceOf f (signatureOf r)) ≡ true
+    → candidateFit f kinds bytes l r ≡ fit.None
+unfolding candidateFit
+not-tolerated f kinds bytes l r e =
+    rw (is-none (toleranceOf f (signatureOf r)) e) (either-way (holds (f .count) kinds bytes l r))
 
-  pub held-fit
-      : passes f (recordAt l i) ≡ true
-      → Matches && recordGood l i ≡ true
-      → fitAt f kinds bytes l i ≡ toleranceOf f (signatureOf (recordAt l i))
-  held-fit gates holds = rw (as-one-test, gates, holds)
-
-module _ (n : ℕ) (kinds bytes l : List ℕ) (a : Areas) (i : ℕ) (fits : AreasFit l a) where
-  abbrev Holds : Bool
-  Holds = layoutMatches n kinds bytes (entryCount (recordAt l i)) (entriesOf l (recordAt l i)) && recordGood l i
-
-  is-bad : recordGood l i ≡ false → Holds ≡ false
-  is-bad e = rw e (and-false (layoutMatches n kinds bytes (entryCount (recordAt l i)) (entriesOf l (recordAt l i))))
+module _ (n : ℕ) (kinds bytes l r : List ℕ) (a : Areas) (fits : AreasFit l a) where
+  -- The tests of the code: the place of its entries, and the entries themselves.
+  abbrev Lie : Bool
+  Lie = leb (entryCount r) 40 && leb (firstEntry r + entryCount r) (a .entries)
 
   abbrev Matched : Bool
-  Matched =
-      layoutMatches n kinds bytes (entryCount (recordAt l i)) (entriesOf l (recordAt l i))
-      && entriesGood (entriesOf l (recordAt l i)) (entryCount (recordAt l i))
+  Matched = layoutMatches n kinds bytes (entryCount r) (entriesOf l r) && entriesGood (entriesOf l r) (entryCount r)
 
-  pub layout-fails : Matched ≡ false → Holds ≡ false
-  unfolding recordGood layoutLies
+  pub layout-fails : Matched ≡ false → holds n kinds bytes l r ≡ false
+  unfolding holds layoutLies
   layout-fails e =
-      no-match (layoutMatches n kinds bytes (entryCount (recordAt l i)) (entriesOf l (recordAt l i)))
-      (entriesGood (entriesOf l (recordAt l i)) (entryCount (recordAt l i)))
-      (scalarsGood (recordAt l i))
-      (leb (entryCount (recordAt l i)) 40 && leb (firstEntry (recordAt l i) + entryCount (recordAt l i)) (layoutCount l))
+      no-match (layoutMatches n kinds bytes (entryCount r) (entriesOf l r)) (entriesGood (entriesOf l r) (entryCount r))
+      (scalarsWellFormed r)
+      (leb (entryCount r) 40 && leb (firstEntry r + entryCount r) (layoutCount l))
       e
 
-  pub bad-place
-      : leb (entryCount (recordAt l i)) 40 && leb (firstEntry (recordAt l i) + entryCount (recordAt l i)) (a .entries) ≡ false
-      → Holds ≡ false
-  unfolding recordGood layoutLies
-  bad-place e = is-bad (rw (← fits .entries, e) (and-false (scalarsGood (recordAt l i))))
+  pub bad-place : Lie ≡ false → holds n kinds bytes l r ≡ false
+  unfolding holds layoutLies
+  bad-place e = simp (sym (fits .entries), e, and-false)
 
-  pub scalars-decide
-      : leb (entryCount (recordAt l i)) 40 && leb (firstEntry (recordAt l i) + entryCount (recordAt l i)) (a .entries) ≡ true
-      → Matched ≡ true
-      → length (recordAt l i) ≡ 24
-      → Holds ≡ scalarsWellFormed (recordAt l i)
-  unfolding recordGood layoutLies scalarsWellFormed
-  scalars-decide lie matched whole =
+  pub scalars-decide : Lie ≡ true → Matched ≡ true → holds n kinds bytes l r ≡ scalarsWellFormed r
+  unfolding holds layoutLies
+  scalars-decide lie matched =
       rw (
         ← fits .entries,
         lie,
-        and-left (layoutMatches n kinds bytes (entryCount (recordAt l i)) (entriesOf l (recordAt l i))) _ matched,
-        and-right (layoutMatches n kinds bytes (entryCount (recordAt l i)) (entriesOf l (recordAt l i)))
-            (entriesGood (entriesOf l (recordAt l i)) (entryCount (recordAt l i)))
-            matched,
-        eq-eqb (length (recordAt l i)) 24 whole,
+        and-left (layoutMatches n kinds bytes (entryCount r) (entriesOf l r)) _ matched,
+        and-right (layoutMatches n kinds bytes (entryCount r) (entriesOf l r)) (entriesGood (entriesOf l r) (entryCount r)) matched,
       )
-      (and-true (scalarsGood (recordAt l i)))
+      (and-true (scalarsWellFormed r))

@@ -3,15 +3,14 @@ ghost use mathlib.Core.Path.{_≡_};
 ghost use mathlib.Core.Bool.{true, _&&_};
 ghost use lib.Dec.{leb};
 ghost use Rattle.matching.specs.Fit.{passes};
-ghost use Rattle.matching.specs.Gates.{layoutMatches};
 ghost use Prim.Native.Nat.{_+_, _*_, _≤_, _<_};
 ghost use lib.ListN.{length};
-ghost use Rattle.sigrecord.specs.Record.{entryCount, labelOf};
-ghost use Rattle.siglist.specs.List.{recordAt, entriesOf, AreasFit, recordGood};
+ghost use Rattle.siglist.specs.List.{recordAt, AreasFit};
 ghost use Rattle.found.specs.Least.{prefer, numbersFrom};
 ghost use Rattle.found.specs.Rank.{rankOf};
+ghost use Rattle.search.specs.Candidate.{holds, candidateFit};
 ghost use Rattle.search.specs.Next.{Next};
-ghost use Rattle.search.specs.Search.{fitAt, candidateAt, searchRow};
+ghost use Rattle.search.specs.Search.{candidateAt, searchRow};
 use found::Found;
 use found::found_of;
 use found::is_none;
@@ -22,10 +21,11 @@ use matching::SignatureFit;
 use matching::olayout_matches;
 use matching::passes_gates;
 use matching::tolerance;
-use numbers::be16;
-use numbers::wide;
 use siglist::Areas;
-use sigrecord::RECORD;
+use siglist::record_at;
+use sigrecord::entry_count;
+use sigrecord::first_entry;
+use sigrecord::label_of;
 use sigrecord::scalars_well_formed;
 use sigrecord::signature_of;
 
@@ -37,30 +37,27 @@ pub(crate) fn entries_lie(areas: Areas, first: usize, count: usize) -> bool
     if 40 < count {
         return false;
     }
-    first + count <= areas.entries
+    first + count <= areas.entries as usize
 }
 
 // Whether a record's layout is the observation's, and the record well formed.
-pub(crate) fn holds_at(
+pub(crate) fn record_holds(
     count: usize,
     kinds: &[u8],
     bytes: &[u8],
     list: &[u8],
     areas: Areas,
-    i: usize,
+    raw: &[u8],
 ) -> bool
-    requires { ⌜ AreasFit (now list) areas × (i < areas .records) ⌝ }
-    ensures { λ r. ⌜ r ≡ layoutMatches count (now (kinds .entry)) (now (bytes .entry)) (entryCount (recordAt (now (list .entry)) i)) (entriesOf (now (list .entry)) (recordAt (now (list .entry)) i)) && recordGood (now (list .entry)) i ⌝ }
+    requires { ⌜ AreasFit (now list) areas ⌝ }
+    ensures { λ r. ⌜ r ≡ holds count (now (kinds .entry)) (now (bytes .entry)) (now (list .entry)) (now (raw .entry)) ⌝ }
 {
-    let at = areas.records_offset + RECORD * i;
-    let end_of_record = at + RECORD;
-    let raw = &list[at..end_of_record];
-    let first = be16(raw[18], raw[19]) as usize;
-    let declared = wide(raw[20]) as usize;
+    let first = first_entry(raw) as usize;
+    let declared = entry_count(raw) as usize;
     if !entries_lie(areas, first, declared) {
         return false;
     }
-    let start = areas.entries_offset + 2 * first;
+    let start = areas.entries_offset as usize + 2 * first;
     let end = start + 2 * declared;
     let entries = &list[start..end];
     if !olayout_matches(kinds, bytes, count, entries, declared) {
@@ -71,38 +68,25 @@ pub(crate) fn holds_at(
 
 // How a record that passes the gates fits. TTL and quirks come first: only of a record that passes them too is it asked whether it
 // is well formed.
-pub(crate) fn fit_at(
+pub(crate) fn candidate_fit(
     observed: Features,
     kinds: &[u8],
     bytes: &[u8],
     list: &[u8],
     areas: Areas,
-    i: usize,
+    raw: &[u8],
 ) -> SignatureFit
-    requires { ⌜ AreasFit (now list) areas × (i < areas .records) × (passes observed (recordAt (now list) i) ≡ true) ⌝ }
-    ensures { λ r. ⌜ r ≡ fitAt observed (now (kinds .entry)) (now (bytes .entry)) (now (list .entry)) i ⌝ }
+    requires { ⌜ AreasFit (now list) areas ⌝ }
+    ensures { λ r. ⌜ r ≡ candidateFit observed (now (kinds .entry)) (now (bytes .entry)) (now (list .entry)) (now (raw .entry)) ⌝ }
 {
-    let at = areas.records_offset + RECORD * i;
-    let end_of_record = at + RECORD;
-    let raw = &list[at..end_of_record];
     let fit = tolerance(observed, signature_of(raw));
     if is_none(fit) {
         return SignatureFit::None;
     }
-    if !holds_at(observed.count, kinds, bytes, list, areas, i) {
+    if !record_holds(observed.count, kinds, bytes, list, areas, raw) {
         return SignatureFit::None;
     }
     fit
-}
-
-pub(crate) fn label_at(list: &[u8], areas: Areas, i: usize) -> u16
-    requires { ⌜ AreasFit (now list) areas × (i < areas .records) ⌝ }
-    ensures { λ r. ⌜ r ≡ labelOf (recordAt (now (list .entry)) i) ⌝ }
-{
-    let at = areas.records_offset + RECORD * i;
-    let end_of_record = at + RECORD;
-    let raw = &list[at..end_of_record];
-    be16(raw[22], raw[23])
 }
 
 // What is held after record i, which passes the gates: its label is read only if it fits.
@@ -118,11 +102,12 @@ pub(crate) fn search_step(
     requires { ⌜ AreasFit (now list) areas × (i < areas .records) × (passes observed (recordAt (now list) i) ≡ true) ⌝ }
     ensures { λ r. ⌜ r ≡ prefer rankOf held (candidateAt observed (now (kinds .entry)) (now (bytes .entry)) (now (list .entry)) i) ⌝ }
 {
-    let fit = fit_at(observed, kinds, bytes, list, areas, i);
+    let raw = record_at(list, areas, i);
+    let fit = candidate_fit(observed, kinds, bytes, list, areas, raw);
     if is_none(fit) {
         return held;
     }
-    prefer_found(held, found_of(label_at(list, areas, i), fit))
+    prefer_found(held, found_of(label_of(raw), fit))
 }
 
 // The first record from one on that passes the gates, or the end.
@@ -131,11 +116,8 @@ pub(crate) fn next_candidate(observed: Features, list: &[u8], areas: Areas, from
     ensures { λ r. ⌜ Next observed (now (list .entry)) (areas .records) from r ⌝ }
 {
     let mut i = from;
-    while i < areas.records {
-        let at = areas.records_offset + RECORD * i;
-        let end_of_record = at + RECORD;
-        let raw = &list[at..end_of_record];
-        if passes_gates(observed, raw) {
+    while i < areas.records as usize {
+        if passes_gates(observed, record_at(list, areas, i)) {
             return i;
         }
         i += 1;
@@ -154,7 +136,7 @@ pub(crate) fn search_records(
     requires { ⌜ AreasFit (now list) areas ⌝ }
     ensures { λ r. ⌜ r ≡ searchRow observed (now (kinds .entry)) (now (bytes .entry)) (now (list .entry)) (numbersFrom 0 (areas .records)) ⌝ }
 {
-    let count = areas.records;
+    let count = areas.records as usize;
     let mut held = Found::None;
     let mut i = 0;
     while i < count {

@@ -6,7 +6,7 @@ use Prim.Native.Nat.{ℕ, suc, _+_, _*_, _-_, _/_, _<_, _≤_}
 use native.Mathlib.Omega.{arith}
 use lib.Dec.{leb}
 use lib.ListN.{length}
-use borrow.Author.Tests.{leb-true, le-leb, lt-leb, lt-ltb, le-ltb}
+use borrow.Author.Tests.{leb-true, le-leb, lt-ltb, le-ltb}
 use Rattle.basis.specs.Bytes.{part}
 use Rattle.basis.proofs.Tests.{and-left, and-right, and-false}
 use Rattle.basis.proofs.Bytes.{part-length}
@@ -15,7 +15,7 @@ use Rattle.siglist.specs.declared.Header.{Header}
 use Rattle.siglist.specs.declared.Header.the-variants as header
 use Rattle.siglist.specs.declared.ListAnswer.the-variants as answer
 use Rattle.refusals.specs.declared.ListRefusal.the-variants as refusal
-use Rattle.siglist.specs.List.{recordCount, recordsOffset, layoutCount, layoutOffset, listFits, areasOf, headerOf, AreasFit, recordStart, recordAt, recordOf, recordGood, recordsFrom}
+use Rattle.siglist.specs.List.{recordCount, recordsOffset, layoutCount, layoutOffset, areaFits, listFits, areasOf, headerOf, AreasFit, recordStart, recordAt, recordOf, recordGood, recordsFrom}
 
 -- A list that fits has a whole header.
 pub header-fits : (l : List ℕ) → listFits l ≡ true → 8 ≤ length l
@@ -42,6 +42,15 @@ areas-of-fit l e =
 -- Areas that were read off a list that fits.
 pub areas-fit : (l : List ℕ) (a : Areas) → listFits l ≡ true → a ≡ areasOf l → AreasFit l a
 areas-fit l a fits same = subst (AreasFit l) (sym same) (areas-of-fit l fits)
+
+-- Whether a list with a whole header fits, by the numbers read off it.
+pub fits-by
+    : (l : List ℕ) (a : Areas)
+    → a ≡ areasOf l
+    → 8 ≤ length l
+    → listFits l ≡ areaFits (a .«records_offset») (24 * a .records) l && areaFits (a .«entries_offset») (2 * a .entries) l
+unfolding listFits areasOf
+fits-by l a same whole = rw (same, le-leb 8 (length l) whole)
 
 module _ (l : List ℕ) (i n : ℕ) (inside : i < n) where
   more : n - i ≡ suc (n - (i + 1))
@@ -97,22 +106,26 @@ row-of l start count h = rw (part-length start (start + 2 * count) l h) (omega a
 
 -- A record by the numbers of a header: there, or not.
 module _ (l : List ℕ) (a : Areas) (i : ℕ) where
+  abbrev Fit : Bool
+  Fit = areaFits (a .«records_offset») (24 * a .records) l
+
   pub there
       : i < a .records
-      → a .«records_offset» + 24 * a .records ≤ length l
+      → Fit ≡ true
       → recordOf l a i ≡ part (a .«records_offset» + 24 * i) (a .«records_offset» + 24 * i + 24) l
   unfolding recordOf
-  there inside fits = rw (lt-ltb i (a .records) inside, le-leb (a .«records_offset» + 24 * a .records) (length l) fits)
+  there inside fits = rw (lt-ltb i (a .records) inside, fits)
 
   pub past-the-last : a .records ≤ i → recordOf l a i ≡ []
   unfolding recordOf
   past-the-last past = rw (le-ltb i (a .records) past)
 
-  pub past-the-end : length l < a .«records_offset» + 24 * a .records → recordOf l a i ≡ []
+  pub past-the-end : Fit ≡ false → recordOf l a i ≡ []
   unfolding recordOf
-  past-the-end past = simp (lt-leb (a .«records_offset» + 24 * a .records) (length l) past, and-false)
+  past-the-end past = simp (past, and-false)
 
   -- By the numbers of the list's own header it is the list's record.
   pub record-of-list : AreasFit l a → i < a .records → recordOf l a i ≡ recordAt l i
   record-of-list fits inside =
-      there inside (fits .recordsFit) ∙ ap (λ (start : ℕ). part (start + 24 * i) (start + 24 * i + 24) l) (fits .recordsAt)
+      there inside (le-leb (a .«records_offset» + 24 * a .records) (length l) (fits .recordsFit))
+      ∙ ap (λ (start : ℕ). part (start + 24 * i) (start + 24 * i + 24) l) (fits .recordsAt)

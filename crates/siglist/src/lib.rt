@@ -2,7 +2,7 @@
 ghost use mathlib.Core.Path.{_≡_};
 ghost use Prim.Native.Nat.{_+_, _*_, _≤_, _<_};
 ghost use lib.ListN.{length};
-ghost use Rattle.siglist.specs.List.{listFits, areasOf, headerOf, AreasFit, recordOf, layoutLies, recordGood, checkList};
+ghost use Rattle.siglist.specs.List.{areaFits, listFits, areasOf, headerOf, AreasFit, recordOf, layoutLies, recordGood, checkList};
 use numbers::be16_at;
 use refusals::ListRefusal;
 use sigrecord::RECORD;
@@ -21,10 +21,10 @@ const HEADER: usize = 8;
 
 // The numbers of a list's header.
 pub struct Areas {
-    pub records: usize,
-    pub records_offset: usize,
-    pub entries: usize,
-    pub entries_offset: usize,
+    pub records: u16,
+    pub records_offset: u16,
+    pub entries: u16,
+    pub entries_offset: u16,
 }
 
 // A list's header and its areas fit, or do not.
@@ -37,11 +37,18 @@ fn areas_of(list: &[u8]) -> Areas
     ensures { λ r. ⌜ r ≡ areasOf (now (list .entry)) ⌝ }
 {
     Areas {
-        records: be16_at(list, 0) as usize,
-        records_offset: be16_at(list, 2) as usize,
-        entries: be16_at(list, 4) as usize,
-        entries_offset: be16_at(list, 6) as usize,
+        records: be16_at(list, 0),
+        records_offset: be16_at(list, 2),
+        entries: be16_at(list, 4),
+        entries_offset: be16_at(list, 6),
     }
+}
+
+// The header's test of the records, and the very same one of each record taken: behind the first the others cost nothing.
+fn records_fit(list: &[u8], areas: Areas) -> bool
+    ensures { λ r. ⌜ r ≡ areaFits (areas .«records_offset») (24 * areas .records) (now (list .entry)) ⌝ }
+{
+    areas.records_offset as usize + RECORD * areas.records as usize <= list.len()
 }
 
 fn list_fits(list: &[u8]) -> bool
@@ -50,14 +57,11 @@ fn list_fits(list: &[u8]) -> bool
     if list.len() < HEADER {
         return false;
     }
-    let records = be16_at(list, 0) as usize;
-    let records_offset = be16_at(list, 2) as usize;
-    let entries = be16_at(list, 4) as usize;
-    let entries_offset = be16_at(list, 6) as usize;
-    if list.len() < records_offset + RECORD * records {
+    let areas = areas_of(list);
+    if !records_fit(list, areas) {
         return false;
     }
-    entries_offset + 2 * entries <= list.len()
+    areas.entries_offset as usize + 2 * areas.entries as usize <= list.len()
 }
 
 // A list's header, if it and its areas fit.
@@ -74,17 +78,13 @@ pub fn read_header(list: &[u8]) -> Header
 pub fn record_at<'a>(list: &'a [u8], areas: Areas, i: usize) -> &'a [u8]
     ensures { λ r. ⌜ now r ≡ recordOf (now (list .entry)) areas i ⌝ }
 {
-    let offset = areas.records_offset;
-    if areas.records <= i {
+    if areas.records as usize <= i {
         return &list[0..0];
     }
-    if list.len() < offset {
+    if !records_fit(list, areas) {
         return &list[0..0];
     }
-    if (list.len() - offset) / RECORD < areas.records {
-        return &list[0..0];
-    }
-    let start = offset + RECORD * i;
+    let start = areas.records_offset as usize + RECORD * i;
     let end = start + RECORD;
     &list[start..end]
 }
@@ -96,13 +96,14 @@ fn layout_good(list: &[u8], areas: Areas, first: usize, count: usize) -> bool
     if 40 < count {
         return false;
     }
-    if areas.entries < count {
+    let entries = areas.entries as usize;
+    if entries < count {
         return false;
     }
-    if areas.entries - count < first {
+    if entries - count < first {
         return false;
     }
-    let start = areas.entries_offset + 2 * first;
+    let start = areas.entries_offset as usize + 2 * first;
     let end = start + 2 * count;
     entries_good(&list[start..end])
 }
@@ -131,7 +132,7 @@ pub fn check_list(list: &[u8]) -> ListAnswer
         return ListAnswer::Refused(ListRefusal::DoesNotFit);
     }
     let areas = areas_of(list);
-    let count = areas.records;
+    let count = areas.records as usize;
     let mut i = 0;
     while i < count {
         if !record_good(list, areas, i) {

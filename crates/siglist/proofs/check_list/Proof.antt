@@ -11,7 +11,8 @@ use Rattle.siglist.proofs.check_list.Tie as tie
 
 abbrev Inv-loop : tie.InvT-loop
 Inv-loop list areas count i₀ i =
-    (i ≤ count) × (count ≡ recordCount list) × AreasFit list areas × (areas .records ≡ count) × (recordsFrom list i (count - i) ≡ recordsFrom list 0 (recordCount list))
+    (i ≤ count) × (count ≡ recordCount list) × AreasFit list areas × (areas .records ≡ count)
+    × (recordsFrom list i (count - i) ≡ recordsFrom list 0 (recordCount list))
 
 abbrev μ-loop : tie.MeasureT-loop
 μ-loop list areas count i₀ i = count - i
@@ -26,10 +27,16 @@ returns c = rw (sym (c .before .list-fits .ensures) ∙ not-true (c .before .lis
 areas-of-requires : tie.Need-areas-of-requires Inv-loop μ-loop
 areas-of-requires c κs = search needs
 
+cast-count : tie.Need-cast-count Inv-loop μ-loop
+cast-count c = search needs
+
 loop-holds : tie.Need-loop-holds Inv-loop μ-loop
 loop-holds c =
-    let l = c .before .before .before .before .args .list .now in
-    let fit = areas-fit l (c .areas-of .result) (sym (c .before .before .list-fits .ensures) ∙ not-false (c .before .before .list-fits .result) (c .before .if1 .left)) (c .areas-of .ensures) in
+    let l = c .before .before .before .before .before .args .list .now in
+    let listed = c .before .before .before .list-fits in
+    let read = c .before .areas-of in
+    let fit =
+    areas-fit l (read .result) (sym (listed .ensures) ∙ not-false (listed .result) (c .before .before .if1 .left)) (read .ensures) in
     (search needs, fit .records, fit, refl, rw (sub-zero, fit .records))
 
 record-good-requires : tie.Need-record-good-requires Inv-loop μ-loop
@@ -38,10 +45,15 @@ record-good-requires c κs = search needs
 returns-2 : tie.Need-returns-2 Inv-loop μ-loop
 unfolding checkList
 returns-2 c =
-    let l = c .before .before .before .before .before .before .before .before .args .list .now in
+    let l = c .before .before .before .before .before .before .before .before .before .args .list .now in
+    let listed = c .before .before .before .before .before .before .before .list-fits in
     let at = c .before .before .before .loop in
-    rw (sym (c .before .before .before .before .before .before .list-fits .ensures) ∙ not-false (c .before .before .before .before .before .before .list-fits .result) (c .before .before .before .before .before .if1 .left))
-    (sym (sym (at .inv .4) ∙ record-bad-turn l (at .i) (c .before .before .before .before .areas-of .result .records) (c .before .before .loop-test .taken) (sym (c .before .record-good .ensures) ∙ not-true (c .before .record-good .result) (c .if2 .taken))))
+    let good = c .before .record-good in
+    rw (sym (listed .ensures) ∙ not-false (listed .result) (c .before .before .before .before .before .before .if1 .left))
+    (sym
+    (sym (at .inv .4)
+    ∙ record-bad-turn l (at .i) (c .before .before .before .before .before .areas-of .result .records) (c .before .before .loop-test .taken)
+    (sym (good .ensures) ∙ not-true (good .result) (c .if2 .taken))))
 
 add-i : tie.Need-add-i Inv-loop μ-loop
 add-i c = search needs
@@ -51,22 +63,26 @@ loop-less c = search needs
 
 loop-again : tie.Need-loop-again Inv-loop μ-loop
 loop-again c =
-    let l = c .before .before .before .before .before .before .before .before .args .list .now in
-    let at = c .before .before .before .loop in (
+    let l = c .before .before .before .before .before .before .before .before .before .args .list .now in
+    let at = c .before .before .before .loop in
+    let good = c .before .record-good in (
       search needs,
       at .inv .1,
       at .inv .2,
       at .inv .3,
-      record-good-turn l (at .i) (c .before .before .before .before .areas-of .result .records) (c .before .before .loop-test .taken) (sym (c .before .record-good .ensures) ∙ not-false (c .before .record-good .result) (c .if2 .left))
+      record-good-turn l (at .i) (c .before .before .before .before .before .areas-of .result .records) (c .before .before .loop-test .taken)
+          (sym (good .ensures) ∙ not-false (good .result) (c .if2 .left))
           ∙ at .inv .4,
     )
 
 returns-3 : tie.Need-returns-3 Inv-loop μ-loop
 unfolding checkList
 returns-3 c =
-    let l = c .before .before .before .before .before .before .args .list .now in
-    rw (sym (c .before .before .before .before .list-fits .ensures) ∙ not-false (c .before .before .before .before .list-fits .result) (c .before .before .before .if1 .left))
-    (sym (sym (c .before .loop .inv .4) ∙ records-end l (c .before .loop .i) (c .before .before .areas-of .result .records) (c .loop-test .left)))
+    let l = c .before .before .before .before .before .before .before .args .list .now in
+    let listed = c .before .before .before .before .before .list-fits in
+    let at = c .before .loop in
+    rw (sym (listed .ensures) ∙ not-false (listed .result) (c .before .before .before .before .if1 .left))
+    (sym (sym (at .inv .4) ∙ records-end l (at .i) (c .before .before .before .areas-of .result .records) (c .loop-test .left)))
 
 pub check-list-spec : {M : Type 1} → statement M
 check-list-spec =
@@ -77,6 +93,7 @@ check-list-spec =
     list-fits-requires
     returns
     areas-of-requires
+    cast-count
     loop-holds
     record-good-requires
     returns-2

@@ -13,6 +13,9 @@ returns : tie.Need-returns
 unfolding layoutLies
 returns c = search cases
 
+cast-entries : tie.Need-cast-entries
+cast-entries c = search needs
+
 returns-2 : tie.Need-returns-2
 unfolding layoutLies
 returns-2 c =
@@ -23,9 +26,12 @@ returns-2 c =
 returns-3 : tie.Need-returns-3
 unfolding layoutLies
 returns-3 c =
-    let a = c .before .before .before .before .before .before .args in
-    let pre = c .before .before .before .before .before .before .pre in
+    let a = c .before .before .before .before .before .args in
+    let pre = c .before .before .before .before .before .pre in
     rw (le-leb (a .count) 40 (omega arith), lt-leb (a .first + a .count) (layoutCount (a .list .now)) (omega arith))
+
+cast-start : tie.Need-cast-start
+cast-start c = search needs
 
 mul-start : tie.Need-mul-start
 mul-start c = search needs
@@ -54,7 +60,7 @@ entries-good-requires c κs = search needs
 returns-4 : tie.Need-returns-4
 unfolding layoutLies
 returns-4 c =
-    let at-start = c .before .before .before .before .before .before .before .before .before in
+    let at-start = c .before .before .before .before .before .before .before .before in
     let a = at-start .args in
     let pre = at-start .pre in
     let start = a .areas .«entries_offset» + 2 * a .first in
@@ -71,8 +77,10 @@ layout-good-spec =
     tie.close
     (tie.spec
     returns
+    cast-entries
     returns-2
     returns-3
+    cast-start
     mul-start
     add-start
     mul-end

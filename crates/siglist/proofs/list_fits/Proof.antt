@@ -1,10 +1,9 @@
 -- `siglist::list_fits` meets its contract.
 use native.Mathlib.Omega.{arith}
-use borrow.Author.Tests.{le-leb, lt-leb}
+use borrow.Author.Tests.{not-true, not-false}
 use Rattle.basis.proofs.Rules.{cases}
-use Rattle.siglist.specs.List.{recordCount, recordsOffset, listFits}
-use lib.ListN.{length}
-use Prim.Native.Nat.{_+_, _*_}
+use Rattle.siglist.specs.List.{listFits}
+use Rattle.siglist.proofs.List.{fits-by}
 use borrow.Author.Needs.{needs}
 use Rattle.siglist.proofs.list_fits.Statement.{statement}
 use Rattle.siglist.proofs.list_fits.Tie as tie
@@ -13,41 +12,26 @@ returns : tie.Need-returns
 unfolding listFits
 returns c = search cases
 
-be16-at-requires : tie.Need-be16-at-requires
-be16-at-requires c κs = search needs
+areas-of-requires : tie.Need-areas-of-requires
+areas-of-requires c κs = search needs
 
-cast-records : tie.Need-cast-records
-cast-records c = search needs
-
-be16-at-requires-2 : tie.Need-be16-at-requires-2
-be16-at-requires-2 c κs = search needs
-
-cast-records-offset : tie.Need-cast-records-offset
-cast-records-offset c = search needs
-
-be16-at-requires-3 : tie.Need-be16-at-requires-3
-be16-at-requires-3 c κs = search needs
-
-cast-entries : tie.Need-cast-entries
-cast-entries c = search needs
-
-be16-at-requires-4 : tie.Need-be16-at-requires-4
-be16-at-requires-4 c κs = search needs
-
-cast-entries-offset : tie.Need-cast-entries-offset
-cast-entries-offset c = search needs
-
-mul-if2 : tie.Need-mul-if2
-mul-if2 c = search needs
-
-add-if2 : tie.Need-add-if2
-add-if2 c = search needs
+records-fit-requires : tie.Need-records-fit-requires
+records-fit-requires c κs = search needs
 
 returns-2 : tie.Need-returns-2
-unfolding listFits
 returns-2 c =
-    let l = c .before .before .before .before .before .before .before .args .list .now in
-    rw (le-leb 8 (length l) (omega arith), lt-leb (recordsOffset l + 24 * recordCount l) (length l) (omega arith))
+    let fit = c .before .records-fit in
+    rw (
+      fits-by _ (c .before .before .areas-of .result) (c .before .before .areas-of .ensures) (omega arith),
+      ← fit .ensures,
+      not-true (fit .result) (c .if2 .taken),
+    )
+
+cast-result : tie.Need-cast-result
+cast-result c = search needs
+
+cast-result-2 : tie.Need-cast-result-2
+cast-result-2 c = search needs
 
 mul-result : tie.Need-mul-result
 mul-result c = search needs
@@ -56,32 +40,21 @@ add-result : tie.Need-add-result
 add-result c = search needs
 
 returns-3 : tie.Need-returns-3
-unfolding listFits
 returns-3 c =
-    let l = c .before .before .before .before .before .before .before .args .list .now in
-    rw (
-      le-leb 8 (length l) (omega arith),
-      le-leb (recordsOffset l + 24 * recordCount l) (length l) (omega arith),
-      c .before .be16-at4 .ensures,
-      c .before .before .be16-at3 .ensures,
-    )
+    let fit = c .before .before .before .records-fit in
+    let read = c .before .before .before .before .areas-of in
+    rw (fits-by _ (read .result) (read .ensures) (omega arith), ← fit .ensures, not-false (fit .result) (c .before .before .if2 .left))
 
 pub list-fits-spec : {M : Type 1} → statement M
 list-fits-spec =
     tie.close
     (tie.spec
     returns
-    be16-at-requires
-    cast-records
-    be16-at-requires-2
-    cast-records-offset
-    be16-at-requires-3
-    cast-entries
-    be16-at-requires-4
-    cast-entries-offset
-    mul-if2
-    add-if2
+    areas-of-requires
+    records-fit-requires
     returns-2
+    cast-result
+    cast-result-2
     mul-result
     add-result
     returns-3)

@@ -1,10 +1,16 @@
 -- `siglist::record_at` meets its contract.
 use native.Mathlib.Omega.{arith}
-use mathlib.Core.Path.{sym}
+use Prim.Native.Nat.{_+_, _*_, _≤_}
+use lib.ListN.{length}
+use mathlib.Core.Path.{sym, _∙_}
+use borrow.Author.Tests.{leb-true, not-true, not-false}
 use Rattle.siglist.proofs.List.{there, past-the-last, past-the-end}
 use borrow.Author.Needs.{needs}
 use Rattle.siglist.proofs.record_at.Statement.{statement}
 use Rattle.siglist.proofs.record_at.Tie as tie
+
+cast-if1 : tie.Need-cast-if1
+cast-if1 c = search needs
 
 sub-result : tie.Need-sub-result
 sub-result c = search needs
@@ -17,8 +23,11 @@ part-result-end c = search needs
 
 returns : tie.Need-returns
 returns c =
-    let a = c .before .before .before .args in
+    let a = c .before .before .before .before .args in
     sym (past-the-last (a .list .now) (a .areas) (a .i) (omega arith))
+
+records-fit-requires : tie.Need-records-fit-requires
+records-fit-requires c κs = search needs
 
 sub-result-2 : tie.Need-sub-result-2
 sub-result-2 c = search needs
@@ -31,25 +40,11 @@ part-result-end-2 c = search needs
 
 returns-2 : tie.Need-returns-2
 returns-2 c =
-    let a = c .before .before .before .before .args in
-    sym (past-the-end (a .list .now) (a .areas) (a .i) (omega arith))
+    let fit = c .before .before .records-fit in
+    sym (past-the-end _ _ _ (sym (fit .ensures) ∙ not-true (fit .result) (c .before .if2 .taken)))
 
-sub-if3 : tie.Need-sub-if3
-sub-if3 c = search needs
-
-sub-result-3 : tie.Need-sub-result-3
-sub-result-3 c = search needs
-
-part-result-start-3 : tie.Need-part-result-start-3
-part-result-start-3 c = search needs
-
-part-result-end-3 : tie.Need-part-result-end-3
-part-result-end-3 c = search needs
-
-returns-3 : tie.Need-returns-3
-returns-3 c =
-    let a = c .before .before .before .before .before .before .args in
-    sym (past-the-end (a .list .now) (a .areas) (a .i) (omega arith))
+cast-start : tie.Need-cast-start
+cast-start c = search needs
 
 mul-start : tie.Need-mul-start
 mul-start c = search needs
@@ -60,41 +55,45 @@ add-start c = search needs
 add-end : tie.Need-add-end
 add-end c = search needs
 
-sub-result-4 : tie.Need-sub-result-4
-sub-result-4 c = search needs
+sub-result-3 : tie.Need-sub-result-3
+sub-result-3 c = search needs
 
-part-result-start-4 : tie.Need-part-result-start-4
-part-result-start-4 c = search needs
+part-result-start-3 : tie.Need-part-result-start-3
+part-result-start-3 c = search needs
 
-part-result-end-4 : tie.Need-part-result-end-4
-part-result-end-4 c = search needs
-
-returns-4 : tie.Need-returns-4
-returns-4 c =
+part-result-end-3 : tie.Need-part-result-end-3
+part-result-end-3 c =
+    let fit = c .before .before .records-fit in
     let a = c .before .before .before .before .before .before .args in
-    sym (there (a .list .now) (a .areas) (a .i) (omega arith) (omega arith))
+    let inside : a .areas .«records_offset» + 24 * a .areas .records ≤ length (a .list .now) =
+    leb-true _ _ (sym (fit .ensures) ∙ not-false (fit .result) (c .before .if2 .left)) in
+    search needs
+
+returns-3 : tie.Need-returns-3
+returns-3 c =
+    let fit = c .before .before .before .records-fit in
+    let a = c .before .before .before .before .before .before .before .args in
+    sym (there (a .list .now) (a .areas) (a .i) (omega arith) (sym (fit .ensures) ∙ not-false (fit .result) (c .before .before .if2 .left)))
 
 pub record-at-spec : {M : Type 1} → statement M
 record-at-spec =
     tie.close
     (tie.spec
+    cast-if1
     sub-result
     part-result-start
     part-result-end
     returns
+    records-fit-requires
     sub-result-2
     part-result-start-2
     part-result-end-2
     returns-2
-    sub-if3
-    sub-result-3
-    part-result-start-3
-    part-result-end-3
-    returns-3
+    cast-start
     mul-start
     add-start
     add-end
-    sub-result-4
-    part-result-start-4
-    part-result-end-4
-    returns-4)
+    sub-result-3
+    part-result-start-3
+    part-result-end-3
+    returns-3)

@@ -1,5 +1,6 @@
 -- `search::next_candidate` meets its contract.
 use Rattle.search.proofs.Rows.{one-farther}
+use Rattle.siglist.proofs.List.{record-of-list}
 use Rattle.matching.specs.Fit.{passes}
 use Rattle.siglist.specs.List.{recordAt, AreasFit}
 use mathlib.Core.Bool.{false}
@@ -21,35 +22,25 @@ abbrev μ-loop : tie.MeasureT-loop
 loop-holds : tie.Need-loop-holds Inv-loop μ-loop
 loop-holds c = (search needs, c .before .pre .1, c .before .pre .0, λ k start end. absurd (omega arith))
 
-mul-at : tie.Need-mul-at Inv-loop μ-loop
-mul-at c = search needs
+cast-if1 : tie.Need-cast-if1 Inv-loop μ-loop
+cast-if1 c = search needs
 
-add-at : tie.Need-add-at Inv-loop μ-loop
-add-at c = search needs
-
-add-end-of-record : tie.Need-add-end-of-record Inv-loop μ-loop
-add-end-of-record c = search needs
-
-sub-raw : tie.Need-sub-raw Inv-loop μ-loop
-sub-raw c = search needs
-
-part-raw-start : tie.Need-part-raw-start Inv-loop μ-loop
-part-raw-start c = search needs
-
-part-raw-end : tie.Need-part-raw-end Inv-loop μ-loop
-part-raw-end c = search needs
+record-at-requires : tie.Need-record-at-requires Inv-loop μ-loop
+record-at-requires c κs = search needs
 
 passes-gates-requires : tie.Need-passes-gates-requires Inv-loop μ-loop
 passes-gates-requires c κs = search needs
 
 returns : tie.Need-returns Inv-loop μ-loop
 returns c =
-    let l = c .before .before .before .before .before .before .loop in
+    let at = c .before .before .before .before .before .loop in
+    let passed = c .before .passes-gates in
+    let same = c .before .before .record-at .ensures ∙ record-of-list _ _ (at .i) (at .inv .2) (search needs) in
     record {
-      reached = l .inv .0;
-      within = l .inv .1;
-      candidate = λ inside. rw (← l .inv .2 .recordsAt) (sym (c .before .passes-gates .ensures) ∙ c .if2 .taken);
-      between = l .inv .3;
+      reached = at .inv .0;
+      within = at .inv .1;
+      candidate = λ inside. rw (← same) (sym (passed .ensures) ∙ c .if2 .taken);
+      between = at .inv .3;
     }
 
 add-i : tie.Need-add-i Inv-loop μ-loop
@@ -60,12 +51,13 @@ loop-less c = search needs
 
 loop-again : tie.Need-loop-again Inv-loop μ-loop
 loop-again c =
-    let l = c .before .before .before .before .before .before .loop in
-    let fits = l .inv .2 in (
+    let at = c .before .before .before .before .before .loop in
+    let passed = c .before .passes-gates in
+    let same = c .before .before .record-at .ensures ∙ record-of-list _ _ (at .i) (at .inv .2) (search needs) in (
       search needs,
       search needs,
-      fits,
-      one-farther _ _ _ (l .i) (l .inv .3) (rw (← fits .recordsAt) (sym (c .before .passes-gates .ensures) ∙ c .if2 .left)),
+      at .inv .2,
+      one-farther _ _ _ (at .i) (at .inv .3) (rw (← same) (sym (passed .ensures) ∙ c .if2 .left)),
     )
 
 returns-2 : tie.Need-returns-2 Inv-loop μ-loop
@@ -80,12 +72,8 @@ next-candidate-spec =
     Inv-loop
     μ-loop
     loop-holds
-    mul-at
-    add-at
-    add-end-of-record
-    sub-raw
-    part-raw-start
-    part-raw-end
+    cast-if1
+    record-at-requires
     passes-gates-requires
     returns
     add-i

@@ -17,8 +17,11 @@ Inv-loop observed kinds bytes list areas count held₀ i₀ held i =
 abbrev μ-loop : tie.MeasureT-loop
 μ-loop observed kinds bytes list areas count held₀ i₀ held i = count - i
 
+cast-count : tie.Need-cast-count Inv-loop μ-loop
+cast-count c = search needs
+
 loop-holds : tie.Need-loop-holds Inv-loop μ-loop
-loop-holds c = (search needs, refl, c .before .pre, at-start _ _ _ _)
+loop-holds c = (search needs, refl, c .before .before .pre, at-start _ _ _ _)
 
 next-candidate-requires : tie.Need-next-candidate-requires Inv-loop μ-loop
 next-candidate-requires c κs = search needs
@@ -28,7 +31,7 @@ returns c =
     let l = c .before .before .before .loop in
     let next = c .before .next-candidate in
     let within = next .ensures .within in
-    let end : next .result ≡ c .before .before .before .before .before .args .areas .records = omega arith in
+    let end : next .result ≡ c .before .before .before .before .before .before .args .areas .records = omega arith in
     rw (← end) (l .inv .3 ∙ skipped _ _ _ _ _ _ _ (l .inv .2) (next .ensures))
 
 search-step-requires : tie.Need-search-step-requires Inv-loop μ-loop
@@ -68,7 +71,7 @@ loop-again c =
 returns-3 : tie.Need-returns-3 Inv-loop μ-loop
 returns-3 c =
     let l = c .before .loop in
-    let end : l .i ≡ c .before .before .before .args .areas .records = omega arith in
+    let end : l .i ≡ c .before .before .before .before .args .areas .records = omega arith in
     rw (← end) (l .inv .3)
 
 pub search-records-spec : {M : Type 1} → statement M
@@ -77,6 +80,7 @@ search-records-spec =
     (tie.spec
     Inv-loop
     μ-loop
+    cast-count
     loop-holds
     next-candidate-requires
     returns

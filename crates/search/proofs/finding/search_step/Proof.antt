@@ -1,27 +1,35 @@
 -- `search::search_step` meets its contract.
 use Rattle.search.proofs.Rows.{passed-over}
 use Rattle.search.specs.Search.{candidateAt}
-use Rattle.search.proofs.Fits.{is-none}
+use Rattle.search.proofs.Fits.{is-none, gates-pass}
+use Rattle.siglist.proofs.List.{record-of-list}
 use mathlib.Core.Path.{sym, _∙_}
 use borrow.Author.Needs.{needs}
 use Rattle.search.proofs.finding.search_step.Statement.{statement}
 use Rattle.search.proofs.finding.search_step.Tie as tie
 
-fit-at-requires : tie.Need-fit-at-requires
-fit-at-requires c κs = search needs
+record-at-requires : tie.Need-record-at-requires
+record-at-requires c κs = search needs
+
+candidate-fit-requires : tie.Need-candidate-fit-requires
+candidate-fit-requires c κs = search needs
 
 is-none-requires : tie.Need-is-none-requires
 is-none-requires c κs = search needs
 
 returns : tie.Need-returns
 returns c =
-    let a = c .before .before .before .before .before .before .args in
+    let fit = c .before .before .candidate-fit in
+    let a = c .before .before .before .before .before .before .before .args in
+    let pre = c .before .before .before .before .before .before .before .pre in
+    let same = c .before .before .before .record-at .ensures ∙ record-of-list (a .list .now) (a .areas) (a .i) (pre .0) (pre .1) in
     sym
     (passed-over (a .observed) (a .kinds .now) (a .bytes .now) (a .list .now) (a .held) (a .i)
-    (sym (c .before .before .fit-at .ensures) ∙ is-none _ (sym (c .before .is-none .ensures) ∙ c .if1 .taken)))
+    (gates-pass _ _ _ _ _ _ (pre .0) (pre .1) (pre .2)
+    ∙ rw (← same, ← fit .ensures) (is-none (fit .result) (sym (c .before .is-none .ensures) ∙ c .if1 .taken))))
 
-label-at-requires : tie.Need-label-at-requires
-label-at-requires c κs = search needs
+label-of-requires : tie.Need-label-of-requires
+label-of-requires c κs = search needs
 
 found-of-requires : tie.Need-found-of-requires
 found-of-requires c κs = search needs
@@ -32,21 +40,27 @@ prefer-found-requires c κs = search needs
 returns-2 : tie.Need-returns-2
 unfolding candidateAt
 returns-2 c =
+    let a = c .before .before .before .before .before .before .before .before .before .before .args in
+    let pre = c .before .before .before .before .before .before .before .before .before .before .pre in
+    let same = c .before .before .before .before .before .before .record-at .ensures ∙ record-of-list (a .list .now) (a .areas) (a .i) (pre .0) (pre .1) in
     rw (
-      c .prefer-found .ensures,
-      c .before .found-of .ensures,
-      c .before .before .label-at .ensures,
-      c .before .before .before .before .before .fit-at .ensures,
+      gates-pass (a .observed) (a .kinds .now) (a .bytes .now) (a .list .now) (a .areas) (a .i) (pre .0) (pre .1) (pre .2),
+      ← same,
+      ← c .before .before .before .before .before .candidate-fit .ensures,
+      ← c .before .before .label-of .ensures,
+      ← c .before .found-of .ensures,
+      ← c .prefer-found .ensures,
     )
 
 pub search-step-spec : {M : Type 1} → statement M
 search-step-spec =
     tie.close
     (tie.spec
-    fit-at-requires
+    record-at-requires
+    candidate-fit-requires
     is-none-requires
     returns
-    label-at-requires
+    label-of-requires
     found-of-requires
     prefer-found-requires
     returns-2)
