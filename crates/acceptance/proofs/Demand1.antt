@@ -142,9 +142,12 @@ of-flow =
 of-sigrecord : Sigrecord
 of-sigrecord =
     record {
+      version-of = λ κs r. answered tt (sigrecord.version-of-one κs r) (λ m. m) refl;
+      ttl-of = λ κs r. answered tt (sigrecord.ttl-of-one κs r) (λ m. m) refl;
       mss-of = λ κs r. answered tt (sigrecord.mss-of-one κs r) (λ m. m) refl;
       window-of = λ κs r. answered tt (sigrecord.window-of-one κs r) (λ m. m) refl;
       scale-of = λ κs r. answered tt (sigrecord.scale-of-one κs r) (λ m. m) refl;
+      quirks-of = λ κs r. answered tt (sigrecord.quirks-of-one κs r) (λ m. m) refl;
       signature-of = λ κs r. answered tt (sigrecord.signature-of-one κs r) (λ m. m) refl;
       first-entry = λ κs r. answered tt (sigrecord.first-entry-one κs r) (λ m. m) refl;
       entry-count = λ κs r. answered tt (sigrecord.entry-count-one κs r) (λ m. m) refl;
@@ -174,7 +177,7 @@ of-matching =
       olayout-matches = λ κs ks bs n es m. answered tt (matching.olayout-matches-one κs ks bs n es m) (λ m. m) refl;
       passes-gates = λ κs r f. answered tt (matching.passes-gates-one κs r f) (λ m. m) refl;
       features-of = λ o. answered tt (matching.features-of-one o) (λ m. m) refl;
-      tolerance = λ f s. answered tt (matching.tolerance-one f s) (λ m. m) refl;
+      tolerance = λ κs r f. answered tt (matching.tolerance-one κs r f) (λ m. m) refl;
     }
 
 of-siglist : Siglist
@@ -187,6 +190,7 @@ of-siglist =
             asks-nothing = tt;
             one = u;
             is = u .meets (record { ptr = l .ptr; name = l .name; now = u .the }) refl;
+            no-other = λ r m. m;
             only-reads = refl;
           };
       check-list = λ κs l. answered tt (siglist.check-list-one κs l) (λ m. m) refl;

@@ -20,7 +20,7 @@ use Rattle.gateway.proofs.Given.{two-bytes}
 use Rattle.acceptance.specs.OnPaper.{packetPaper, listPaper, gatewayPaper, refusedCode, Codes, OnPaper}
 use Rattle.acceptance.specs.Honesty.{codeAt, checkedAnswer}
 use Rattle.acceptance.proofs.Refusals.{refusals}
-use Rattle.acceptance.proofs.PaperRows.{numbers, rows}
+use Rattle.acceptance.proofs.PaperRows.{the-table, rows}
 use Rattle.acceptance.proofs.PaperTold.{told}
 
 -- ---- the codes
@@ -79,4 +79,4 @@ codes =
     }
 
 pub on-paper : OnPaper
-on-paper = record { rows = rows; numbers = numbers; codes = codes; told = told }
+on-paper = record { rows = rows; table = the-table; codes = codes; told = told }

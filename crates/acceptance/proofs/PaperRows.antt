@@ -29,7 +29,7 @@ use Rattle.bundle.specs.declared.BundleCheck.the-variants as bundle
 use Rattle.bundle.specs.Bundle.{listOf, checkBundle, bundleRefusal}
 use Rattle.gateway.specs.Code.{afterList, gatewayAnswer}
 use Rattle.acceptance.specs.Refusals.{First, PacketRow, packetOrder, Refused, Gives, Answered, ListRow}
-use Rattle.acceptance.specs.OnPaper.{alone, paperOf, answerPaper, packetPaper, optionsPaper, listPaper, searchPaper, bundlePaper, gatewayPaper, Also, IsRow, GatewayRow, Rows, SameNumbers}
+use Rattle.acceptance.specs.OnPaper.{alone, paperOf, answerPaper, packetPaper, optionsPaper, listPaper, searchPaper, bundlePaper, gatewayPaper, Also, IsRow, GatewayRow, Rows, TheTable}
 use Rattle.acceptance.proofs.Refusals.{refusals}
 use Rattle.acceptance.proofs.PaperStages.{others, under-7, ip-row, header-row}
 
@@ -203,16 +203,8 @@ module _ (p l : List ℕ) where
 
 -- ---- together
 
-pub numbers : SameNumbers
-numbers =
-    record {
-      refusal = λ r. refl;
-      packet = packet-same;
-      options = options-same;
-      list = list-same;
-      search = search-same;
-      bundle = bundle-same;
-    }
+pub the-table : TheTable
+the-table value = refl
 
 pub rows : Rows
 rows =

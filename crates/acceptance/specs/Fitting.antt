@@ -13,7 +13,6 @@ use Rattle.quirks.specs.declared.QuirkSet.{QuirkSet}
 use Rattle.ttl.specs.declared.Ttl.{Ttl}
 use Rattle.window_size.specs.declared.Multiplier.{Multiplier}
 use Rattle.observable.specs.declared.TcpObservation.{TcpObservation}
-use Rattle.sigrecord.specs.declared.Signature.{Signature}
 use Rattle.sigrecord.specs.declared.WindowSize.{WindowSize}
 use Rattle.sigrecord.specs.Layout.{entryGood, entriesGood}
 use Rattle.sigrecord.specs.Record.{versionOf, payloadOf, signatureOf, firstEntry, entryCount, labelOf}
@@ -21,6 +20,9 @@ use Rattle.sigrecord.specs.WellFormed.{scalarsWellFormed}
 use Rattle.sigrecord.proofs.mss_of as mss-of'
 use Rattle.sigrecord.proofs.window_of as window-of'
 use Rattle.sigrecord.proofs.scale_of as scale-of'
+use Rattle.sigrecord.proofs.version_of as version-of'
+use Rattle.sigrecord.proofs.ttl_of as ttl-of'
+use Rattle.sigrecord.proofs.quirks_of as quirks-of'
 use Rattle.sigrecord.proofs.signature_of as signature-of'
 use Rattle.sigrecord.proofs.first_entry as first-entry'
 use Rattle.sigrecord.proofs.entry_count as entry-count'
@@ -66,6 +68,14 @@ use Rattle.search.proofs.search as search'
 use Rattle.acceptance.specs.Promised.{Answers, PartAnswers}
 
 pub record Sigrecord : Type 0 where
+  pub version-of
+      : (κs : Lfts 1) (raw : RefT (List ℕ))
+      → Answers version-of'.signature κs (version-of'.Reads.Pre κs) (version-of'.Reads.Post κs)
+      (raw, tt) (signatureOf (now raw) .version)
+  pub ttl-of
+      : (κs : Lfts 1) (raw : RefT (List ℕ))
+      → Answers ttl-of'.signature κs (ttl-of'.Reads.Pre κs) (ttl-of'.Reads.Post κs)
+      (raw, tt) (signatureOf (now raw) .ittl)
   pub mss-of
       : (κs : Lfts 1) (raw : RefT (List ℕ))
       → Answers mss-of'.signature κs (mss-of'.Reads.Pre κs) (mss-of'.Reads.Post κs)
@@ -78,6 +88,10 @@ pub record Sigrecord : Type 0 where
       : (κs : Lfts 1) (raw : RefT (List ℕ))
       → Answers scale-of'.signature κs (scale-of'.Reads.Pre κs) (scale-of'.Reads.Post κs)
       (raw, tt) (signatureOf (now raw) .wscale)
+  pub quirks-of
+      : (κs : Lfts 1) (raw : RefT (List ℕ))
+      → Answers quirks-of'.signature κs (quirks-of'.Reads.Pre κs) (quirks-of'.Reads.Post κs)
+      (raw, tt) (signatureOf (now raw) .quirks)
   pub signature-of
       : (κs : Lfts 1) (raw : RefT (List ℕ))
       → Answers signature-of'.signature κs (signature-of'.Reads.Pre κs) (signature-of'.Reads.Post κs)
@@ -160,9 +174,9 @@ pub record Matching : Type 0 where
       → Answers features-of'.signature tt (features-of'.Reads.Pre tt) (features-of'.Reads.Post tt)
       (o, tt) (featuresOf o)
   pub tolerance
-      : (f : Features) (s : Signature)
-      → Answers tolerance'.signature tt (tolerance'.Reads.Pre tt) (tolerance'.Reads.Post tt)
-      (f, (s, tt)) (toleranceOf f s)
+      : (κs : Lfts 1) (raw : RefT (List ℕ)) (f : Features)
+      → Answers tolerance'.signature κs (tolerance'.Reads.Pre κs) (tolerance'.Reads.Post κs)
+      (f, (raw, tt)) (toleranceOf f (signatureOf (now raw)))
 
 pub record Siglist : Type 0 where
   pub read-header

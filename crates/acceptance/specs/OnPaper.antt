@@ -8,22 +8,22 @@ use Prim.Native.Nat.{ℕ, _+_, _*_, _<_}
 use Rattle.tcp.specs.declared.Mss.{Mss}
 use Rattle.observable.specs.declared.TcpObservation.{TcpObservation}
 use Rattle.refusals.specs.declared.Refusal.{Refusal}
-use Rattle.refusals.specs.Refusals.{number, Returned, valueOf, Verdict, numberOf, returnedBy}
+use Rattle.refusals.specs.Refusals.{Returned, valueOf, everyRefusal, Verdict, numberOf, returnedBy}
 use Rattle.ip.specs.declared.IpRead.{IpRead}
 use Rattle.ip.specs.Ip.{readIp, ipVerdict}
 use Rattle.flow.specs.declared.Answer.{Answer}
-use Rattle.flow.specs.Reading.{readPacket, answerVerdict, refusalOf}
+use Rattle.flow.specs.Reading.{readPacket, answerVerdict}
 use Rattle.syn_options.specs.declared.OptionsAnswer.{OptionsAnswer}
-use Rattle.syn_options.specs.Walk.{parseOptionsRaw, optionsVerdict, optionsRefusal}
+use Rattle.syn_options.specs.Walk.{parseOptionsRaw, optionsVerdict}
 use Rattle.siglist.specs.declared.Header.{Header}
 use Rattle.siglist.specs.declared.ListAnswer.{ListAnswer}
-use Rattle.siglist.specs.List.{headerOf, checkList, headerVerdict, listVerdict, listRefusal}
+use Rattle.siglist.specs.List.{headerOf, checkList, headerVerdict, listVerdict}
 use Rattle.search.specs.declared.SearchAnswer.{SearchAnswer}
-use Rattle.search.specs.Search.{searchList, searchVerdict, searchRefusal}
+use Rattle.search.specs.Search.{searchList, searchVerdict}
 use Rattle.packet_answer.specs.declared.PacketAnswer.{PacketAnswer}
 use Rattle.packet_answer.specs.Packet.{answerOf, packetVerdict}
 use Rattle.bundle.specs.declared.BundleCheck.{BundleCheck}
-use Rattle.bundle.specs.Bundle.{listOf, checkBundle, bundleVerdict, bundleRefusal}
+use Rattle.bundle.specs.Bundle.{listOf, checkBundle, bundleVerdict}
 use Rattle.gateway.specs.declared.GatewayAnswer.{GatewayAnswer}
 use Rattle.gateway.specs.Code.{gatewayAnswer, listCode, gatewayVerdict}
 use Rattle.gateway.specs.Decode.{AllBytes}
@@ -121,14 +121,39 @@ pub record Rows : Type 0 where
       : (p : List ℕ) (peer : ℕ) (l : List ℕ)
       → IsRow (GatewayRow p l) (9 ∷ 10 ∷ packetOrder) p l (gatewayPaper (gatewayAnswer p peer l))
 
--- The numbers that the crates' own promises speak of are the paper's.
-pub record SameNumbers : Type 0 where
-  pub refusal : (r : Refusal) → number r ≡ refusalPaper r .number
-  pub packet : (a : Answer) → refusalOf a ≡ answerPaper a .number
-  pub options : (a : OptionsAnswer) → optionsRefusal a ≡ optionsPaper a .number
-  pub list : (a : ListAnswer) → listRefusal a ≡ listPaper a .number
-  pub search : (a : SearchAnswer) → searchRefusal a ≡ searchPaper a .number
-  pub bundle : (a : BundleCheck) → bundleRefusal a ≡ bundlePaper a .number
+-- The table of both documents as it stands on paper: the refusals by name, as `everyRefusal` lists them, have these numbers and return this.
+abbrev pub papersOf : List Refusal → List Paper
+papersOf [] = []
+papersOf (r ∷ rest) = refusalPaper r ∷ papersOf rest
+
+abbrev pub TheTable : Type 0
+TheTable =
+    (value : ℕ)
+    → papersOf (everyRefusal value)
+    ≡ alone 1
+    ∷ alone 2
+    ∷ alone 3
+    ∷ alone 4
+    ∷ alone 5
+    ∷ alone 6
+    ∷ record { number = 7; also = Returned.flags value }
+    ∷ alone 8
+    ∷ alone 9
+    ∷ record { number = 10; also = Returned.index value }
+    ∷ alone 11
+    ∷ alone 12
+    ∷ record { number = 13; also = Returned.offset value }
+    ∷ alone 14
+    ∷ alone 15
+    ∷ alone 16
+    ∷ alone 17
+    ∷ alone 18
+    ∷ alone 19
+    ∷ alone 20
+    ∷ alone 21
+    ∷ alone 22
+    ∷ alone 23
+    ∷ []
 
 -- A gateway gets a refusal by its number and its value.
 pub record Codes : Type 0 where
@@ -165,6 +190,6 @@ pub record Told : Type 0 where
 
 pub record OnPaper : Type 0 where
   pub rows : Rows
-  pub numbers : SameNumbers
+  pub table : TheTable
   pub codes : Codes
   pub told : Told

@@ -25,7 +25,8 @@ pub record Answers
     pub is : one .the ≡ result
     pub only-reads : writable signature κs ≡ []
 
--- A function that gives back a part of what it is lent: exactly one row of bytes, lent from wherever, meets its contract.
+-- A function that gives back a part of what it is lent: exactly one row of bytes, lent from wherever, meets its contract, and whatever
+-- meets it is a part of these bytes.
 pub record PartAnswers
     {A : Type 0} (signature : kit.Signature) (κs : Lfts (signature .lifetimes))
     (pre : A → Type 0) (post : A → RefT (List ℕ) → A → Type 0) (arguments : A) (result : List ℕ)
@@ -34,6 +35,7 @@ pub record PartAnswers
     pub asks-nothing : pre arguments
     pub one : ExactlyOne (List ℕ) (λ (v : List ℕ). (r : RefT (List ℕ)) → now r ≡ v → post arguments r arguments)
     pub is : one .the ≡ result
+    pub no-other : (r : RefT (List ℕ)) → post arguments r arguments → now r ≡ result
     pub only-reads : writable signature κs ≡ []
 
 -- A function that fills a page of the caller's, its parameter 2, counted from 0, and no other: exactly one result and one content of the

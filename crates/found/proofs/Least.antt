@@ -9,7 +9,7 @@ use lib.Dec.{ltb}
 use lib.ListN.{length, getD}
 use borrow.Author.Tests.{ltb-true, ltb-false}
 use Rattle.basis.proofs.Rules.{cases}
-use Rattle.found.specs.Least.{unranked, Place, nowhere, number, rankThere, prefer, leastFrom, numbersFrom}
+use Rattle.found.specs.Least.{unranked, Place, nowhere, at, rankThere, prefer, leastFrom, numbersFrom}
 
 -- ---- rows of numbers
 
@@ -61,7 +61,7 @@ module _ (rank : ℕ → ℕ) where
   pub append : (held : Place) (is js : List ℕ) → leastFrom rank held (is ++ js) ≡ leastFrom rank (leastFrom rank held is) js
   unfolding leastFrom
   append held [] js = refl
-  append held (i ∷ is) js = append (prefer (rankThere rank) held (number i)) is js
+  append held (i ∷ is) js = append (prefer (rankThere rank) held (at i)) is js
 
   -- ---- what does not matter
 
@@ -73,7 +73,7 @@ module _ (rank : ℕ → ℕ) where
   unfolding leastFrom
   unchanged held [] h = refl
   unchanged held (i ∷ is) h =
-      rw (kept (rankThere rank) held (number i) (h 0 (omega arith))) (unchanged held is (λ k inside. h (suc k) (omega arith)))
+      rw (kept (rankThere rank) held (at i) (h 0 (omega arith))) (unchanged held is (λ k inside. h (suc k) (omega arith)))
 
   -- ---- the first of least rank, by places of the row
 
@@ -85,12 +85,12 @@ module _ (rank : ℕ → ℕ) where
         → rank (getD is k 0) < rankThere rank held
         → ((j : ℕ) → j < k → rank (getD is k 0) < rank (getD is j 0))
         → ((j : ℕ) → j < length is → rank (getD is k 0) ≤ rank (getD is j 0))
-        → Least held is (number (getD is k 0))
+        → Least held is (at (getD is k 0))
 
   pub least : (held : Place) (is : List ℕ) → Least held is (leastFrom rank held is)
   unfolding leastFrom prefer
   least held [] = stays (λ k inside. absurd (omega arith))
-  least held (i ∷ is) = by-test (ltb (rank i) (rankThere rank held)) refl (least (number i) is) (least held is)
+  least held (i ∷ is) = by-test (ltb (rank i) (rankThere rank held)) refl (least (at i) is) (least held is)
     where
       all-from
           : (r : ℕ)
@@ -112,7 +112,7 @@ module _ (rank : ℕ → ℕ) where
       before-from r k here there zero inside = here
       before-from r k here there (suc j) inside = there j (omega arith)
 
-      taken : {x : Place} → rank i < rankThere rank held → Least (number i) is x → Least held (i ∷ is) x
+      taken : {x : Place} → rank i < rankThere rank held → Least (at i) is x → Least held (i ∷ is) x
       taken less (stays there) = first 0 (omega arith) less (λ j inside. absurd (omega arith)) (all-from (rank i) (omega arith) there)
       taken less (first k inside lesser before there) =
           first (suc k) (omega arith) (omega arith) (before-from (rank (getD is k 0)) k lesser before)
@@ -127,9 +127,9 @@ module _ (rank : ℕ → ℕ) where
       by-test
           : (t : Bool)
           → ltb (rank i) (rankThere rank held) ≡ t
-          → Least (number i) is (leastFrom rank (number i) is)
+          → Least (at i) is (leastFrom rank (at i) is)
           → Least held is (leastFrom rank held is)
-          → Least held (i ∷ is) (leastFrom rank (cond t (number i) held) is)
+          → Least held (i ∷ is) (leastFrom rank (cond t (at i) held) is)
       by-test true e there rest = taken (ltb-true (rank i) (rankThere rank held) e) there
       by-test false e there rest = left (ltb-false (rank i) (rankThere rank held) e) rest
 
@@ -151,7 +151,7 @@ module _ (rank : ℕ → ℕ) where
   abbrev pub Passed : ℕ → Place
   Passed i = leastFrom rank nowhere (numbersFrom 0 i)
 
-  pub one-more : (i : ℕ) → Passed (i + 1) ≡ prefer (rankThere rank) (Passed i) (number i)
+  pub one-more : (i : ℕ) → Passed (i + 1) ≡ prefer (rankThere rank) (Passed i) (at i)
   unfolding leastFrom numbersFrom
   one-more i =
       let e : 0 + i ≡ i = omega arith in
@@ -191,9 +191,9 @@ module _ (rank : ℕ → ℕ) where
       → leastFrom rank held is ≡ leastFrom rank held js
   unfolding leastFrom
   without last held end = refl
-  without last held (stays-in {i} w) = without last (prefer (rankThere rank) held (number i)) w
-  without last held (left-out {i} none w) = rw (kept (rankThere rank) held (number i) (worse held)) (without last held w)
+  without last held (stays-in {i} w) = without last (prefer (rankThere rank) held (at i)) w
+  without last held (left-out {i} none w) = rw (kept (rankThere rank) held (at i) (worse held)) (without last held w)
     where
       worse : (p : Place) → rankThere rank p ≤ rank i
       worse nowhere = omega arith
-      worse (number k) = let h = last k in omega arith
+      worse (at k) = let h = last k in omega arith

@@ -4,18 +4,18 @@ use mathlib.Core.Bool.{cond}
 use mathlib.Core.List.{List, [], _∷_}
 use lib.Dec.{ltb}
 
--- What has no rank comes last, whatever ranks there are, and is never found.
+-- What has no rank comes last, and is never found: every rank is less.
 abbrev pub unranked : ℕ
 unranked = 255
 
 -- Where the least is: at a number of the row, or nowhere, if no number has a rank.
 pub data Place : Type 0 where
   nowhere : Place
-  number : ℕ → Place
+  at : ℕ → Place
 
 abbrev pub rankThere : (ℕ → ℕ) → Place → ℕ
 rankThere rank nowhere = unranked
-rankThere rank (number i) = rank i
+rankThere rank (at i) = rank i
 
 -- The earlier of two, unless the later has strictly less rank.
 unfoldable pub prefer : {A : Type 0} → (A → ℕ) → A → A → A
@@ -24,7 +24,7 @@ prefer rank held other = cond (ltb (rank other) (rank held)) other held
 -- The first of least rank among the place held and the numbers of a row.
 unfoldable pub leastFrom : (ℕ → ℕ) → Place → List ℕ → Place
 leastFrom rank held [] = held
-leastFrom rank held (i ∷ is) = leastFrom rank (prefer (rankThere rank) held (number i)) is
+leastFrom rank held (i ∷ is) = leastFrom rank (prefer (rankThere rank) held (at i)) is
 
 -- The first number of least rank in a row.
 unfoldable pub firstLeast : (ℕ → ℕ) → List ℕ → Place

@@ -20,7 +20,7 @@ use Rattle.siglist.specs.declared.ListAnswer.the-variants as list
 use Rattle.sigrecord.specs.Record.{signatureOf, entryCount, labelOf}
 use Rattle.siglist.specs.List.{recordCount, listFits, recordStart, recordAt, entriesOf, recordGood, checkList}
 use Rattle.siglist.proofs.FirstBad.{Checked, does-not-fit, first-bad-named}
-use Rattle.found.specs.Least.{Place, nowhere, number}
+use Rattle.found.specs.Least.{Place, nowhere, at}
 use Rattle.found.specs.Rank.{foundOf}
 use Rattle.search.specs.Search.{fitAt, candidateAt, foundAt, searchRow, searchOver, searchAll}
 use Rattle.packet_answer.specs.Packet.{peerOf, judged, answerOf}
@@ -57,7 +57,7 @@ module _ (l : List ℕ) (lent : AllBytes l) where
   read-fits : (f : Features) (kinds bytes : List ℕ) (p : Place) → FoundFits (foundAt f kinds bytes l p)
   unfolding foundAt candidateAt
   read-fits f kinds bytes nowhere = tt
-  read-fits f kinds bytes (number i) =
+  read-fits f kinds bytes (at i) =
       found-one (labelOf (recordAt l i)) (fitAt f kinds bytes l i) (two-bytes (recordAt l i) 22 (record-bytes i))
       (record-small f kinds bytes i)
 

@@ -9,7 +9,7 @@ use Rattle.basis.proofs.Unique.{equation}
 use Rattle.quirks.specs.declared.QuirkSet.{QuirkSet}
 use Rattle.tcp.specs.declared.Mss.{Mss}
 use Rattle.tcp.specs.declared.Wscale.{Wscale}
-use Rattle.sigrecord.specs.declared.Signature.{Signature}
+use Rattle.sigrecord.specs.Record.{signatureOf}
 use Rattle.sigrecord.specs.Layout.{entriesGood}
 use Rattle.observable.specs.declared.TcpObservation.{TcpObservation}
 use Rattle.matching.specs.declared.Features.{Features}
@@ -53,5 +53,7 @@ quirks-fit-one o s = equation (quirksFit o s)
 pub features-of-one : (o : TcpObservation) → ExactlyOne Features (λ (r : Features). features-of'.Post tt (o, tt) r (o, tt))
 features-of-one o = equation (featuresOf o)
 
-pub tolerance-one : (f : Features) (s : Signature) → ExactlyOne SignatureFit (λ (r : SignatureFit). tolerance'.Post tt (f, (s, tt)) r (f, (s, tt)))
-tolerance-one f s = equation (toleranceOf f s)
+pub tolerance-one
+    : (κs : Lfts 1) (raw : RefT (List ℕ)) (f : Features)
+    → ExactlyOne SignatureFit (λ (r : SignatureFit). tolerance'.Post κs (f, (raw, tt)) r (f, (raw, tt)))
+tolerance-one κs raw f = equation (toleranceOf f (signatureOf (now raw)))

@@ -2,6 +2,7 @@
 ghost use mathlib.Core.Path.{_≡_};
 ghost use mathlib.Core.Bool.{_&&_};
 ghost use Rattle.sigrecord.specs.Layout.{entriesGood};
+ghost use Rattle.sigrecord.specs.Record.{signatureOf};
 ghost use Rattle.matching.specs.Gates.{olenMatches, mssMatches, scaleMatches, layoutMatches};
 ghost use Rattle.matching.specs.Tolerance.{maskedQuirks, quirksFit, judgeInRange, judge};
 ghost use Rattle.matching.specs.Fit.{featuresOf, passes, toleranceOf};
@@ -17,11 +18,13 @@ use quirks::QuirkSet;
 use sigrecord::OPTION_LENGTH;
 use sigrecord::PAYLOAD;
 use sigrecord::SigVersion;
-use sigrecord::Signature;
 use sigrecord::VERSION;
 use sigrecord::entry_count;
 use sigrecord::mss_of;
+use sigrecord::quirks_of;
 use sigrecord::scale_of;
+use sigrecord::ttl_of;
+use sigrecord::version_of;
 use tcp::IpVersion;
 use tcp::Mss;
 use tcp::PayloadSize;
@@ -269,15 +272,12 @@ fn in_range(found: Tolerated) -> SignatureFit
     })
 }
 
-// The TTL and the quirks of a signature whose gates hold.
-pub fn tolerance(observed: Features, signature: Signature) -> SignatureFit
-    ensures { λ r. ⌜ r ≡ toleranceOf observed signature ⌝ }
+// The TTL and the quirks of a record whose gates hold; nothing else of it is decoded.
+pub fn tolerance(observed: Features, raw: &[u8]) -> SignatureFit
+    ensures { λ r. ⌜ r ≡ toleranceOf observed (signatureOf (now (raw .entry))) ⌝ }
 {
     let seen = observed.quirks;
     let version = observed.version;
-    let declared = signature.quirks;
-    let declared_version = signature.version;
-    let ittl = signature.ittl;
-    let masked = mask_signature_quirks(declared, declared_version, version);
-    judgement(ttl_fit(observed.ttl, ittl), quirks_fit(seen, masked))
+    let masked = mask_signature_quirks(quirks_of(raw), version_of(raw), version);
+    judgement(ttl_fit(observed.ttl, ttl_of(raw)), quirks_fit(seen, masked))
 }

@@ -1,5 +1,5 @@
 -- The refusals of documents 01 ("Refusal numbers") and 02: the number of each, what each returns beside it, and the way back from both.
--- An answer's refusal is a `Verdict`, whose number is read off here: a number stands nowhere else.
+-- An answer's refusal is a `Verdict`, whose number is read off here: no other definition of an answer has one.
 use Prim.Native.Nat.{ℕ}
 use mathlib.Core.Bool.{cond}
 use mathlib.Core.List.{List, [], _∷_}

@@ -16,9 +16,9 @@ pub enum PacketRefusal {
     TcpTooShort,
     // With the flags byte.
     InvalidTcpFlags(u8),
-    // A data offset under 5, or past the TCP part (Wish 2); no entry of today gives it.
+    // A data offset under 5, or past the TCP part (Wish 2).
     DataOffset,
-    // A header of IPv6 that does not fit, or one too many (Wish 13); no entry of today gives it.
+    // A header of IPv6 that does not fit, or one too many (Wish 13).
     ExtensionHeaders,
 }
 
@@ -30,7 +30,7 @@ pub enum ListRefusal {
     BadRecord(usize),
 }
 
-// Every refusal of both documents. No entry of today gives those from `BadLine` on.
+// Every refusal of both documents, also those that only a wish of document 02 will give.
 pub enum Refusal {
     Packet(PacketRefusal),
     // An option string over 40 bytes.

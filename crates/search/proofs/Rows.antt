@@ -12,7 +12,7 @@ use Rattle.matching.specs.declared.SignatureFit.the-variants as fit
 use Rattle.matching.specs.Fit.{passes}
 use Rattle.found.specs.declared.Found.{Found}
 use Rattle.found.specs.declared.Found.the-variants as found
-use Rattle.found.specs.Least.{unranked, Place, nowhere, number, rankThere, prefer, leastFrom, firstLeast, numbersFrom}
+use Rattle.found.specs.Least.{unranked, Place, nowhere, at, rankThere, prefer, leastFrom, firstLeast, numbersFrom}
 use Rattle.found.specs.Rank.{foundOf, rankOf}
 use Rattle.found.proofs.Least as least
 use Rattle.siglist.specs.declared.Areas.{Areas}
@@ -53,11 +53,11 @@ module _ (f : Features) (kinds bytes l : List ℕ) where
   rank-there : (p : Place) → rankOf (foundAt f kinds bytes l p) ≡ rankThere (rankAt f kinds bytes l) p
   unfolding foundAt rankAt
   rank-there nowhere = refl
-  rank-there (number i) = refl
+  rank-there (at i) = refl
 
   there-last : (p : Place) → rankThere (rankAt f kinds bytes l) p ≤ unranked
   there-last nowhere = omega arith
-  there-last (number i) = rank-last i
+  there-last (at i) = rank-last i
 
   -- ---- records that do not fit
 
@@ -121,7 +121,7 @@ module _ (f : Features) (kinds bytes l : List ℕ) where
       let rank = rankAt f kinds bytes l in
       sym
       (ap (foundAt f kinds bytes l) (least.one-more rank i)
-      ∙ least.read (rankThere rank) (least.Passed rank i) (number i) rankOf (foundAt f kinds bytes l) rank-there)
+      ∙ least.read (rankThere rank) (least.Passed rank i) (at i) rankOf (foundAt f kinds bytes l) rank-there)
 
   -- One of rank 0 ends the search.
   ended : (i n : ℕ) → i ≤ n → rankOf (Passed i) ≡ 0 → Passed i ≡ Passed n

@@ -12,7 +12,7 @@ use Rattle.matching.specs.declared.SignatureFit.the-variants as fit
 use Rattle.matching.specs.Fit.{featuresOf, fitOf}
 use Rattle.found.specs.declared.Found.{Found}
 use Rattle.found.specs.declared.Found.the-variants as found
-use Rattle.found.specs.Least.{Place, nowhere, number, firstLeast, numbersFrom}
+use Rattle.found.specs.Least.{Place, nowhere, at, firstLeast, numbersFrom}
 use Rattle.found.specs.Rank.{foundOf, rankOf}
 use Rattle.refusals.specs.declared.Refusal.the-variants as refusal
 use Rattle.refusals.specs.Refusals.{Verdict, listRefused, numberOf}
@@ -40,7 +40,7 @@ rankAt f kinds bytes l i = rankOf (candidateAt f kinds bytes l i)
 -- What is read at a place: label, fitness and reason of its record.
 unfoldable pub foundAt : Features → List ℕ → List ℕ → List ℕ → Place → Found
 foundAt f kinds bytes l nowhere = found.None
-foundAt f kinds bytes l (number i) = candidateAt f kinds bytes l i
+foundAt f kinds bytes l (at i) = candidateAt f kinds bytes l i
 
 -- The search of a row of record numbers: what is read at the first number of least rank.
 unfoldable pub searchRow : Features → List ℕ → List ℕ → List ℕ → List ℕ → Found

@@ -27,7 +27,6 @@ use sigrecord::entry_count;
 use sigrecord::first_entry;
 use sigrecord::label_of;
 use sigrecord::scalars_well_formed;
-use sigrecord::signature_of;
 
 // Whether so many entries from one on lie within the layout area.
 pub(crate) fn entries_lie(areas: Areas, first: usize, count: usize) -> bool
@@ -79,7 +78,7 @@ pub(crate) fn candidate_fit(
     requires { ⌜ AreasFit (now list) areas ⌝ }
     ensures { λ r. ⌜ r ≡ candidateFit observed (now (kinds .entry)) (now (bytes .entry)) (now (list .entry)) (now (raw .entry)) ⌝ }
 {
-    let fit = tolerance(observed, signature_of(raw));
+    let fit = tolerance(observed, raw);
     if is_none(fit) {
         return SignatureFit::None;
     }

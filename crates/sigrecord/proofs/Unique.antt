@@ -9,11 +9,17 @@ use Rattle.basis.specs.Unique.{ExactlyOne}
 use Rattle.basis.proofs.Unique.{equation}
 use Rattle.tcp.specs.declared.Mss.{Mss}
 use Rattle.tcp.specs.declared.Wscale.{Wscale}
+use Rattle.quirks.specs.declared.QuirkSet.{QuirkSet}
+use Rattle.ttl.specs.declared.Ttl.{Ttl}
 use Rattle.sigrecord.specs.declared.Signature.{Signature}
+use Rattle.sigrecord.specs.declared.SigVersion.{SigVersion}
 use Rattle.sigrecord.specs.declared.WindowSize.{WindowSize}
 use Rattle.sigrecord.specs.Layout.{entryGood, entriesGood}
 use Rattle.sigrecord.specs.Record.{signatureOf, firstEntry, entryCount, labelOf}
 use Rattle.sigrecord.specs.WellFormed.{scalarsWellFormed}
+use Rattle.sigrecord.proofs.version_of.Reads as version-of'
+use Rattle.sigrecord.proofs.ttl_of.Reads as ttl-of'
+use Rattle.sigrecord.proofs.quirks_of.Reads as quirks-of'
 use Rattle.sigrecord.proofs.mss_of.Reads as mss-of'
 use Rattle.sigrecord.proofs.scale_of.Reads as scale-of'
 use Rattle.sigrecord.proofs.window_of.Reads as window-of'
@@ -26,6 +32,15 @@ use Rattle.sigrecord.proofs.entry_good.Reads as entry-good'
 use Rattle.sigrecord.proofs.entries_good.Reads as entries-good'
 
 module _ (κs : Lfts 1) (raw : RefT (List ℕ)) where
+  pub version-of-one : ExactlyOne SigVersion (λ (r : SigVersion). version-of'.Post κs (raw, tt) r (raw, tt))
+  version-of-one = equation (signatureOf (now raw) .version)
+
+  pub ttl-of-one : ExactlyOne Ttl (λ (r : Ttl). ttl-of'.Post κs (raw, tt) r (raw, tt))
+  ttl-of-one = equation (signatureOf (now raw) .ittl)
+
+  pub quirks-of-one : ExactlyOne QuirkSet (λ (r : QuirkSet). quirks-of'.Post κs (raw, tt) r (raw, tt))
+  quirks-of-one = equation (signatureOf (now raw) .quirks)
+
   pub mss-of-one : ExactlyOne Mss (λ (r : Mss). mss-of'.Post κs (raw, tt) r (raw, tt))
   mss-of-one = equation (signatureOf (now raw) .mss)
 

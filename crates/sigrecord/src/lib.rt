@@ -99,7 +99,7 @@ pub struct Signature {
 
 // ---- what the bytes of a record mean, on every byte string
 
-fn version_of(raw: &[u8]) -> SigVersion
+pub fn version_of(raw: &[u8]) -> SigVersion
     ensures { λ r. ⌜ r ≡ signatureOf (now (raw .entry)) .version ⌝ }
 {
     let code = byte_at(raw, VERSION);
@@ -112,7 +112,7 @@ fn version_of(raw: &[u8]) -> SigVersion
     SigVersion::Any
 }
 
-fn ttl_of(raw: &[u8]) -> Ttl
+pub fn ttl_of(raw: &[u8]) -> Ttl
     ensures { λ r. ⌜ r ≡ signatureOf (now (raw .entry)) .ittl ⌝ }
 {
     let form = byte_at(raw, TTL_FORM);
@@ -180,7 +180,7 @@ fn payload_of(raw: &[u8]) -> SigPayload
     SigPayload::Any
 }
 
-pub(crate) fn quirks_of(raw: &[u8]) -> QuirkSet
+pub fn quirks_of(raw: &[u8]) -> QuirkSet
     ensures { λ r. ⌜ r ≡ signatureOf (now (raw .entry)) .quirks ⌝ }
 {
     QuirkSet::from_bits(be32(be16_at(raw, QUIRKS), be16_at(raw, QUIRKS_LOW)))

@@ -7,23 +7,9 @@ use borrow.Author.Needs.{needs}
 use Rattle.search.proofs.finding.candidate_fit.Statement.{statement}
 use Rattle.search.proofs.finding.candidate_fit.Tie as tie
 
-signature-of-requires : tie.Need-signature-of-requires
-signature-of-requires c κs = search needs
-
-tolerance-requires : tie.Need-tolerance-requires
-tolerance-requires c κs = search needs
-
-is-none-requires : tie.Need-is-none-requires
-is-none-requires c κs = search needs
-
 returns : tie.Need-returns
 returns c =
-    sym
-    (not-tolerated _ _ _ _ _
-    (rw (← c .before .before .before .signature-of .ensures, ← c .before .before .tolerance .ensures) (sym (c .before .is-none .ensures) ∙ c .if1 .taken)))
-
-record-holds-requires : tie.Need-record-holds-requires
-record-holds-requires c κs = search needs
+    sym (not-tolerated _ _ _ _ _ (rw (← c .before .before .tolerance .ensures) (sym (c .before .is-none .ensures) ∙ c .if1 .taken)))
 
 returns-2 : tie.Need-returns-2
 unfolding candidateFit
@@ -33,21 +19,9 @@ returns-3 : tie.Need-returns-3
 unfolding candidateFit
 returns-3 c =
     let held = c .before .record-holds in
-    rw (
-      ← held .ensures,
-      not-false (held .result) (c .if2 .left),
-      ← c .before .before .before .before .before .signature-of .ensures,
-      ← c .before .before .before .before .tolerance .ensures,
-    )
+    rw (← held .ensures, not-false (held .result) (c .if2 .left), ← c .before .before .before .before .tolerance .ensures)
 
 pub candidate-fit-spec : {M : Type 1} → statement M
 candidate-fit-spec =
     tie.close
-    (tie.spec
-    signature-of-requires
-    tolerance-requires
-    is-none-requires
-    returns
-    record-holds-requires
-    returns-2
-    returns-3)
+    (tie.spec (λ c κs. search needs) (λ c κs. search needs) returns (λ c κs. search needs) returns-2 returns-3)
