@@ -27,34 +27,21 @@ returns-2 c =
       not-true (fit .result) (c .if2 .taken),
     )
 
-cast-result : tie.Need-cast-result
-cast-result c = search needs
-
-cast-result-2 : tie.Need-cast-result-2
-cast-result-2 c = search needs
-
-mul-result : tie.Need-mul-result
-mul-result c = search needs
-
-add-result : tie.Need-add-result
-add-result c = search needs
+entries-fit-requires : tie.Need-entries-fit-requires
+entries-fit-requires c κs = search needs
 
 returns-3 : tie.Need-returns-3
 returns-3 c =
-    let fit = c .before .before .before .records-fit in
-    let read = c .before .before .before .before .areas-of in
-    rw (fits-by _ (read .result) (read .ensures) (omega arith), ← fit .ensures, not-false (fit .result) (c .before .before .if2 .left))
+    let fit = c .before .before .records-fit in
+    let read = c .before .before .before .areas-of in
+    rw (
+      fits-by _ (read .result) (read .ensures) (omega arith),
+      ← fit .ensures,
+      not-false (fit .result) (c .before .if2 .left),
+      ← c .entries-fit .ensures,
+    )
 
 pub list-fits-spec : {M : Type 1} → statement M
 list-fits-spec =
     tie.close
-    (tie.spec
-    returns
-    areas-of-requires
-    records-fit-requires
-    returns-2
-    cast-result
-    cast-result-2
-    mul-result
-    add-result
-    returns-3)
+    (tie.spec returns areas-of-requires records-fit-requires returns-2 entries-fit-requires returns-3)
