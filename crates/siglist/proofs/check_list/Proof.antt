@@ -49,10 +49,11 @@ returns-2 c =
     let listed = c .before .before .before .before .before .before .before .list-fits in
     let at = c .before .before .before .loop in
     let good = c .before .record-good in
+    let count = c .before .before .before .before .before .areas-of .result .records in
     rw (sym (listed .ensures) ∙ not-false (listed .result) (c .before .before .before .before .before .before .if1 .left))
     (sym
     (sym (at .inv .4)
-    ∙ record-bad-turn l (at .i) (c .before .before .before .before .before .areas-of .result .records) (c .before .before .loop-test .taken)
+    ∙ record-bad-turn l (at .i) count (c .before .before .loop-test .taken)
     (sym (good .ensures) ∙ not-true (good .result) (c .if2 .taken))))
 
 add-i : tie.Need-add-i Inv-loop μ-loop
@@ -65,12 +66,13 @@ loop-again : tie.Need-loop-again Inv-loop μ-loop
 loop-again c =
     let l = c .before .before .before .before .before .before .before .before .before .args .list .now in
     let at = c .before .before .before .loop in
+    let count = c .before .before .before .before .before .areas-of .result .records in
     let good = c .before .record-good in (
       search needs,
       at .inv .1,
       at .inv .2,
       at .inv .3,
-      record-good-turn l (at .i) (c .before .before .before .before .before .areas-of .result .records) (c .before .before .loop-test .taken)
+      record-good-turn l (at .i) count (c .before .before .loop-test .taken)
           (sym (good .ensures) ∙ not-false (good .result) (c .if2 .left))
           ∙ at .inv .4,
     )

@@ -19,7 +19,8 @@ areas-of-requires c κs = search needs
 returns-2 : tie.Need-returns-2
 unfolding headerOf
 returns-2 c =
-    rw (sym (c .before .before .list-fits .ensures) ∙ not-false (c .before .before .list-fits .result) (c .before .if1 .left), c .areas-of .ensures)
+    let fits = c .before .before .list-fits in
+    rw (sym (fits .ensures) ∙ not-false (fits .result) (c .before .if1 .left), c .areas-of .ensures)
 
 pub read-header-spec : {M : Type 1} → statement M
 read-header-spec = tie.close (tie.spec list-fits-requires returns areas-of-requires returns-2)

@@ -73,7 +73,8 @@ returns-3 : tie.Need-returns-3
 returns-3 c =
     let fit = c .before .before .before .records-fit in
     let a = c .before .before .before .before .before .before .before .args in
-    sym (there (a .list .now) (a .areas) (a .i) (omega arith) (sym (fit .ensures) ∙ not-false (fit .result) (c .before .before .if2 .left)))
+    let fits = sym (fit .ensures) ∙ not-false (fit .result) (c .before .before .if2 .left) in
+    sym (there (a .list .now) (a .areas) (a .i) (omega arith) fits)
 
 pub record-at-spec : {M : Type 1} → statement M
 record-at-spec =

@@ -18,9 +18,10 @@ is-none-requires c κs = search needs
 
 returns : tie.Need-returns
 returns c =
+    let signed = c .before .before .before .signature-of .ensures in
+    let tolerated = c .before .before .tolerance .ensures in
     sym
-    (not-tolerated _ _ _ _ _
-    (rw (← c .before .before .before .signature-of .ensures, ← c .before .before .tolerance .ensures) (sym (c .before .is-none .ensures) ∙ c .if1 .taken)))
+    (not-tolerated _ _ _ _ _ (rw (← signed, ← tolerated) (sym (c .before .is-none .ensures) ∙ c .if1 .taken)))
 
 record-holds-requires : tie.Need-record-holds-requires
 record-holds-requires c κs = search needs

@@ -71,10 +71,12 @@ olayout-matches-requires c κs = search needs
 returns-2 : tie.Need-returns-2
 returns-2 c =
     let matched = c .before .olayout-matches in
+    let count = c .before .before .before .before .before .before .entry-count .ensures in
+    let first = c .before .before .before .before .before .before .before .first-entry .ensures in
     let fits = c .before .before .before .before .before .before .before .before .before .before .before .before .pre in
     sym
     (layout-fails _ _ _ _ _ _ fits
-    (rw (← fits .entriesAt, ← c .before .before .before .before .before .before .entry-count .ensures, ← c .before .before .before .before .before .before .before .first-entry .ensures)
+    (rw (← fits .entriesAt, ← count, ← first)
     (sym (matched .ensures) ∙ not-true (matched .result) (c .if2 .taken))))
 
 scalars-well-formed-requires : tie.Need-scalars-well-formed-requires

@@ -42,7 +42,8 @@ unfolding candidateAt
 returns-2 c =
     let a = c .before .before .before .before .before .before .before .before .before .before .args in
     let pre = c .before .before .before .before .before .before .before .before .before .before .pre in
-    let same = c .before .before .before .before .before .before .record-at .ensures ∙ record-of-list (a .list .now) (a .areas) (a .i) (pre .0) (pre .1) in
+    let taken = c .before .before .before .before .before .before .record-at .ensures in
+    let same = taken ∙ record-of-list (a .list .now) (a .areas) (a .i) (pre .0) (pre .1) in
     rw (
       gates-pass (a .observed) (a .kinds .now) (a .bytes .now) (a .list .now) (a .areas) (a .i) (pre .0) (pre .1) (pre .2),
       ← same,
