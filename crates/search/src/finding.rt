@@ -133,7 +133,8 @@ pub(crate) fn search_records(
     areas: Areas,
 ) -> Found
     requires { ⌜ AreasFit (now list) areas ⌝ }
-    ensures { λ r. ⌜ r ≡ searchRow observed (now (kinds .entry)) (now (bytes .entry)) (now (list .entry)) (numbersFrom 0 (areas .records)) ⌝ }
+    ensures { λ r. ⌜ r ≡ searchRow observed (now (kinds .entry)) (now (bytes .entry)) (now (list .entry))
+        (numbersFrom 0 (areas .records)) ⌝ }
 {
     let count = areas.records as usize;
     let mut held = Found::None;

@@ -15,7 +15,8 @@ use Rattle.siglist.specs.declared.Header.{Header}
 use Rattle.siglist.specs.declared.Header.the-variants as header
 use Rattle.siglist.specs.declared.ListAnswer.the-variants as answer
 use Rattle.refusals.specs.declared.ListRefusal.the-variants as refusal
-use Rattle.siglist.specs.List.{recordCount, recordsOffset, layoutCount, layoutOffset, areaFits, listFits, areasOf, headerOf, AreasFit, recordStart, recordAt, recordOf, recordGood, recordsFrom}
+use Rattle.siglist.specs.List.{recordCount, recordsOffset, layoutCount, layoutOffset, areaFits, listFits, areasOf, headerOf}
+use Rattle.siglist.specs.List.{AreasFit, recordStart, recordAt, recordOf, recordGood, recordsFrom}
 
 -- A list that fits has a whole header.
 pub header-fits : (l : List ℕ) → listFits l ≡ true → 8 ≤ length l

@@ -27,9 +27,6 @@ returns-4 c =
     let a = c .before .before .before .before .before .before .before .args in
     rw (lt-leb (2 * a .declared) (length (a .entries .now)) (omega arith)) (search cases)
 
-entries-match-requires : tie.Need-entries-match-requires
-entries-match-requires c κs = search needs
-
 returns-5 : tie.Need-returns-5
 unfolding layoutMatches
 returns-5 c =
@@ -38,4 +35,4 @@ returns-5 c =
 
 pub olayout-matches-spec : {M : Type 1} → statement M
 olayout-matches-spec =
-    tie.close (tie.spec returns returns-2 returns-3 returns-4 entries-match-requires returns-5)
+    tie.close (tie.spec returns returns-2 returns-3 returns-4 (λ c κs. search needs) returns-5)

@@ -9,4 +9,5 @@ unfolding olenMatches
 returns c = search cases
 
 pub olen-matches-spec : {M : Type 1} → statement M
-olen-matches-spec = tie.close (tie.spec returns)
+olen-matches-spec =
+    tie.close (tie.spec returns)

@@ -8,12 +8,6 @@ use borrow.Author.Needs.{needs}
 use Rattle.matching.proofs.passes_gates.Statement.{statement}
 use Rattle.matching.proofs.passes_gates.Tie as tie
 
-entry-count-requires : tie.Need-entry-count-requires
-entry-count-requires c κs = search needs
-
-cast-if1 : tie.Need-cast-if1
-cast-if1 c = search needs
-
 returns : tie.Need-returns
 unfolding passes
 returns c =
@@ -22,23 +16,11 @@ returns c =
     (ne-eqb (at-start .args .observed .count) (entryCount (at-start .args .raw .now))
     (λ e. c .if1 .taken (e ∙ sym (c .before .before .entry-count .ensures))))
 
-scale-of-requires : tie.Need-scale-of-requires
-scale-of-requires c κs = search needs
-
-wscale-matches-requires : tie.Need-wscale-matches-requires
-wscale-matches-requires c κs = search needs
-
 returns-2 : tie.Need-returns-2
 unfolding passes scalarGates
 returns-2 c =
     let fails = not-true (c .before .wscale-matches .result) (c .if2 .taken) in
     simp (← c .before .before .scale-of .ensures, ← c .before .wscale-matches .ensures, fails, and-false)
-
-mss-of-requires : tie.Need-mss-of-requires
-mss-of-requires c κs = search needs
-
-mss-matches-requires : tie.Need-mss-matches-requires
-mss-matches-requires c κs = search needs
 
 returns-3 : tie.Need-returns-3
 unfolding passes scalarGates
@@ -46,23 +28,11 @@ returns-3 c =
     let fails = not-true (c .before .mss-matches .result) (c .if3 .taken) in
     simp (← c .before .before .mss-of .ensures, ← c .before .mss-matches .ensures, fails, and-false)
 
-byte-at-requires : tie.Need-byte-at-requires
-byte-at-requires c κs = search needs
-
-olen-matches-requires : tie.Need-olen-matches-requires
-olen-matches-requires c κs = search needs
-
 returns-4 : tie.Need-returns-4
 unfolding passes scalarGates signatureOf
 returns-4 c =
     let fails = not-true (c .before .olen-matches .result) (c .if4 .taken) in
     simp (← c .before .before .byte-at .ensures, ← c .before .olen-matches .ensures, fails, and-false)
-
-byte-at-requires-2 : tie.Need-byte-at-requires-2
-byte-at-requires-2 c κs = search needs
-
-payload-size-matches-requires : tie.Need-payload-size-matches-requires
-payload-size-matches-requires c κs = search needs
 
 returns-5 : tie.Need-returns-5
 unfolding passes scalarGates signatureOf
@@ -70,20 +40,11 @@ returns-5 c =
     let fails = not-true (c .before .payload-size-matches .result) (c .if5 .taken) in
     simp (← c .before .before .byte-at2 .ensures, ← c .before .payload-size-matches .ensures, fails, and-false)
 
-byte-at-requires-3 : tie.Need-byte-at-requires-3
-byte-at-requires-3 c κs = search needs
-
-ip-version-matches-requires : tie.Need-ip-version-matches-requires
-ip-version-matches-requires c κs = search needs
-
 returns-6 : tie.Need-returns-6
 unfolding passes scalarGates signatureOf
 returns-6 c =
     let fails = not-true (c .before .ip-version-matches .result) (c .if6 .taken) in
     simp (← c .before .before .byte-at3 .ensures, ← c .before .ip-version-matches .ensures, fails, and-false)
-
-window-gate-requires : tie.Need-window-gate-requires
-window-gate-requires c κs = search needs
 
 returns-7 : tie.Need-returns-7
 unfolding passes scalarGates signatureOf
@@ -120,24 +81,7 @@ returns-7 c =
 pub passes-gates-spec : {M : Type 1} → statement M
 passes-gates-spec =
     tie.close
-    (tie.spec
-    entry-count-requires
-    cast-if1
-    returns
-    scale-of-requires
-    wscale-matches-requires
-    returns-2
-    mss-of-requires
-    mss-matches-requires
-    returns-3
-    byte-at-requires
-    olen-matches-requires
-    returns-4
-    byte-at-requires-2
-    payload-size-matches-requires
-    returns-5
-    byte-at-requires-3
-    ip-version-matches-requires
-    returns-6
-    window-gate-requires
-    returns-7)
+    (tie.spec (λ c κs. search needs) (λ c. search needs) returns (λ c κs. search needs) (λ c κs. search needs) returns-2
+    (λ c κs. search needs) (λ c κs. search needs) returns-3 (λ c κs. search needs) (λ c κs. search needs) returns-4
+    (λ c κs. search needs) (λ c κs. search needs) returns-5 (λ c κs. search needs) (λ c κs. search needs) returns-6
+    (λ c κs. search needs) returns-7)

@@ -4,18 +4,6 @@ use borrow.Author.Needs.{needs}
 use Rattle.matching.proofs.wscale_matches.Statement.{statement}
 use Rattle.matching.proofs.wscale_matches.Tie as tie
 
-enum-told : tie.Need-enum-told
-enum-told c = search needs
-
-enum-known-signature : tie.Need-enum-known-signature
-enum-known-signature c = search needs
-
-enum-told-2 : tie.Need-enum-told-2
-enum-told-2 c = search needs
-
-enum-known-observed : tie.Need-enum-known-observed
-enum-known-observed c = search needs
-
 returns : tie.Need-returns
 unfolding scaleMatches
 returns c = simp (c .enum-told .given .1)
@@ -37,11 +25,5 @@ returns-3 c =
 pub wscale-matches-spec : {M : Type 1} → statement M
 wscale-matches-spec =
     tie.close
-    (tie.spec
-    enum-told
-    enum-known-signature
-    enum-told-2
-    enum-known-observed
-    returns
-    returns-2
+    (tie.spec (λ c. search needs) (λ c. search needs) (λ c. search needs) (λ c. search needs) returns returns-2
     returns-3)

@@ -11,18 +11,6 @@ returns : tie.Need-returns
 unfolding searchList
 returns c = search cases
 
-check-list-requires : tie.Need-check-list-requires
-check-list-requires c κs = search needs
-
-enum-known-refusal : tie.Need-enum-known-refusal
-enum-known-refusal c = search needs
-
-enum-told : tie.Need-enum-told
-enum-told c = search needs
-
-search-checked-requires : tie.Need-search-checked-requires
-search-checked-requires c κs = search needs
-
 returns-2 : tie.Need-returns-2
 unfolding searchList
 returns-2 c =
@@ -45,11 +33,5 @@ returns-3 c =
 pub search-spec : {M : Type 1} → statement M
 search-spec =
     tie.close
-    (tie.spec
-    returns
-    check-list-requires
-    enum-known-refusal
-    enum-told
-    search-checked-requires
-    returns-2
+    (tie.spec returns (λ c κs. search needs) (λ c. search needs) (λ c. search needs) (λ c κs. search needs) returns-2
     returns-3)

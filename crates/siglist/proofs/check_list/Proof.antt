@@ -17,18 +17,9 @@ Inv-loop list areas count i₀ i =
 abbrev μ-loop : tie.MeasureT-loop
 μ-loop list areas count i₀ i = count - i
 
-list-fits-requires : tie.Need-list-fits-requires Inv-loop μ-loop
-list-fits-requires c κs = search needs
-
 returns : tie.Need-returns Inv-loop μ-loop
 unfolding checkList
 returns c = rw (sym (c .before .list-fits .ensures) ∙ not-true (c .before .list-fits .result) (c .if1 .taken))
-
-areas-of-requires : tie.Need-areas-of-requires Inv-loop μ-loop
-areas-of-requires c κs = search needs
-
-cast-count : tie.Need-cast-count Inv-loop μ-loop
-cast-count c = search needs
 
 loop-holds : tie.Need-loop-holds Inv-loop μ-loop
 loop-holds c =
@@ -39,9 +30,6 @@ loop-holds c =
     areas-fit l (read .result) (sym (listed .ensures) ∙ not-false (listed .result) (c .before .before .if1 .left)) (read .ensures) in
     (search needs, fit .records, fit, refl, rw (sub-zero, fit .records))
 
-record-good-requires : tie.Need-record-good-requires Inv-loop μ-loop
-record-good-requires c κs = search needs
-
 returns-2 : tie.Need-returns-2 Inv-loop μ-loop
 unfolding checkList
 returns-2 c =
@@ -49,28 +37,24 @@ returns-2 c =
     let listed = c .before .before .before .before .before .before .before .list-fits in
     let at = c .before .before .before .loop in
     let good = c .before .record-good in
+    let count = c .before .before .before .before .before .areas-of .result .records in
     rw (sym (listed .ensures) ∙ not-false (listed .result) (c .before .before .before .before .before .before .if1 .left))
     (sym
     (sym (at .inv .4)
-    ∙ record-bad-turn l (at .i) (c .before .before .before .before .before .areas-of .result .records) (c .before .before .loop-test .taken)
+    ∙ record-bad-turn l (at .i) count (c .before .before .loop-test .taken)
     (sym (good .ensures) ∙ not-true (good .result) (c .if2 .taken))))
-
-add-i : tie.Need-add-i Inv-loop μ-loop
-add-i c = search needs
-
-loop-less : tie.Need-loop-less Inv-loop μ-loop
-loop-less c = search needs
 
 loop-again : tie.Need-loop-again Inv-loop μ-loop
 loop-again c =
     let l = c .before .before .before .before .before .before .before .before .before .args .list .now in
     let at = c .before .before .before .loop in
+    let count = c .before .before .before .before .before .areas-of .result .records in
     let good = c .before .record-good in (
       search needs,
       at .inv .1,
       at .inv .2,
       at .inv .3,
-      record-good-turn l (at .i) (c .before .before .before .before .before .areas-of .result .records) (c .before .before .loop-test .taken)
+      record-good-turn l (at .i) count (c .before .before .loop-test .taken)
           (sym (good .ensures) ∙ not-false (good .result) (c .if2 .left))
           ∙ at .inv .4,
     )
@@ -87,17 +71,5 @@ returns-3 c =
 pub check-list-spec : {M : Type 1} → statement M
 check-list-spec =
     tie.close
-    (tie.spec
-    Inv-loop
-    μ-loop
-    list-fits-requires
-    returns
-    areas-of-requires
-    cast-count
-    loop-holds
-    record-good-requires
-    returns-2
-    add-i
-    loop-less
-    loop-again
-    returns-3)
+    (tie.spec Inv-loop μ-loop (λ c κs. search needs) returns (λ c κs. search needs) (λ c. search needs) loop-holds
+    (λ c κs. search needs) returns-2 (λ c. search needs) (λ c. search needs) loop-again returns-3)

@@ -13,9 +13,6 @@ returns : tie.Need-returns
 unfolding layoutLies
 returns c = search cases
 
-cast-entries : tie.Need-cast-entries
-cast-entries c = search needs
-
 returns-2 : tie.Need-returns-2
 unfolding layoutLies
 returns-2 c =
@@ -29,33 +26,6 @@ returns-3 c =
     let a = c .before .before .before .before .before .args in
     let pre = c .before .before .before .before .before .pre in
     rw (le-leb (a .count) 40 (omega arith), lt-leb (a .first + a .count) (layoutCount (a .list .now)) (omega arith))
-
-cast-start : tie.Need-cast-start
-cast-start c = search needs
-
-mul-start : tie.Need-mul-start
-mul-start c = search needs
-
-add-start : tie.Need-add-start
-add-start c = search needs
-
-mul-end : tie.Need-mul-end
-mul-end c = search needs
-
-add-end : tie.Need-add-end
-add-end c = search needs
-
-sub-entries-good : tie.Need-sub-entries-good
-sub-entries-good c = search needs
-
-part-entries-good-start : tie.Need-part-entries-good-start
-part-entries-good-start c = search needs
-
-part-entries-good-end : tie.Need-part-entries-good-end
-part-entries-good-end c = search needs
-
-entries-good-requires : tie.Need-entries-good-requires
-entries-good-requires c κs = search needs
 
 returns-4 : tie.Need-returns-4
 unfolding layoutLies
@@ -75,18 +45,6 @@ returns-4 c =
 pub layout-good-spec : {M : Type 1} → statement M
 layout-good-spec =
     tie.close
-    (tie.spec
-    returns
-    cast-entries
-    returns-2
-    returns-3
-    cast-start
-    mul-start
-    add-start
-    mul-end
-    add-end
-    sub-entries-good
-    part-entries-good-start
-    part-entries-good-end
-    entries-good-requires
-    returns-4)
+    (tie.spec returns (λ c. search needs) returns-2 returns-3 (λ c. search needs) (λ c. search needs)
+    (λ c. search needs) (λ c. search needs) (λ c. search needs) (λ c. search needs) (λ c. search needs)
+    (λ c. search needs) (λ c κs. search needs) returns-4)

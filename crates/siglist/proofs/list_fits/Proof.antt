@@ -12,12 +12,6 @@ returns : tie.Need-returns
 unfolding listFits
 returns c = search cases
 
-areas-of-requires : tie.Need-areas-of-requires
-areas-of-requires c κs = search needs
-
-records-fit-requires : tie.Need-records-fit-requires
-records-fit-requires c κs = search needs
-
 returns-2 : tie.Need-returns-2
 returns-2 c =
     let fit = c .before .records-fit in
@@ -27,34 +21,18 @@ returns-2 c =
       not-true (fit .result) (c .if2 .taken),
     )
 
-cast-result : tie.Need-cast-result
-cast-result c = search needs
-
-cast-result-2 : tie.Need-cast-result-2
-cast-result-2 c = search needs
-
-mul-result : tie.Need-mul-result
-mul-result c = search needs
-
-add-result : tie.Need-add-result
-add-result c = search needs
-
 returns-3 : tie.Need-returns-3
 returns-3 c =
-    let fit = c .before .before .before .records-fit in
-    let read = c .before .before .before .before .areas-of in
-    rw (fits-by _ (read .result) (read .ensures) (omega arith), ← fit .ensures, not-false (fit .result) (c .before .before .if2 .left))
+    let fit = c .before .before .records-fit in
+    let read = c .before .before .before .areas-of in
+    rw (
+      fits-by _ (read .result) (read .ensures) (omega arith),
+      ← fit .ensures,
+      not-false (fit .result) (c .before .if2 .left),
+      ← c .entries-fit .ensures,
+    )
 
 pub list-fits-spec : {M : Type 1} → statement M
 list-fits-spec =
     tie.close
-    (tie.spec
-    returns
-    areas-of-requires
-    records-fit-requires
-    returns-2
-    cast-result
-    cast-result-2
-    mul-result
-    add-result
-    returns-3)
+    (tie.spec returns (λ c κs. search needs) (λ c κs. search needs) returns-2 (λ c κs. search needs) returns-3)

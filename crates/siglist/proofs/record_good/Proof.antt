@@ -8,12 +8,6 @@ use borrow.Author.Needs.{needs}
 use Rattle.siglist.proofs.record_good.Statement.{statement}
 use Rattle.siglist.proofs.record_good.Tie as tie
 
-record-at-requires : tie.Need-record-at-requires
-record-at-requires c κs = search needs
-
-scalars-well-formed-requires : tie.Need-scalars-well-formed-requires
-scalars-well-formed-requires c κs = search needs
-
 returns : tie.Need-returns
 unfolding recordGood
 returns c =
@@ -28,21 +22,6 @@ returns c =
       ← c .before .scalars-well-formed .ensures,
       not-true (c .before .scalars-well-formed .result) (c .if1 .taken),
     )
-
-first-entry-requires : tie.Need-first-entry-requires
-first-entry-requires c κs = search needs
-
-cast-layout-good : tie.Need-cast-layout-good
-cast-layout-good c = search needs
-
-entry-count-requires : tie.Need-entry-count-requires
-entry-count-requires c κs = search needs
-
-cast-layout-good-2 : tie.Need-cast-layout-good-2
-cast-layout-good-2 c = search needs
-
-layout-good-requires : tie.Need-layout-good-requires
-layout-good-requires c κs = search needs
 
 returns-2 : tie.Need-returns-2
 unfolding recordGood
@@ -66,13 +45,5 @@ returns-2 c =
 pub record-good-spec : {M : Type 1} → statement M
 record-good-spec =
     tie.close
-    (tie.spec
-    record-at-requires
-    scalars-well-formed-requires
-    returns
-    first-entry-requires
-    cast-layout-good
-    entry-count-requires
-    cast-layout-good-2
-    layout-good-requires
-    returns-2)
+    (tie.spec (λ c κs. search needs) (λ c κs. search needs) returns (λ c κs. search needs) (λ c. search needs)
+    (λ c κs. search needs) (λ c. search needs) (λ c κs. search needs) returns-2)

@@ -20,32 +20,11 @@ abbrev μ-loop : tie.MeasureT-loop
 loop-holds : tie.Need-loop-holds Inv-loop μ-loop
 loop-holds c = (search needs, none-bad _)
 
-mul-at : tie.Need-mul-at Inv-loop μ-loop
-mul-at c = search needs
-
-shared-slice-read-entry-good : tie.Need-shared-slice-read-entry-good Inv-loop μ-loop
-shared-slice-read-entry-good c = search needs
-
-add-entry-good : tie.Need-add-entry-good Inv-loop μ-loop
-add-entry-good c = search needs
-
-shared-slice-read-entry-good-2 : tie.Need-shared-slice-read-entry-good-2 Inv-loop μ-loop
-shared-slice-read-entry-good-2 c = search needs
-
-entry-good-requires : tie.Need-entry-good-requires Inv-loop μ-loop
-entry-good-requires c κs = search needs
-
 returns : tie.Need-returns Inv-loop μ-loop
 returns c =
     let at-test = c .before .before .before .before in
     let bad = sym (c .before .entry-good .ensures) ∙ not-true (c .before .entry-good .result) (c .if1 .taken) in
     sym (one-bad (at-test .before .before .before .args .entries .now) _ (at-test .before .loop .i) (at-test .loop-test .taken) bad)
-
-add-i : tie.Need-add-i Inv-loop μ-loop
-add-i c = search needs
-
-loop-less : tie.Need-loop-less Inv-loop μ-loop
-loop-less c = search needs
 
 loop-again : tie.Need-loop-again Inv-loop μ-loop
 loop-again c =
@@ -61,17 +40,5 @@ returns-2 c =
 pub entries-good-spec : {M : Type 1} → statement M
 entries-good-spec =
     tie.close
-    (tie.spec
-    Inv-loop
-    μ-loop
-    loop-holds
-    mul-at
-    shared-slice-read-entry-good
-    add-entry-good
-    shared-slice-read-entry-good-2
-    entry-good-requires
-    returns
-    add-i
-    loop-less
-    loop-again
-    returns-2)
+    (tie.spec Inv-loop μ-loop loop-holds (λ c. search needs) (λ c. search needs) (λ c. search needs) (λ c. search needs)
+    (λ c κs. search needs) returns (λ c. search needs) (λ c. search needs) loop-again returns-2)

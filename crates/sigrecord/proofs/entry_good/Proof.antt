@@ -13,4 +13,5 @@ unfolding entryGood
 returns-2 c = search cases
 
 pub entry-good-spec : {M : Type 1} → statement M
-entry-good-spec = tie.close (tie.spec returns returns-2)
+entry-good-spec =
+    tie.close (tie.spec returns returns-2)

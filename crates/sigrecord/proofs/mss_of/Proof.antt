@@ -5,19 +5,14 @@ use borrow.Author.Needs.{needs}
 use Rattle.sigrecord.proofs.mss_of.Statement.{statement}
 use Rattle.sigrecord.proofs.mss_of.Tie as tie
 
-byte-at-requires : tie.Need-byte-at-requires
-byte-at-requires c κs = search needs
-
 returns : tie.Need-returns
 unfolding signatureOf mssOf
 returns c = simp (← c .before .byte-at .ensures) (search cases)
-
-be16-at-requires : tie.Need-be16-at-requires
-be16-at-requires c κs = search needs
 
 returns-2 : tie.Need-returns-2
 unfolding signatureOf mssOf
 returns-2 c = simp (← c .before .before .byte-at .ensures, ← c .be16-at .ensures) (search cases)
 
 pub mss-of-spec : {M : Type 1} → statement M
-mss-of-spec = tie.close (tie.spec byte-at-requires returns be16-at-requires returns-2)
+mss-of-spec =
+    tie.close (tie.spec (λ c κs. search needs) returns (λ c κs. search needs) returns-2)

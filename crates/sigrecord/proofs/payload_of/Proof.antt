@@ -5,9 +5,6 @@ use borrow.Author.Needs.{needs}
 use Rattle.sigrecord.proofs.payload_of.Statement.{statement}
 use Rattle.sigrecord.proofs.payload_of.Tie as tie
 
-byte-at-requires : tie.Need-byte-at-requires
-byte-at-requires c κs = search needs
-
 returns : tie.Need-returns
 unfolding signatureOf payloadOf
 returns c = simp (← c .before .byte-at .ensures) (search cases)
@@ -21,4 +18,5 @@ unfolding signatureOf payloadOf
 returns-3 c = simp (← c .before .before .byte-at .ensures) (search cases)
 
 pub payload-of-spec : {M : Type 1} → statement M
-payload-of-spec = tie.close (tie.spec byte-at-requires returns returns-2 returns-3)
+payload-of-spec =
+    tie.close (tie.spec (λ c κs. search needs) returns returns-2 returns-3)

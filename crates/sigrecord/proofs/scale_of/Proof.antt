@@ -5,19 +5,14 @@ use borrow.Author.Needs.{needs}
 use Rattle.sigrecord.proofs.scale_of.Statement.{statement}
 use Rattle.sigrecord.proofs.scale_of.Tie as tie
 
-byte-at-requires : tie.Need-byte-at-requires
-byte-at-requires c κs = search needs
-
 returns : tie.Need-returns
 unfolding signatureOf scaleOf
 returns c = simp (← c .before .byte-at .ensures) (search cases)
-
-byte-at-requires-2 : tie.Need-byte-at-requires-2
-byte-at-requires-2 c κs = search needs
 
 returns-2 : tie.Need-returns-2
 unfolding signatureOf scaleOf
 returns-2 c = simp (← c .before .before .byte-at .ensures, ← c .byte-at2 .ensures) (search cases)
 
 pub scale-of-spec : {M : Type 1} → statement M
-scale-of-spec = tie.close (tie.spec byte-at-requires returns byte-at-requires-2 returns-2)
+scale-of-spec =
+    tie.close (tie.spec (λ c κs. search needs) returns (λ c κs. search needs) returns-2)

@@ -5,18 +5,9 @@ use borrow.Author.Needs.{needs}
 use Rattle.sigrecord.proofs.ttl_of.Statement.{statement}
 use Rattle.sigrecord.proofs.ttl_of.Tie as tie
 
-byte-at-requires : tie.Need-byte-at-requires
-byte-at-requires c κs = search needs
-
-byte-at-requires-2 : tie.Need-byte-at-requires-2
-byte-at-requires-2 c κs = search needs
-
 returns : tie.Need-returns
 unfolding signatureOf ttlOf
 returns c = simp (← c .before .before .byte-at .ensures, ← c .before .byte-at2 .ensures) (search cases)
-
-byte-at-requires-3 : tie.Need-byte-at-requires-3
-byte-at-requires-3 c κs = search needs
 
 returns-2 : tie.Need-returns-2
 unfolding signatureOf ttlOf
@@ -55,11 +46,5 @@ returns-4 c =
 pub ttl-of-spec : {M : Type 1} → statement M
 ttl-of-spec =
     tie.close
-    (tie.spec
-    byte-at-requires
-    byte-at-requires-2
-    returns
-    byte-at-requires-3
-    returns-2
-    returns-3
+    (tie.spec (λ c κs. search needs) (λ c κs. search needs) returns (λ c κs. search needs) returns-2 returns-3
     returns-4)

@@ -5,9 +5,6 @@ use borrow.Author.Needs.{needs}
 use Rattle.sigrecord.proofs.version_of.Statement.{statement}
 use Rattle.sigrecord.proofs.version_of.Tie as tie
 
-byte-at-requires : tie.Need-byte-at-requires
-byte-at-requires c κs = search needs
-
 returns : tie.Need-returns
 unfolding signatureOf versionOf
 returns c = simp (← c .before .byte-at .ensures) (search cases)
@@ -21,4 +18,5 @@ unfolding signatureOf versionOf
 returns-3 c = simp (← c .before .before .byte-at .ensures) (search cases)
 
 pub version-of-spec : {M : Type 1} → statement M
-version-of-spec = tie.close (tie.spec byte-at-requires returns returns-2 returns-3)
+version-of-spec =
+    tie.close (tie.spec (λ c κs. search needs) returns returns-2 returns-3)

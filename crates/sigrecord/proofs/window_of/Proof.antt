@@ -5,12 +5,6 @@ use borrow.Author.Needs.{needs}
 use Rattle.sigrecord.proofs.window_of.Statement.{statement}
 use Rattle.sigrecord.proofs.window_of.Tie as tie
 
-byte-at-requires : tie.Need-byte-at-requires
-byte-at-requires c κs = search needs
-
-be16-at-requires : tie.Need-be16-at-requires
-be16-at-requires c κs = search needs
-
 returns : tie.Need-returns
 unfolding signatureOf windowOf
 returns c = simp (← c .before .before .byte-at .ensures, ← c .before .be16-at .ensures) (search cases)
@@ -30,9 +24,6 @@ returns-3 c =
     )
     (search cases)
 
-cast-t6 : tie.Need-cast-t6
-cast-t6 c = search needs
-
 returns-4 : tie.Need-returns-4
 unfolding signatureOf windowOf
 returns-4 c =
@@ -43,9 +34,6 @@ returns-4 c =
       ← at-be16-at .be16-at .ensures,
     )
     (search cases)
-
-cast-t8 : tie.Need-cast-t8
-cast-t8 c = search needs
 
 returns-5 : tie.Need-returns-5
 unfolding signatureOf windowOf
@@ -61,13 +49,5 @@ returns-5 c =
 pub window-of-spec : {M : Type 1} → statement M
 window-of-spec =
     tie.close
-    (tie.spec
-    byte-at-requires
-    be16-at-requires
-    returns
-    returns-2
-    returns-3
-    cast-t6
-    returns-4
-    cast-t8
-    returns-5)
+    (tie.spec (λ c κs. search needs) (λ c κs. search needs) returns returns-2 returns-3 (λ c. search needs) returns-4
+    (λ c. search needs) returns-5)

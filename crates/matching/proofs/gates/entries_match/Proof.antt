@@ -22,18 +22,6 @@ abbrev μ-loop : tie.MeasureT-loop
 loop-holds : tie.Need-loop-holds Inv-loop μ-loop
 loop-holds c = (search needs, no-entry _ _ _, none-bad _)
 
-mul-at : tie.Need-mul-at Inv-loop μ-loop
-mul-at c = search needs
-
-add-byte : tie.Need-add-byte Inv-loop μ-loop
-add-byte c = search needs
-
-shared-slice-read-byte : tie.Need-shared-slice-read-byte Inv-loop μ-loop
-shared-slice-read-byte c = search needs
-
-shared-slice-read-if1 : tie.Need-shared-slice-read-if1 Inv-loop μ-loop
-shared-slice-read-if1 c = search needs
-
 returns : tie.Need-returns Inv-loop μ-loop
 returns c =
     let at-test = c .before .before .before in
@@ -41,9 +29,6 @@ returns c =
     rw
     (byte-differs (a .kinds .now) (a .bytes .now) (a .entries .now) (a .count) (at-test .before .loop .i) (at-test .loop-test .taken)
     (c .if1 .taken))
-
-kind-allows-requires : tie.Need-kind-allows-requires Inv-loop μ-loop
-kind-allows-requires c κs = search needs
 
 returns-2 : tie.Need-returns-2 Inv-loop μ-loop
 returns-2 c =
@@ -53,12 +38,6 @@ returns-2 c =
     rw (one-bad (a .entries .now) (a .count) (at-test .before .loop .i) (at-test .loop-test .taken) bad)
     (sym (and-false (entriesMatch (a .kinds .now) (a .bytes .now) (a .entries .now) (a .count))))
 
-shared-slice-read-if3 : tie.Need-shared-slice-read-if3 Inv-loop μ-loop
-shared-slice-read-if3 c = search needs
-
-shared-slice-read-if3-2 : tie.Need-shared-slice-read-if3-2 Inv-loop μ-loop
-shared-slice-read-if3-2 c = search needs
-
 returns-3 : tie.Need-returns-3 Inv-loop μ-loop
 returns-3 c =
     let at-test = c .before .before .before .before .before .before .before .before in
@@ -66,12 +45,6 @@ returns-3 c =
     rw
     (kind-differs (a .kinds .now) (a .bytes .now) (a .entries .now) (a .count) (at-test .before .loop .i) (at-test .loop-test .taken)
     (c .if3 .taken))
-
-add-i : tie.Need-add-i Inv-loop μ-loop
-add-i c = search needs
-
-loop-less : tie.Need-loop-less Inv-loop μ-loop
-loop-less c = search needs
 
 loop-again : tie.Need-loop-again Inv-loop μ-loop
 loop-again c =
@@ -93,21 +66,6 @@ returns-4 c =
 pub entries-match-spec : {M : Type 1} → statement M
 entries-match-spec =
     tie.close
-    (tie.spec
-    Inv-loop
-    μ-loop
-    loop-holds
-    mul-at
-    add-byte
-    shared-slice-read-byte
-    shared-slice-read-if1
-    returns
-    kind-allows-requires
-    returns-2
-    shared-slice-read-if3
-    shared-slice-read-if3-2
-    returns-3
-    add-i
-    loop-less
-    loop-again
-    returns-4)
+    (tie.spec Inv-loop μ-loop loop-holds (λ c. search needs) (λ c. search needs) (λ c. search needs) (λ c. search needs)
+    returns (λ c κs. search needs) returns-2 (λ c. search needs) (λ c. search needs) returns-3 (λ c. search needs)
+    (λ c. search needs) loop-again returns-4)

@@ -9,12 +9,10 @@ returns : tie.Need-returns
 unfolding entryGood
 returns c = search cases
 
-shared-slice-read-result : tie.Need-shared-slice-read-result
-shared-slice-read-result c = search needs
-
 returns-2 : tie.Need-returns-2
 unfolding entryGood
 returns-2 c = search cases
 
 pub kind-allows-spec : {M : Type 1} → statement M
-kind-allows-spec = tie.close (tie.spec returns shared-slice-read-result returns-2)
+kind-allows-spec =
+    tie.close (tie.spec returns (λ c. search needs) returns-2)

@@ -11,15 +11,6 @@ use Rattle.matching.proofs.gates.window_gate.Tie as tie
 low-byte : (high low : ℕ) → low < 256 → (high * 256 + low) % 256 ≡ low
 low-byte high low h = omega arith
 
-byte-at-requires : tie.Need-byte-at-requires
-byte-at-requires c κs = search needs
-
-byte-at-requires-2 : tie.Need-byte-at-requires-2
-byte-at-requires-2 c κs = search needs
-
-window-size-matches-requires : tie.Need-window-size-matches-requires
-window-size-matches-requires c κs = search needs
-
 returns : tie.Need-returns
 unfolding signatureOf windowOf be16
 returns c =
@@ -29,23 +20,11 @@ returns c =
     let low = low-byte (byteAt raw 9) (byteAt raw 10) (rw (← c .before .byte-at2 .ensures) (search needs)) in
     simp (form, low, ← c .before .byte-at2 .ensures, c .window-size-matches .ensures)
 
-window-of-requires : tie.Need-window-of-requires
-window-of-requires c κs = search needs
-
-window-size-matches-requires-2 : tie.Need-window-size-matches-requires-2
-window-size-matches-requires-2 c κs = search needs
-
 returns-2 : tie.Need-returns-2
 returns-2 c = simp (c .window-size-matches2 .ensures, c .before .window-of .ensures)
 
 pub window-gate-spec : {M : Type 1} → statement M
 window-gate-spec =
     tie.close
-    (tie.spec
-    byte-at-requires
-    byte-at-requires-2
-    window-size-matches-requires
-    returns
-    window-of-requires
-    window-size-matches-requires-2
-    returns-2)
+    (tie.spec (λ c κs. search needs) (λ c κs. search needs) (λ c κs. search needs) returns (λ c κs. search needs)
+    (λ c κs. search needs) returns-2)

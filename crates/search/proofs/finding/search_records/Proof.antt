@@ -17,14 +17,8 @@ Inv-loop observed kinds bytes list areas count held₀ i₀ held i =
 abbrev μ-loop : tie.MeasureT-loop
 μ-loop observed kinds bytes list areas count held₀ i₀ held i = count - i
 
-cast-count : tie.Need-cast-count Inv-loop μ-loop
-cast-count c = search needs
-
 loop-holds : tie.Need-loop-holds Inv-loop μ-loop
 loop-holds c = (search needs, refl, c .before .before .pre, at-start _ _ _ _)
-
-next-candidate-requires : tie.Need-next-candidate-requires Inv-loop μ-loop
-next-candidate-requires c κs = search needs
 
 returns : tie.Need-returns Inv-loop μ-loop
 returns c =
@@ -39,9 +33,6 @@ search-step-requires c κs =
     let gates = c .before .before .before .next-candidate .ensures .candidate (search needs) in
     search needs
 
-rank-of-requires : tie.Need-rank-of-requires Inv-loop μ-loop
-rank-of-requires c κs = search needs
-
 returns-2 : tie.Need-returns-2 Inv-loop μ-loop
 returns-2 c =
     let l = c .before .before .before .before .before .before .before .before .loop in
@@ -50,12 +41,6 @@ returns-2 c =
     first-best _ _ _ _ (next .result) _ _ (c .before .before .before .before .before .if1 .left)
     (after _ _ _ _ _ (l .i) _ _ _ (l .inv .2) (l .inv .3) (next .ensures) (step .ensures))
     (sym (c .before .rank-of .ensures) ∙ c .if2 .taken)
-
-add-i : tie.Need-add-i Inv-loop μ-loop
-add-i c = search needs
-
-loop-less : tie.Need-loop-less Inv-loop μ-loop
-loop-less c = search needs
 
 loop-again : tie.Need-loop-again Inv-loop μ-loop
 loop-again c =
@@ -77,17 +62,5 @@ returns-3 c =
 pub search-records-spec : {M : Type 1} → statement M
 search-records-spec =
     tie.close
-    (tie.spec
-    Inv-loop
-    μ-loop
-    cast-count
-    loop-holds
-    next-candidate-requires
-    returns
-    search-step-requires
-    rank-of-requires
-    returns-2
-    add-i
-    loop-less
-    loop-again
-    returns-3)
+    (tie.spec Inv-loop μ-loop (λ c. search needs) loop-holds (λ c κs. search needs) returns search-step-requires
+    (λ c κs. search needs) returns-2 (λ c. search needs) (λ c. search needs) loop-again returns-3)

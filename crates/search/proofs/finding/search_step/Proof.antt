@@ -8,15 +8,6 @@ use borrow.Author.Needs.{needs}
 use Rattle.search.proofs.finding.search_step.Statement.{statement}
 use Rattle.search.proofs.finding.search_step.Tie as tie
 
-record-at-requires : tie.Need-record-at-requires
-record-at-requires c κs = search needs
-
-candidate-fit-requires : tie.Need-candidate-fit-requires
-candidate-fit-requires c κs = search needs
-
-is-none-requires : tie.Need-is-none-requires
-is-none-requires c κs = search needs
-
 returns : tie.Need-returns
 returns c =
     let fit = c .before .before .candidate-fit in
@@ -28,21 +19,13 @@ returns c =
     (gates-pass _ _ _ _ _ _ (pre .0) (pre .1) (pre .2)
     ∙ rw (← same, ← fit .ensures) (is-none (fit .result) (sym (c .before .is-none .ensures) ∙ c .if1 .taken))))
 
-label-of-requires : tie.Need-label-of-requires
-label-of-requires c κs = search needs
-
-found-of-requires : tie.Need-found-of-requires
-found-of-requires c κs = search needs
-
-prefer-found-requires : tie.Need-prefer-found-requires
-prefer-found-requires c κs = search needs
-
 returns-2 : tie.Need-returns-2
 unfolding candidateAt
 returns-2 c =
     let a = c .before .before .before .before .before .before .before .before .before .before .args in
     let pre = c .before .before .before .before .before .before .before .before .before .before .pre in
-    let same = c .before .before .before .before .before .before .record-at .ensures ∙ record-of-list (a .list .now) (a .areas) (a .i) (pre .0) (pre .1) in
+    let taken = c .before .before .before .before .before .before .record-at .ensures in
+    let same = taken ∙ record-of-list (a .list .now) (a .areas) (a .i) (pre .0) (pre .1) in
     rw (
       gates-pass (a .observed) (a .kinds .now) (a .bytes .now) (a .list .now) (a .areas) (a .i) (pre .0) (pre .1) (pre .2),
       ← same,
@@ -55,12 +38,5 @@ returns-2 c =
 pub search-step-spec : {M : Type 1} → statement M
 search-step-spec =
     tie.close
-    (tie.spec
-    record-at-requires
-    candidate-fit-requires
-    is-none-requires
-    returns
-    label-of-requires
-    found-of-requires
-    prefer-found-requires
-    returns-2)
+    (tie.spec (λ c κs. search needs) (λ c κs. search needs) (λ c κs. search needs) returns (λ c κs. search needs)
+    (λ c κs. search needs) (λ c κs. search needs) returns-2)

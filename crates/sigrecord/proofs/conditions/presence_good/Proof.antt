@@ -17,4 +17,5 @@ unfolding presenceGood
 returns-3 c = search cases
 
 pub presence-good-spec : {M : Type 1} → statement M
-presence-good-spec = tie.close (tie.spec returns returns-2 returns-3)
+presence-good-spec =
+    tie.close (tie.spec returns returns-2 returns-3)

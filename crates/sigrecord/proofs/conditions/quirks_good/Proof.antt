@@ -6,19 +6,10 @@ use borrow.Author.Needs.{needs}
 use Rattle.sigrecord.proofs.conditions.quirks_good.Statement.{statement}
 use Rattle.sigrecord.proofs.conditions.quirks_good.Tie as tie
 
-quirks-of-requires : tie.Need-quirks-of-requires
-quirks-of-requires c κs = search needs
-
-difference-requires : tie.Need-difference-requires
-difference-requires c κs = search needs
-
-is-empty-requires : tie.Need-is-empty-requires
-is-empty-requires c κs = search needs
-
 returns : tie.Need-returns
 unfolding quirksGood signatureOf
 returns c = simp (← c .before .before .quirks-of .ensures, ← c .before .difference .ensures, ← c .is-empty .ensures, seventeen-bits)
 
 pub quirks-good-spec : {M : Type 1} → statement M
 quirks-good-spec =
-    tie.close (tie.spec quirks-of-requires difference-requires is-empty-requires returns)
+    tie.close (tie.spec (λ c κs. search needs) (λ c κs. search needs) (λ c κs. search needs) returns)

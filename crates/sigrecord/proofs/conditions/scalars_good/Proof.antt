@@ -6,17 +6,11 @@ use borrow.Author.Needs.{needs}
 use Rattle.sigrecord.proofs.conditions.scalars_good.Statement.{statement}
 use Rattle.sigrecord.proofs.conditions.scalars_good.Tie as tie
 
-version-good-requires : tie.Need-version-good-requires
-version-good-requires c κs = search needs
-
 returns : tie.Need-returns
 unfolding scalarsGood
 returns c =
     let fails = not-true (c .before .version-good .result) (c .if1 .taken) in
     simp (← c .before .version-good .ensures, fails, and-false)
-
-ttl-good-requires : tie.Need-ttl-good-requires
-ttl-good-requires c κs = search needs
 
 returns-2 : tie.Need-returns-2
 unfolding scalarsGood
@@ -24,23 +18,11 @@ returns-2 c =
     let fails = not-true (c .before .ttl-good .result) (c .if2 .taken) in
     simp (← c .before .ttl-good .ensures, fails, and-false)
 
-byte-at-requires : tie.Need-byte-at-requires
-byte-at-requires c κs = search needs
-
-be16-at-requires : tie.Need-be16-at-requires
-be16-at-requires c κs = search needs
-
-presence-good-requires : tie.Need-presence-good-requires
-presence-good-requires c κs = search needs
-
 returns-3 : tie.Need-returns-3
 unfolding scalarsGood
 returns-3 c =
     let fails = not-true (c .before .presence-good .result) (c .if3 .taken) in
     simp (← c .before .before .before .byte-at .ensures, ← c .before .before .be16-at .ensures, ← c .before .presence-good .ensures, fails, and-false)
-
-window-good-requires : tie.Need-window-good-requires
-window-good-requires c κs = search needs
 
 returns-4 : tie.Need-returns-4
 unfolding scalarsGood
@@ -48,42 +30,21 @@ returns-4 c =
     let fails = not-true (c .before .window-good .result) (c .if4 .taken) in
     simp (← c .before .window-good .ensures, fails, and-false)
 
-byte-at-requires-2 : tie.Need-byte-at-requires-2
-byte-at-requires-2 c κs = search needs
-
-byte-at-requires-3 : tie.Need-byte-at-requires-3
-byte-at-requires-3 c κs = search needs
-
-wide-requires : tie.Need-wide-requires
-wide-requires c κs = search needs
-
-presence-good-requires-2 : tie.Need-presence-good-requires-2
-presence-good-requires-2 c κs = search needs
-
 returns-5 : tie.Need-returns-5
 unfolding scalarsGood
 returns-5 c =
     let fails = not-true (c .before .presence-good2 .result) (c .if5 .taken) in
     simp (← c .before .before .before .before .byte-at2 .ensures, ← c .before .before .before .byte-at3 .ensures, ← c .before .before .wide .ensures, ← c .before .presence-good2 .ensures, fails, and-false)
 
-byte-at-requires-4 : tie.Need-byte-at-requires-4
-byte-at-requires-4 c κs = search needs
-
 returns-6 : tie.Need-returns-6
 unfolding scalarsGood payloadGood
 returns-6 c = simp (← c .before .byte-at4 .ensures, lt-leb (c .before .byte-at4 .result) 2 (c .if6 .taken), and-false)
-
-quirks-good-requires : tie.Need-quirks-good-requires
-quirks-good-requires c κs = search needs
 
 returns-7 : tie.Need-returns-7
 unfolding scalarsGood
 returns-7 c =
     let fails = not-true (c .before .quirks-good .result) (c .if7 .taken) in
     simp (← c .before .quirks-good .ensures, fails, and-false)
-
-byte-at-requires-5 : tie.Need-byte-at-requires-5
-byte-at-requires-5 c κs = search needs
 
 returns-8 : tie.Need-returns-8
 unfolding scalarsGood payloadGood
@@ -121,25 +82,7 @@ returns-8 c =
 pub scalars-good-spec : {M : Type 1} → statement M
 scalars-good-spec =
     tie.close
-    (tie.spec
-    version-good-requires
-    returns
-    ttl-good-requires
-    returns-2
-    byte-at-requires
-    be16-at-requires
-    presence-good-requires
-    returns-3
-    window-good-requires
-    returns-4
-    byte-at-requires-2
-    byte-at-requires-3
-    wide-requires
-    presence-good-requires-2
-    returns-5
-    byte-at-requires-4
-    returns-6
-    quirks-good-requires
-    returns-7
-    byte-at-requires-5
-    returns-8)
+    (tie.spec (λ c κs. search needs) returns (λ c κs. search needs) returns-2 (λ c κs. search needs)
+    (λ c κs. search needs) (λ c κs. search needs) returns-3 (λ c κs. search needs) returns-4 (λ c κs. search needs)
+    (λ c κs. search needs) (λ c κs. search needs) (λ c κs. search needs) returns-5 (λ c κs. search needs) returns-6
+    (λ c κs. search needs) returns-7 (λ c κs. search needs) returns-8)

@@ -5,9 +5,6 @@ use borrow.Author.Needs.{needs}
 use Rattle.sigrecord.proofs.conditions.ttl_good.Statement.{statement}
 use Rattle.sigrecord.proofs.conditions.ttl_good.Tie as tie
 
-byte-at-requires : tie.Need-byte-at-requires
-byte-at-requires c κs = search needs
-
 returns : tie.Need-returns
 unfolding ttlGood
 returns c = simp (← c .before .byte-at .ensures) (search cases)
@@ -16,13 +13,10 @@ returns-2 : tie.Need-returns-2
 unfolding ttlGood
 returns-2 c = simp (← c .before .before .byte-at .ensures) (search cases)
 
-byte-at-requires-2 : tie.Need-byte-at-requires-2
-byte-at-requires-2 c κs = search needs
-
 returns-3 : tie.Need-returns-3
 unfolding ttlGood
 returns-3 c = simp (← c .before .before .before .byte-at .ensures, ← c .byte-at2 .ensures) (search cases)
 
 pub ttl-good-spec : {M : Type 1} → statement M
 ttl-good-spec =
-    tie.close (tie.spec byte-at-requires returns returns-2 byte-at-requires-2 returns-3)
+    tie.close (tie.spec (λ c κs. search needs) returns returns-2 (λ c κs. search needs) returns-3)

@@ -5,12 +5,6 @@ use borrow.Author.Needs.{needs}
 use Rattle.sigrecord.proofs.conditions.window_good.Statement.{statement}
 use Rattle.sigrecord.proofs.conditions.window_good.Tie as tie
 
-byte-at-requires : tie.Need-byte-at-requires
-byte-at-requires c κs = search needs
-
-be16-at-requires : tie.Need-be16-at-requires
-be16-at-requires c κs = search needs
-
 returns : tie.Need-returns
 unfolding windowGood
 returns c = simp (← c .before .before .byte-at .ensures, ← c .before .be16-at .ensures) (search cases)
@@ -43,4 +37,4 @@ returns-4 c =
 
 pub window-good-spec : {M : Type 1} → statement M
 window-good-spec =
-    tie.close (tie.spec byte-at-requires be16-at-requires returns returns-2 returns-3 returns-4)
+    tie.close (tie.spec (λ c κs. search needs) (λ c κs. search needs) returns returns-2 returns-3 returns-4)
