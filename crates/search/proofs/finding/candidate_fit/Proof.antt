@@ -9,17 +9,7 @@ use Rattle.search.proofs.finding.candidate_fit.Tie as tie
 
 returns : tie.Need-returns
 returns c =
-<<<<<<< HEAD
     sym (not-tolerated _ _ _ _ _ (rw (← c .before .before .tolerance .ensures) (sym (c .before .is-none .ensures) ∙ c .if1 .taken)))
-=======
-    let signed = c .before .before .before .signature-of .ensures in
-    let tolerated = c .before .before .tolerance .ensures in
-    sym
-    (not-tolerated _ _ _ _ _ (rw (← signed, ← tolerated) (sym (c .before .is-none .ensures) ∙ c .if1 .taken)))
-
-record-holds-requires : tie.Need-record-holds-requires
-record-holds-requires c κs = search needs
->>>>>>> b-sr
 
 returns-2 : tie.Need-returns-2
 unfolding candidateFit
