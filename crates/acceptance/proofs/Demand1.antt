@@ -32,7 +32,7 @@ use Rattle.acceptance.specs.Promised.{Answers}
 use Prim.Native.Nat.{ℕ}
 use Rattle.acceptance.specs.Leaves.{RefusalNumbers, Numbers, Quirks, TtlReading, Window, IpOptions}
 use Rattle.acceptance.specs.Reader.{Observable, OneOption, Options, Ip, Flow}
-use Rattle.acceptance.specs.Fitting.{Sigrecord, Distances, Matching, Siglist, Held, Search}
+use Rattle.acceptance.specs.Fitting.{Sigrecord, Distances, Matching, Siglist, Findings, Search}
 use Rattle.acceptance.specs.GivenOut.{Text, PacketAnswered, Bundle, Report, Gateway}
 use Rattle.acceptance.specs.Demand1.{Demand1}
 
@@ -196,8 +196,8 @@ of-siglist =
       check-list = λ κs l. answered tt (siglist.check-list-one κs l) (λ m. m) refl;
     }
 
-of-held : Held
-of-held =
+of-found : Findings
+of-found =
     record {
       is-none = λ f. answered tt (found.is-none-one f) (λ m. m) refl;
       found-of = λ label f. answered tt (found.found-of-one label f) (λ m. m) refl;
@@ -285,7 +285,7 @@ demand1 =
       distances = of-distances;
       matching = of-matching;
       siglist = of-siglist;
-      held = of-held;
+      found = of-found;
       search = of-search;
       packetAnswered = of-packet-answer;
       bundle = of-bundle;

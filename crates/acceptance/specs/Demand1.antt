@@ -5,7 +5,7 @@
 -- function that is added gets a line in its crate's record.
 use Rattle.acceptance.specs.Leaves.{RefusalNumbers, Numbers, Quirks, TtlReading, Window, IpOptions}
 use Rattle.acceptance.specs.Reader.{Observable, OneOption, Options, Ip, Flow}
-use Rattle.acceptance.specs.Fitting.{Sigrecord, Distances, Matching, Siglist, Held, Search}
+use Rattle.acceptance.specs.Fitting.{Sigrecord, Distances, Matching, Siglist, Findings, Search}
 use Rattle.acceptance.specs.GivenOut.{Text, PacketAnswered, Bundle, Report, Gateway}
 
 pub record Demand1 : Type 0 where
@@ -25,7 +25,7 @@ pub record Demand1 : Type 0 where
   pub distances : Distances
   pub matching : Matching
   pub siglist : Siglist
-  pub held : Held
+  pub found : Findings
   pub search : Search
   pub packetAnswered : PacketAnswered
   pub bundle : Bundle

@@ -192,7 +192,7 @@ pub record Siglist : Type 0 where
       → Answers check-list'.signature κs (check-list'.Reads.Pre κs) (check-list'.Reads.Post κs)
       (list, tt) (checkList (now list))
 
-pub record Held : Type 0 where
+pub record Findings : Type 0 where
   pub is-none
       : (f : SignatureFit)
       → Answers is-none'.signature tt (is-none'.Reads.Pre tt) (is-none'.Reads.Post tt)

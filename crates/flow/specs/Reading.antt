@@ -28,7 +28,7 @@ afterIp tcp (ip.Facts f) p peer = tcp f (tcpPart f p) peer
 
 -- The reader of two stages.
 abbrev pub readBy : IpStage → TcpStage → List ℕ → Mss → Reading
-readBy ip tcp p peer = afterIp tcp (ip p) p peer
+readBy stage tcp p peer = afterIp tcp (stage p) p peer
 
 -- Document 01's reader.
 unfoldable pub readPacket : List ℕ → Mss → Reading

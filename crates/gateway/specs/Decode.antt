@@ -5,6 +5,7 @@ use mathlib.Core.List.{List}
 use lib.Dec.{eqb}
 use Rattle.basis.specs.Bytes.{byteAt}
 use Rattle.quirks.specs.Quirks.{setOf}
+use Rattle.refusals.specs.declared.ListRefusal.the-variants as list
 use Rattle.refusals.specs.declared.Refusal.{Refusal}
 use Rattle.refusals.specs.Refusals.{refusalFrom, byKind}
 use Rattle.matching.specs.declared.FuzzyReason.{FuzzyReason}
@@ -42,9 +43,9 @@ foundFrom f =
     cond (eqb (f .outcome) 1) (found.Exact (f .value))
     (cond (eqb (f .outcome) 2) (found.Fuzzy (f .value) (reasonFrom f)) found.None)
 
--- A refusal of a packet or a list; no code of a gateway has another.
+-- A refusal of a packet or a list. No code of a gateway has another; it would be read as a list's, since an answer it is not.
 abbrev pub refusedAs : Refusal → GatewayAnswer
-refusedAs r = byKind (λ why. gateway.Packet (packet.Refused why)) gateway.List (gateway.Packet packet.Nothing) r
+refusedAs r = byKind (λ why. gateway.Packet (packet.Refused why)) gateway.List (gateway.List list.DoesNotFit) r
 
 abbrev pub answerFrom : Fields → GatewayAnswer
 answerFrom f =
