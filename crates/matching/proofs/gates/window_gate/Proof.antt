@@ -26,8 +26,8 @@ returns c =
     let at-form = c .before .before .before in
     let raw = at-form .before .before .args .raw .now in
     let form = sym (at-form .byte-at .ensures) ∙ c .before .before .if1 .taken in
-    let low = low-byte (byteAt raw 9) (byteAt raw 10) (rw (← c .before .byte-at2 .ensures) (search needs)) in
-    simp (form, low, ← c .before .byte-at2 .ensures, c .window-size-matches .ensures)
+    let low = c .before .byte-at2 in
+    simp (form, ← low .ensures, low-byte (byteAt raw 9) (low .result) (search needs), c .window-size-matches .ensures)
 
 window-of-requires : tie.Need-window-of-requires
 window-of-requires c κs = search needs
