@@ -17,8 +17,8 @@ returns c =
     let at-form = c .before .before .before in
     let raw = at-form .before .before .args .raw .now in
     let form = sym (at-form .byte-at .ensures) ∙ c .before .before .if1 .taken in
-    let low = low-byte (byteAt raw 9) (byteAt raw 10) (rw (← c .before .byte-at2 .ensures) (search needs)) in
-    simp (form, low, ← c .before .byte-at2 .ensures, c .window-size-matches .ensures)
+    let low = c .before .byte-at2 in
+    simp (form, ← low .ensures, low-byte (byteAt raw 9) (low .result) (search needs), c .window-size-matches .ensures)
 
 returns-2 : tie.Need-returns-2
 returns-2 c = simp (c .window-size-matches2 .ensures, c .before .window-of .ensures)
