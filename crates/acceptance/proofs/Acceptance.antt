@@ -7,6 +7,7 @@ use Rattle.acceptance.proofs.Honesty.{honesty}
 use Rattle.acceptance.proofs.Lines.{lines}
 use Rattle.acceptance.proofs.OnPaper.{on-paper}
 use Rattle.acceptance.proofs.Refusals.{refusals}
+use Rattle.acceptance.proofs.Stages.{stages}
 use Rattle.acceptance.proofs.Unchecked.{unchecked}
 
 pub acceptance : Acceptance
@@ -20,4 +21,5 @@ acceptance =
       unchecked = unchecked;
       demand2 = demand2;
       demand3 = demand3;
+      stages = stages;
     }

@@ -19,8 +19,9 @@ use Rattle.quirks.specs.Quirks.{setOf, bitsOf, holds, isEmpty, difference}
 use Rattle.quirks.specs.Named.{seventeen}
 use Rattle.quirks.proofs.Laws.{holds-difference}
 use Rattle.quirks.proofs.Named.{seventeen-bits}
-use Rattle.gates.specs.Gates.{entryGood, entriesGood}
-use Rattle.sigrecord.specs.Record.{firstEntry, entryCount, versionGood, ttlGood, presenceGood, windowGood, payloadGood, quirksGood, scalarsGood}
+use Rattle.sigrecord.specs.Layout.{entryGood, entriesGood}
+use Rattle.sigrecord.specs.Record.{firstEntry, entryCount}
+use Rattle.sigrecord.specs.WellFormed.{versionGood, ttlGood, presenceGood, windowGood, payloadGood, quirksGood, scalarsGood}
 use Rattle.siglist.specs.List.{layoutCount, recordAt, entriesOf, layoutLies, recordGood}
 use Rattle.acceptance.specs.Refusals.{Bad, BadRecord}
 use Rattle.acceptance.proofs.Fails.{either-false, failing, or-left, or-right, and-false, positive, nonzero}

@@ -5,6 +5,7 @@ use mathlib.Core.List.{List, [], _∷_}
 use Prim.Native.Nat.{ℕ, _<_}
 use native.Mathlib.Omega.{arith}
 use lib.ListN.{length}
+use Rattle.refusals.specs.declared.ListRefusal.{ListRefusal}
 use Rattle.siglist.specs.declared.ListAnswer.{ListAnswer}
 use Rattle.siglist.specs.declared.ListAnswer.the-variants as listAnswer
 use Rattle.siglist.specs.List.{checkList, listRefusal}
@@ -55,20 +56,19 @@ module _ (b : List ℕ) where
       by-fit true e = First.later (λ r. fit-not-unfit b e (as-unfit r)) (as-list of-list)
       by-fit false e = First.here (as-row (unfit b e))
 
-  of-bad : (a : ListAnswer) (i : ℕ) → ofList a ≡ bundleCheck.BadRecord i → a ≡ listAnswer.BadRecord i
-  of-bad listAnswer.Good i e = let z : _≡_ {A = ℕ} 0 1 = cc in absurd (omega arith)
-  of-bad listAnswer.DoesNotFit i e = let z : _≡_ {A = ℕ} 0 1 = cc in absurd (omega arith)
-  of-bad (listAnswer.BadRecord k) i e = let same : k ≡ i = cc in ap listAnswer.BadRecord same
+  of-refused : (a : ListAnswer) (r : ListRefusal) → ofList a ≡ bundleCheck.List r → a ≡ listAnswer.Refused r
+  of-refused listAnswer.Good r e = let z : _≡_ {A = ℕ} 0 1 = cc in absurd (omega arith)
+  of-refused (listAnswer.Refused s) r e = let same : s ≡ r = cc in ap listAnswer.Refused same
 
-  pub bad-of-list : (i : ℕ) → checkBundle b ≡ bundleCheck.BadRecord i → checkList (listOf b) ≡ listAnswer.BadRecord i
+  pub refused-of-list : (r : ListRefusal) → checkBundle b ≡ bundleCheck.List r → checkList (listOf b) ≡ listAnswer.Refused r
   unfolding checkBundle
-  bad-of-list i = by-fit (bundleFits b)
+  refused-of-list r = by-fit (bundleFits b)
     where
       by-fit
           : (t : Bool)
-          → cond {A = BundleCheck} t (ofList (checkList (listOf b))) bundleCheck.DoesNotFit ≡ bundleCheck.BadRecord i
-          → checkList (listOf b) ≡ listAnswer.BadRecord i
-      by-fit true e = of-bad (checkList (listOf b)) i e
+          → cond {A = BundleCheck} t (ofList (checkList (listOf b))) bundleCheck.DoesNotFit ≡ bundleCheck.List r
+          → checkList (listOf b) ≡ listAnswer.Refused r
+      by-fit true e = of-refused (checkList (listOf b)) r e
       by-fit false e = let z : _≡_ {A = ℕ} 0 1 = cc in absurd (omega arith)
 
   pub none-beside : 0 < bundleRefusal (checkBundle b) → bundleAnswer b .answers ≡ []
@@ -78,8 +78,7 @@ module _ (b : List ℕ) where
       by-check : (c : BundleCheck) → 0 < bundleRefusal c → afterBundleCheck c b .answers ≡ []
       by-check bundleCheck.Good h = absurd (omega arith)
       by-check bundleCheck.DoesNotFit h = refl
-      by-check bundleCheck.ListDoesNotFit h = refl
-      by-check (bundleCheck.BadRecord i) h = refl
+      by-check (bundleCheck.List r) h = refl
 
   pub answered : checkBundle b ≡ bundleCheck.Good → length (bundleAnswer b .answers) ≡ packetCount b
   unfolding bundleAnswer

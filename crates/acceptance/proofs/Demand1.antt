@@ -1,5 +1,7 @@
 -- Demand 1: the uniqueness theorems of the crates, collected.
+use Rattle.refusals.proofs.Unique as refusals
 use Rattle.numbers.proofs.Unique as numbers
+use Rattle.text.proofs.Unique as text
 use Rattle.quirks.proofs.Unique as quirks
 use Rattle.ttl.proofs.Unique as ttl
 use Rattle.window_size.proofs.Unique as window-size
@@ -10,7 +12,6 @@ use Rattle.syn_options.proofs.Unique as syn-options
 use Rattle.ip.proofs.Unique as ip
 use Rattle.flow.proofs.Unique as flow
 use Rattle.distances.proofs.Unique as distances
-use Rattle.gates.proofs.Unique as gates
 use Rattle.matching.proofs.Unique as matching
 use Rattle.sigrecord.proofs.Unique as sigrecord
 use Rattle.siglist.proofs.Unique as siglist
@@ -18,7 +19,6 @@ use Rattle.found.proofs.Unique as found
 use Rattle.search.proofs.Unique as search
 use Rattle.packet_answer.proofs.Unique as packet-answer
 use Rattle.bundle.proofs.Unique as bundle
-use Rattle.report.specs.declared.Progress.{Progress}
 use Rattle.report.proofs.Unique as report
 use Rattle.report.proofs.Whole.{all-pages, first-page-within, next-page-within}
 use Rattle.gateway.proofs.Unique as gateway
@@ -30,10 +30,10 @@ use Rattle.basis.specs.Unique.{ExactlyOne}
 use Rattle.acceptance.specs.Lent.{writable}
 use Rattle.acceptance.specs.Promised.{Answers}
 use Prim.Native.Nat.{ℕ}
-use Rattle.acceptance.specs.Leaves.{Numbers, Quirks, TtlReading, Window, IpOptions}
+use Rattle.acceptance.specs.Leaves.{RefusalNumbers, Numbers, Quirks, TtlReading, Window, IpOptions}
 use Rattle.acceptance.specs.Reader.{Observable, OneOption, Options, Ip, Flow}
-use Rattle.acceptance.specs.Fitting.{Distances, Matching, Siglist, Held, Search}
-use Rattle.acceptance.specs.GivenOut.{PacketAnswered, Bundle, Report, Gateway}
+use Rattle.acceptance.specs.Fitting.{Sigrecord, Distances, Matching, Siglist, Findings, Search}
+use Rattle.acceptance.specs.GivenOut.{Text, PacketAnswered, Bundle, Report, Gateway}
 use Rattle.acceptance.specs.Demand1.{Demand1}
 
 -- A line, from its parts: nothing is asked, the uniqueness theorem, whose promise says which result it is, and nothing can be written.
@@ -46,12 +46,22 @@ answered
     → Answers signature κs pre post a d
 answered asked u says lent = record { asks-nothing = asked; one = u; is = says (u .meets); only-reads = lent }
 
+of-refusals : RefusalNumbers
+of-refusals =
+    record {
+      refusal-number = λ r. answered tt (refusals.refusal-number-one r) (λ m. m) refl;
+      packet-value = λ r. answered tt (refusals.packet-value-one r) (λ m. m) refl;
+      list-value = λ r. answered tt (refusals.list-value-one r) (λ m. m) refl;
+    }
+
 of-numbers : Numbers
 of-numbers =
     record {
       wide = λ x. answered tt (numbers.wide-one x) (λ m. m) refl;
       be16 = λ high low. answered tt (numbers.be16-one high low) (λ m. m) refl;
       be32 = λ high low. answered tt (numbers.be32-one high low) (λ m. m) refl;
+      byte-at = λ κs s i. answered tt (numbers.byte-at-one κs s i) (λ m. m) refl;
+      be16-at = λ κs s i. answered tt (numbers.be16-at-one κs s i) (λ m. m) refl;
       least = λ a b. answered tt (numbers.least-one a b) (λ m. m) refl;
       saturating-sub = λ a b. answered tt (numbers.saturating-sub-one a b) (λ m. m) refl;
       saturating-add = λ a b. answered tt (numbers.saturating-add-one a b) (λ m. m) refl;
@@ -104,7 +114,7 @@ of-observable =
 of-one-option : OneOption
 of-one-option =
     record {
-      asked-bytes = λ κs k s. answered tt (one-option.asked-bytes-one κs k s) (λ m. m) refl;
+      option-step = λ κs s at. answered tt (one-option.option-step-one κs s at) (λ m. m) refl;
       later-mss = λ κs k s m. answered tt (one-option.later-mss-one κs k s m) (λ m. m) refl;
       later-scale = λ κs k s w. answered tt (one-option.later-scale-one κs k s w) (λ m. m) refl;
       later-quirks = λ κs k s syn q. answered tt (one-option.later-quirks-one κs k s syn q) (λ m. m) refl;
@@ -120,7 +130,6 @@ of-options =
 of-ip : Ip
 of-ip =
     record {
-      refusal-number = λ r. answered tt (ip.refusal-number-one r) (λ m. m) refl;
       read-ip = λ κs p. answered tt (ip.read-ip-one κs p) (λ m. m) refl;
     }
 
@@ -130,43 +139,70 @@ of-flow =
       read-packet = λ κs p peer. answered tt (flow.read-packet-one κs p peer) (λ m. m) refl;
     }
 
+of-sigrecord : Sigrecord
+of-sigrecord =
+    record {
+      version-of = λ κs r. answered tt (sigrecord.version-of-one κs r) (λ m. m) refl;
+      ttl-of = λ κs r. answered tt (sigrecord.ttl-of-one κs r) (λ m. m) refl;
+      mss-of = λ κs r. answered tt (sigrecord.mss-of-one κs r) (λ m. m) refl;
+      window-of = λ κs r. answered tt (sigrecord.window-of-one κs r) (λ m. m) refl;
+      scale-of = λ κs r. answered tt (sigrecord.scale-of-one κs r) (λ m. m) refl;
+      quirks-of = λ κs r. answered tt (sigrecord.quirks-of-one κs r) (λ m. m) refl;
+      signature-of = λ κs r. answered tt (sigrecord.signature-of-one κs r) (λ m. m) refl;
+      first-entry = λ κs r. answered tt (sigrecord.first-entry-one κs r) (λ m. m) refl;
+      entry-count = λ κs r. answered tt (sigrecord.entry-count-one κs r) (λ m. m) refl;
+      label-of = λ κs r. answered tt (sigrecord.label-of-one κs r) (λ m. m) refl;
+      scalars-well-formed = λ κs r. answered tt (sigrecord.scalars-well-formed-one κs r) (λ m. m) refl;
+      entry-good = λ k b. answered tt (sigrecord.entry-good-one k b) (λ m. m) refl;
+      entries-good = λ κs r. answered tt (sigrecord.entries-good-one κs r) (λ m. m) refl;
+    }
+
 of-distances : Distances
 of-distances =
     record {
       ttl-fit = λ o s. answered tt (distances.ttl-fit-one o s) (λ m. m) refl;
       report-hop-distance = λ o s. answered tt (distances.report-hop-distance-one o s) (λ m. m) refl;
       window-size-matches = λ o s m. answered tt (distances.window-size-matches-one o s m) (λ m. m) refl;
+      ip-version-matches = λ o s. answered tt (distances.ip-version-matches-one o s) (λ m. m) refl;
+      payload-size-matches = λ o s. answered tt (distances.payload-size-matches-one o s) (λ m. m) refl;
     }
 
 of-matching : Matching
 of-matching =
     record {
-      olen-matches = λ o s. answered tt (gates.olen-matches-one o s) (λ m. m) refl;
-      mss-matches = λ o s. answered tt (gates.mss-matches-one o s) (λ m. m) refl;
-      wscale-matches = λ o s. answered tt (gates.wscale-matches-one o s) (λ m. m) refl;
+      olen-matches = λ o s. answered tt (matching.olen-matches-one o s) (λ m. m) refl;
+      mss-matches = λ o s. answered tt (matching.mss-matches-one o s) (λ m. m) refl;
+      wscale-matches = λ o s. answered tt (matching.wscale-matches-one o s) (λ m. m) refl;
       quirks-fit = λ o s. answered tt (matching.quirks-fit-one o s) (λ m. m) refl;
-      olayout-matches = λ κs ks bs n es m. answered tt (gates.olayout-matches-one κs ks bs n es m) (λ m. m) refl;
-      entry-good = λ k b. answered tt (gates.entry-good-one k b) (λ m. m) refl;
+      olayout-matches = λ κs ks bs n es m. answered tt (matching.olayout-matches-one κs ks bs n es m) (λ m. m) refl;
+      passes-gates = λ κs r f. answered tt (matching.passes-gates-one κs r f) (λ m. m) refl;
       features-of = λ o. answered tt (matching.features-of-one o) (λ m. m) refl;
-      tolerance = λ f s. answered tt (matching.tolerance-one f s) (λ m. m) refl;
+      tolerance = λ κs r f. answered tt (matching.tolerance-one κs r f) (λ m. m) refl;
     }
 
 of-siglist : Siglist
 of-siglist =
     record {
       read-header = λ κs l. answered tt (siglist.read-header-one κs l) (λ m. m) refl;
-      ip-version-matches = λ o s. answered tt (sigrecord.ip-version-matches-one o s) (λ m. m) refl;
-      payload-size-matches = λ o s. answered tt (sigrecord.payload-size-matches-one o s) (λ m. m) refl;
-      scalars-well-formed = λ κs r. answered tt (sigrecord.scalars-well-formed-one κs r) (λ m. m) refl;
+      record-at = λ κs l a i.
+          let u = siglist.record-at-one κs l a i in
+          record {
+            asks-nothing = tt;
+            one = u;
+            is = u .meets (record { ptr = l .ptr; name = l .name; now = u .the }) refl;
+            no-other = λ r m. m;
+            only-reads = refl;
+          };
       check-list = λ κs l. answered tt (siglist.check-list-one κs l) (λ m. m) refl;
     }
 
-of-held : Held
-of-held =
+of-found : Findings
+of-found =
     record {
-      is-exact = λ f. answered tt (found.is-exact-one f) (λ m. m) refl;
       is-none = λ f. answered tt (found.is-none-one f) (λ m. m) refl;
-      keep-fit = λ held label f. answered tt (found.keep-fit-one held label f) (λ m. m) refl;
+      found-of = λ label f. answered tt (found.found-of-one label f) (λ m. m) refl;
+      rank-of = λ f. answered tt (found.rank-of-one f) (λ m. m) refl;
+      prefer-found = λ held other. answered tt (found.prefer-found-one held other) (λ m. m) refl;
     }
 
 of-search : Search
@@ -187,13 +223,26 @@ of-bundle : Bundle
 of-bundle =
     record {
       check-bundle = λ κs b. answered tt (bundle.check-bundle-one κs b) (λ m. m) refl;
-      bundle-refusal = λ c. answered tt (bundle.bundle-refusal-one c) (λ m. m) refl;
       packet-at = λ κs b at. answered tt (bundle.packet-at-one κs b at) (λ m. m) refl;
     }
 
--- A progress and a page, as their two equations determine them.
-both : {r r' : Progress} {t t' : List ℕ} → (r ≡ r') × (t ≡ t') → _≡_ {A = Progress × List ℕ} (r, t) (r', t')
-both e = ap₂ (λ (r : Progress) (t : List ℕ). (r, t)) (e .0) (e .1)
+-- A result and what a buffer or a page is left with, as their two equations determine them.
+both : {R : Type 0} {r r' : R} {t t' : List ℕ} → (r ≡ r') × (t ≡ t') → _≡_ {A = R × List ℕ} (r, t) (r', t')
+both {R = R} e = ap₂ (λ (r : R) (t : List ℕ). (r, t)) (e .0) (e .1)
+
+of-text : Text
+of-text =
+    record {
+      put-byte = λ κs b at byte.
+          let u = text.put-byte-one b at κs byte in
+          record { asks-nothing = tt; one = u; is = both (u .meets); writes-the-buffer = refl };
+      put-word = λ κs b at word.
+          let u = text.put-word-one b at κs word in
+          record { asks-nothing = tt; one = u; is = both (u .meets); writes-the-buffer = refl };
+      put-decimal = λ κs b at n.
+          let u = text.put-decimal-one b at κs n in
+          record { asks-nothing = tt; one = u; is = both (u .meets); writes-the-buffer = refl };
+    }
 
 of-report : Report
 of-report =
@@ -220,7 +269,9 @@ of-gateway =
 pub demand1 : Demand1
 demand1 =
     record {
+      refusals = of-refusals;
       numbers = of-numbers;
+      text = of-text;
       quirks = of-quirks;
       ttl = of-ttl;
       window = of-window;
@@ -230,10 +281,11 @@ demand1 =
       options = of-options;
       ip = of-ip;
       flow = of-flow;
+      sigrecord = of-sigrecord;
       distances = of-distances;
       matching = of-matching;
       siglist = of-siglist;
-      held = of-held;
+      found = of-found;
       search = of-search;
       packetAnswered = of-packet-answer;
       bundle = of-bundle;

@@ -19,7 +19,8 @@ use Rattle.observable.specs.Observation.{emptyLayout, emptyObservation}
 use Rattle.one_option.specs.Options.{asked, runsPast, optionsAfter}
 use Rattle.one_option.specs.See.{laterMss, laterScale, trailingNonzero, excessiveScaling, ownTimestampZero, peerTimestampNonzero, laterQuirks, seeOption}
 use Rattle.syn_options.specs.Walk.{entryByte, putEntry, walkFrom, walkOf}
-use Rattle.ip.specs.declared.Refusal.the-variants as refusal
+use Rattle.refusals.specs.declared.PacketRefusal.the-variants as refusal
+use Rattle.refusals.specs.declared.ListRefusal.the-variants as why
 use Rattle.ip.specs.Ip.{readIp}
 use Rattle.flow.specs.declared.Answer.the-variants as packet
 use Rattle.flow.specs.declared.Reading.{Reading}
@@ -33,8 +34,8 @@ use Rattle.siglist.specs.List.{recordCount, recordAt, listFits, recordGood, che
 use Rattle.siglist.proofs.FirstBad.{does-not-fit, Checked, first-bad-named}
 use Rattle.found.specs.declared.Found.the-variants as found
 use Rattle.search.specs.declared.SearchAnswer.the-variants as answer
-use Rattle.found.specs.Keep.{keep}
-use Rattle.search.specs.Search.{fitAt, searchList}
+use Rattle.found.specs.Rank.{foundOf}
+use Rattle.search.specs.Search.{fitAt, candidateAt, searchList}
 use Rattle.search.proofs.Order.{single}
 use Rattle.acceptance.specs.Values.{packetA, exampleList}
 use Rattle.acceptance.specs.Demand2.{MultiplierTheorem, ofOne, SingleFit, ShutOut, Demand2}
@@ -61,11 +62,11 @@ multiplier-theorem =
 
 -- ---- the single fit
 
-keep-one : (label : ℕ) (x : SignatureFit) → keep found.None label x ≡ ofOne label x
-unfolding keep
-keep-one label fit.None = refl
-keep-one label fit.Exact = refl
-keep-one label (fit.Fuzzy r) = refl
+of-one : (label : ℕ) (x : SignatureFit) → foundOf label x ≡ ofOne label x
+unfolding foundOf
+of-one label fit.None = refl
+of-one label fit.Exact = refl
+of-one label (fit.Fuzzy r) = refl
 
 module _ (l : List ℕ) (good : checkList l ≡ list.Good) where
   -- A good list fits, and its records are good.
@@ -84,12 +85,12 @@ module _ (l : List ℕ) (good : checkList l ≡ list.Good) where
       by-check (Checked.first-bad k b u bad before) e = let z : _≡_ {A = ℕ} 0 1 = cc in absurd (omega arith)
 
 single-fit : SingleFit
-unfolding searchList fitAt
+unfolding searchList candidateAt fitAt
 single-fit o l few good one =
     rw (le-ltb 40 (o .olayout .count) few, good)
     (ap answer.Found
     (single o l one
-    ∙ rw (fits l good, lt-ltb 0 (recordCount l) (omega arith), record-good l good 0 (omega arith)) (keep-one (labelOf (recordAt l 0)) _)))
+    ∙ rw (fits l good, lt-ltb 0 (recordCount l) (omega arith), record-good l good 0 (omega arith)) (of-one (labelOf (recordAt l 0)) _)))
 
 -- ---- what is shut out
 
@@ -103,7 +104,7 @@ answer-of-nothing : readPacket [] mss.Absent .answer ≡ packet.Refused refusal.
 unfolding readPacket readIp
 answer-of-nothing = refl
 
-nothing-fits : searchList emptyObservation [] ≡ answer.DoesNotFit
+nothing-fits : searchList emptyObservation [] ≡ answer.List why.DoesNotFit
 unfolding searchList checkList listFits emptyObservation emptyLayout be16
 nothing-fits = refl
 
@@ -132,7 +133,7 @@ shut-out =
           let z : _≡_ {A = ℕ} 0 1 = cc in
           omega arith;
       constant-search = λ c h.
-          let e : answer.Found (found.Exact 7) ≡ answer.DoesNotFit =
+          let e : answer.Found (found.Exact 7) ≡ answer.List why.DoesNotFit =
           sym (values .search .exact)
           ∙ h (readPacket packetA mss.Absent .observation) exampleList
           ∙ sym (h emptyObservation [])

@@ -32,7 +32,7 @@ use Rattle.alike.proofs.Exact.{exact, free-byte}
 use Rattle.alike.proofs.TcpExact.{exact-tcp}
 use Rattle.alike.proofs.OptionsDiffer.{exact-options}
 use Rattle.alike.proofs.Walks.{walk-alike, parse-alike}
-use Rattle.alike.proofs.Ip.{ip-alike-v4, ip-alike-v6}
+use Rattle.alike.proofs.Ip.{keeps-level}
 use Rattle.alike.proofs.Tcp.{tcp-alike}
 use Rattle.alike.proofs.Packets.{read-alike}
 use Rattle.acceptance.specs.Demand3.{TheRelation, Run, SameAnswer, AlikeFrom, AlikeBundles, Demand3, GatewaySame}
@@ -90,8 +90,7 @@ module _ (p q list : RefT (List ℕ)) (peer : Mss) (r s : Reading) (a b : Search
 same-answer : SameAnswer
 same-answer =
     record {
-      ip-stage4 = ip-alike-v4;
-      ip-stage6 = ip-alike-v6;
+      ip-stage = keeps-level;
       tcp-stage = tcp-alike;
       option-walks = walk-alike;
       option-strings = parse-alike;
@@ -124,8 +123,7 @@ gateway-alike p q peer l a = by-list (checkList l)
   where
     by-list : (c : ListAnswer) → afterList c p (peerOf peer) l ≡ afterList c q (peerOf peer) l
     by-list list.Good = ap gateway.Packet (answer-alike p q (peerOf peer) l a)
-    by-list list.DoesNotFit = refl
-    by-list (list.BadRecord i) = refl
+    by-list (list.Refused r) = refl
 
 gateway-same : GatewaySame
 gateway-same =
@@ -172,8 +170,7 @@ module _ (b c : List ℕ) (a : AlikeBundles b c) where
   unfolding outputOf bundleAnswer
   by-check check.Good e = rw (check-alike, e, same-answers, a .count)
   by-check check.DoesNotFit e = rw (check-alike, e)
-  by-check check.ListDoesNotFit e = rw (check-alike, e)
-  by-check (check.BadRecord i) e = rw (check-alike, e)
+  by-check (check.List r) e = rw (check-alike, e)
 
 output-alike : (b c : List ℕ) (longer : Bool) → AlikeBundles b c → outputOfInput b longer ≡ outputOfInput c longer
 unfolding outputOfInput

@@ -13,10 +13,10 @@ use Rattle.matching.specs.declared.FuzzyReason.{FuzzyReason}
 use Rattle.matching.specs.declared.Hops.the-variants as hops
 use Rattle.matching.specs.declared.QuirksFit.{QuirksFit}
 use Rattle.matching.specs.declared.QuirksFit.the-variants as quirksfit
-use Rattle.matching.specs.declared.Signature.{Signature}
+use Rattle.sigrecord.specs.declared.Signature.{Signature}
 use Rattle.matching.specs.declared.SignatureFit.the-variants as fit
 use Rattle.matching.specs.declared.Tolerated.{Tolerated}
-use Rattle.gates.specs.Gates.{layoutMatches}
+use Rattle.matching.specs.Gates.{layoutMatches}
 use Rattle.matching.specs.Tolerance.{judgeInRange, judge}
 use Rattle.matching.specs.Fit.{scalarGates, toleranceOf, fitOf}
 use Rattle.matching.proofs.Laws.{Untolerated, exact-untolerated, untolerated-exact}

@@ -2,13 +2,13 @@
 use mathlib.Core.Path.{_≡_, refl, sym, _∙_, ap}
 use mathlib.Core.Bool.{Bool, true, false, cond}
 use mathlib.Core.List.{List}
-use Prim.Native.Nat.{ℕ, zero, suc, _+_, _%_, _<_}
+use Prim.Native.Nat.{ℕ, _%_, _<_}
 use native.Mathlib.Omega.{arith}
 use lib.Dec.{ltb}
 use lib.ListN.{length, getD}
 use Rattle.tcp.specs.declared.Mss.{Mss}
 use Rattle.observable.specs.declared.TcpObservation.{TcpObservation}
-use Rattle.ip.specs.declared.Refusal.{Refusal}
+use Rattle.refusals.specs.declared.PacketRefusal.{PacketRefusal}
 use Rattle.flow.specs.declared.Answer.the-variants as reading
 use Rattle.flow.specs.Reading.{readPacket}
 use Rattle.matching.specs.Fit.{featuresOf}
@@ -19,8 +19,11 @@ use Rattle.found.specs.declared.Found.{Found}
 use Rattle.found.specs.declared.Found.the-variants as found
 use Rattle.search.specs.declared.SearchAnswer.{SearchAnswer}
 use Rattle.search.specs.declared.SearchAnswer.the-variants as answer
-use Rattle.search.specs.Search.{fitAt, numbersFrom, searchOver, searchAll, afterListCheck, searchList}
+use Rattle.found.specs.Least.{numbersFrom}
+use Rattle.found.proofs.Least.{numbers-length, numbers-at}
+use Rattle.search.specs.Search.{fitAt, searchOver, searchAll, afterListCheck, searchList}
 use Rattle.search.proofs.Order as order
+use Rattle.search.proofs.Rows.{longer-row}
 use Rattle.packet_answer.specs.declared.PacketAnswer.{PacketAnswer}
 use Rattle.packet_answer.specs.declared.PacketAnswer.the-variants as packet
 use Rattle.packet_answer.specs.Packet.{peerOf, answerOf}
@@ -35,18 +38,6 @@ use Rattle.acceptance.specs.Honesty.{fitOfRecord, Outcome, whichOf, outc
 use Rattle.acceptance.proofs.Fit.{exact-to, exact-from, fuzzy-to, fuzzy-from}
 
 -- ---- a search
-
--- The record numbers of the plain search: as many as there are, each at its own place.
-numbers-length : (i n : ℕ) → length (numbersFrom i n) ≡ n
-unfolding numbersFrom
-numbers-length i zero = refl
-numbers-length i (suc n) = ap suc (numbers-length (i + 1) n)
-
-numbers-at : (i n k : ℕ) → k < n → getD (numbersFrom i n) k 0 ≡ i + k
-unfolding numbersFrom
-numbers-at i zero k h = absurd (omega arith)
-numbers-at i (suc n) zero h = omega arith
-numbers-at i (suc n) (suc k) h = numbers-at (i + 1) n k (omega arith) ∙ omega arith
 
 module _ (o : TcpObservation) (l : List ℕ) where
   places : List ℕ
@@ -85,8 +76,7 @@ module _ (o : TcpObservation) (l : List ℕ) where
 
   after-found : (a : ListAnswer) (x : Found) → afterListCheck a o l ≡ answer.Found x → Outcome o l x
   after-found list.Good x e = let same : searchAll o l ≡ x = cc in rw (← same) found-outcome
-  after-found list.DoesNotFit x e = let z : _≡_ {A = ℕ} 0 1 = cc in absurd (omega arith)
-  after-found (list.BadRecord i) x e = let z : _≡_ {A = ℕ} 0 1 = cc in absurd (omega arith)
+  after-found (list.Refused r) x e = let z : _≡_ {A = ℕ} 0 1 = cc in absurd (omega arith)
 
   search-outcome : (x : Found) → searchList o l ≡ answer.Found x → Outcome o l x
   unfolding searchList
@@ -117,7 +107,7 @@ module _ (p : List ℕ) (peer : Mss) (l : List ℕ) where
   unfolding answerOf
   nothing-answer e = rw e
 
-  refused-answer : (r : Refusal) → readPacket p peer .answer ≡ reading.Refused r → answerOf p peer l ≡ packet.Refused r
+  refused-answer : (r : PacketRefusal) → readPacket p peer .answer ≡ reading.Refused r → answerOf p peer l ≡ packet.Refused r
   unfolding answerOf
   refused-answer r e = rw e
 
@@ -137,8 +127,7 @@ outcome-of (gateway.Packet (packet.Syn f)) = found-outcome-of 1 f
 outcome-of (gateway.Packet (packet.SynAck f)) = found-outcome-of 2 f
 outcome-of (gateway.Packet packet.Nothing) = refl
 outcome-of (gateway.Packet (packet.Refused r)) = refl
-outcome-of gateway.ListDoesNotFit = refl
-outcome-of (gateway.BadRecord i) = refl
+outcome-of (gateway.List r) = refl
 
 -- A packet's own answer, as the gateway's that holds it.
 unwrapped : (a b : PacketAnswer) → gateway.Packet a ≡ gateway.Packet b → a ≡ b
@@ -174,11 +163,13 @@ checked-codes-differ p q m n l k hp hq hl hk e =
     e)
 
 pub honesty : Honesty
+unfolding searchOver
 honesty =
     record {
       exact = λ f ks bs s n es. (exact-to f ks bs s n es, exact-from f ks bs s n es);
       fuzzy = λ f ks bs s n es r. (fuzzy-to f ks bs s n es r, fuzzy-from f ks bs s n es r);
       search = search-outcome;
+      longer-row = λ o l is js. longer-row (featuresOf o) (o .olayout .kinds) (o .olayout .bytes) l is js;
       answered = found-outcome;
       syn-answer = syn-answer;
       syn-ack-answer = syn-ack-answer;

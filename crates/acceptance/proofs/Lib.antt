@@ -20,5 +20,6 @@ pub mod PaperRows
 pub mod PaperStages
 pub mod PaperTold
 pub mod Refusals
+pub mod Stages
 pub mod Unchecked
 pub mod Values

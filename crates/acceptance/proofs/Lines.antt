@@ -1,18 +1,20 @@
 -- Every line is read back, so lines that print different things differ; and every word has its letters.
 use mathlib.Core.Path.{_≡_, refl, sym, _∙_, ap}
-use mathlib.Core.Bool.{Bool, true, false, cond}
+use mathlib.Core.Bool.{Bool, true, false, cond, true≢false}
 use mathlib.Core.List.{List, [], _∷_, _++_}
 use mathlib.Core.Logic.{_↔_}
-use Prim.Native.Nat.{ℕ, _+_, _*_, _-_, _/_, _%_, _<_, _≤_}
+use Prim.Native.Nat.{ℕ, _<_, _≤_}
 use native.Mathlib.Omega.{arith}
-use lib.Dec.{eqb, ltb}
+use lib.Dec.{eqb}
 use lib.ListN.{drop}
-use borrow.Author.Tests.{ltb-true, le-ltb}
 use Rattle.basis.specs.Bytes.{byteAt}
 use Rattle.tcp.specs.declared.Mss.{Mss}
-use Rattle.ip.specs.declared.Refusal.{Refusal}
-use Rattle.ip.specs.declared.Refusal.the-variants as refusal
-use Rattle.ip.specs.Numbers.{number}
+use Rattle.refusals.specs.declared.PacketRefusal.{PacketRefusal}
+use Rattle.refusals.specs.declared.PacketRefusal.the-variants as refusal
+use Rattle.refusals.specs.declared.ListRefusal.the-variants as why
+use Rattle.refusals.specs.declared.Refusal.the-variants as table
+use Rattle.refusals.specs.Refusals.{packetNumber, byKind, refusalFrom, firstNumbered, Verdict, numberOf}
+use Rattle.refusals.proofs.Back.{numbered}
 use Rattle.found.specs.declared.Found.{Found}
 use Rattle.found.specs.declared.Found.the-variants as found
 use Rattle.packet_answer.specs.declared.PacketAnswer.{PacketAnswer}
@@ -20,76 +22,19 @@ use Rattle.packet_answer.specs.declared.PacketAnswer.the-variants as packet
 use Rattle.packet_answer.specs.Packet.{answerOf}
 use Rattle.bundle.specs.declared.BundleCheck.{BundleCheck}
 use Rattle.bundle.specs.declared.BundleCheck.the-variants as check
-use Rattle.bundle.specs.Bundle.{bundleRefusal}
+use Rattle.bundle.specs.Bundle.{bundleVerdict, bundleRefusal}
 use Rattle.gateway.specs.Decode.{AllBytes}
 use Rattle.gateway.proofs.Room.{FoundFits, PacketFits}
 use Rattle.gateway.proofs.Fits.{packet-fits}
-use Rattle.report.specs.Text.{width, decimal, newline, packetsWord, refusedWord, nothingWord, synWord, synackWord, noneWord, exactWord, fuzzyWord, foundText, answerText, lineOf, headLine, refusedLine}
+use Rattle.text.specs.Decimal.{width, decimal, newline}
+use Rattle.text.proofs.Decimal.{digitsRead, read-back}
+use Rattle.report.specs.Text.{packetsWord, refusedWord, nothingWord, synWord, synackWord, noneWord, exactWord, fuzzyWord, foundText, answerText, lineOf, headLine, refusedLine}
 use Rattle.acceptance.specs.Lines.{PrintedFound, Printed, printedFound, printed, TwoBytes, LabelFits, Words, Lines}
 
--- ---- a number, read back from its digits up to the end of the line
-
-abbrev digitsRead : ℕ → List ℕ → ℕ
-digitsRead n [] = n
-digitsRead n (d ∷ rest) = cond (ltb d 48) n (digitsRead (n * 10 + (d - 48)) rest)
-
-more : (n d : ℕ) (rest : List ℕ) → d < 10 → digitsRead n ((48 + d) ∷ rest) ≡ digitsRead (n * 10 + d) rest
-more n d rest h = let back : 48 + d - 48 ≡ d = omega arith in rw (le-ltb (48 + d) 48 (omega arith), back)
-
-digit : (n : ℕ) → n % 10 < 10
-digit n = omega arith
-
-module _ (n : ℕ) where
-  -- The last digits, from one to four, and the end of the line.
-  abbrev last1 : List ℕ
-  last1 = (48 + n % 10) ∷ newline
-
-  abbrev last2 : List ℕ
-  last2 = (48 + n / 10 % 10) ∷ last1
-
-  abbrev last3 : List ℕ
-  last3 = (48 + n / 100 % 10) ∷ last2
-
-  abbrev last4 : List ℕ
-  last4 = (48 + n / 1000 % 10) ∷ last3
-
-  one : (k : ℕ) → digitsRead k last1 ≡ k * 10 + n % 10
-  one k = more k (n % 10) newline (digit n)
-
-  two : (k : ℕ) → digitsRead k last2 ≡ k * 100 + n % 100
-  two k = more k (n / 10 % 10) last1 (digit (n / 10)) ∙ one (k * 10 + n / 10 % 10) ∙ omega arith
-
-  three : (k : ℕ) → digitsRead k last3 ≡ k * 1000 + n % 1000
-  three k = more k (n / 100 % 10) last2 (digit (n / 100)) ∙ two (k * 10 + n / 100 % 10) ∙ omega arith
-
-  four : (k : ℕ) → digitsRead k last4 ≡ k * 10000 + n % 10000
-  four k = more k (n / 1000 % 10) last3 (digit (n / 1000)) ∙ three (k * 10 + n / 1000 % 10) ∙ omega arith
-
-  five : (k : ℕ) → digitsRead k ((48 + n / 10000 % 10) ∷ last4) ≡ k * 100000 + n % 100000
-  five k = more k (n / 10000 % 10) last4 (digit (n / 10000)) ∙ four (k * 10 + n / 10000 % 10) ∙ omega arith
-
-  -- A number of two bytes is read back from its digits.
-  read-decimal : n < 65536 → digitsRead 0 (decimal n ++ newline) ≡ n
-  unfolding decimal width
-  read-decimal h = by-tests (ltb n 10) refl (ltb n 100) refl (ltb n 1000) refl (ltb n 10000) refl
-    where
-      by-tests
-          : (s : Bool)
-          → ltb n 10 ≡ s
-          → (t : Bool)
-          → ltb n 100 ≡ t
-          → (u : Bool)
-          → ltb n 1000 ≡ u
-          → (v : Bool)
-          → ltb n 10000 ≡ v
-          → digitsRead 0 (decimal n ++ newline) ≡ n
-      by-tests true e t f u g v i = rw e (one 0 ∙ (let few = ltb-true n 10 e in omega arith))
-      by-tests false e true f u g v i = rw (e, f) (two 0 ∙ (let few = ltb-true n 100 f in omega arith))
-      by-tests false e false f true g v i = rw (e, f, g) (three 0 ∙ (let few = ltb-true n 1000 g in omega arith))
-      by-tests false e false f false g true i = rw (e, f, g, i) (four 0 ∙ (let few = ltb-true n 10000 i in omega arith))
-      by-tests false e false f false g false i = rw (e, f, g, i) (five 0 ∙ omega arith)
-
 -- ---- a line, read back
+
+read-decimal : (n : ℕ) → n < 65536 → digitsRead 0 (decimal n ++ newline) ≡ n
+read-decimal n h = read-back n (omega arith)
 
 readFound : List ℕ → PrintedFound
 readFound s =
@@ -102,16 +47,6 @@ readLine s =
     (cond (eqb (byteAt s 3) 97) (Printed.synack (readFound (drop 7 s)))
     (cond (eqb (byteAt s 3) 104) Printed.nothing (Printed.refused (digitsRead 0 (drop 8 s)))))
 
-number-small : (r : Refusal) → number r ≤ 7
-unfolding number
-number-small refusal.Version = omega arith
-number-small refusal.TooShort = omega arith
-number-small refusal.HeaderLength = omega arith
-number-small refusal.UnsupportedProtocol = omega arith
-number-small refusal.Fragment = omega arith
-number-small refusal.TcpTooShort = omega arith
-number-small (refusal.InvalidTcpFlags flags) = omega arith
-
 read-line : (a : PacketAnswer) → LabelFits a → readLine (lineOf a) ≡ printed a
 unfolding lineOf answerText foundText readLine readFound
 read-line (packet.Syn (found.Exact label)) h = ap (λ (n : ℕ). Printed.syn (PrintedFound.exact n)) (read-decimal label h)
@@ -121,7 +56,7 @@ read-line (packet.SynAck (found.Exact label)) h = ap (λ (n : ℕ). Printed.syna
 read-line (packet.SynAck (found.Fuzzy label reason)) h = ap (λ (n : ℕ). Printed.synack (PrintedFound.fuzzy n)) (read-decimal label h)
 read-line (packet.SynAck found.None) h = refl
 read-line packet.Nothing h = refl
-read-line (packet.Refused r) h = ap Printed.refused (read-decimal (number r) (let few = number-small r in omega arith))
+read-line (packet.Refused r) h = ap Printed.refused (read-decimal (packetNumber r) (let few = numbered (table.Packet r) .1 in omega arith))
 
 -- ---- the line of what is printed
 
@@ -193,19 +128,36 @@ no-count : (m n : ℕ) → headLine m ≡ refusedLine n → ⊥
 unfolding headLine refusedLine
 no-count m n e = let z = ap (λ (s : List ℕ). byteAt s 0) e in omega arith
 
+verdict-small : (v : Verdict) → numberOf v < 65536
+verdict-small Verdict.accepted = omega arith
+verdict-small (Verdict.refused r) = let small = numbered r .1 in omega arith
+
 bundle-small : (c : BundleCheck) → bundleRefusal c < 65536
 unfolding bundleRefusal
-bundle-small check.Good = omega arith
-bundle-small check.DoesNotFit = omega arith
-bundle-small check.ListDoesNotFit = omega arith
-bundle-small (check.BadRecord i) = omega arith
+bundle-small c = verdict-small (bundleVerdict c)
 
-bundle-large : (c : BundleCheck) → 0 < bundleRefusal c → 7 < bundleRefusal c
-unfolding bundleRefusal
-bundle-large check.Good h = absurd (omega arith)
-bundle-large check.DoesNotFit h = omega arith
-bundle-large check.ListDoesNotFit h = omega arith
-bundle-large (check.BadRecord i) h = omega arith
+-- The numbers of packets' refusals are no other's.
+abbrev ofPacket : ℕ → Bool
+ofPacket n = byKind (λ r. true) (λ r. false) false (refusalFrom n 0)
+
+packets-own : (r : PacketRefusal) → ofPacket (packetNumber r) ≡ true
+unfolding refusalFrom firstNumbered
+packets-own refusal.Version = refl
+packets-own refusal.TooShort = refl
+packets-own refusal.HeaderLength = refl
+packets-own refusal.UnsupportedProtocol = refl
+packets-own refusal.Fragment = refl
+packets-own refusal.TcpTooShort = refl
+packets-own (refusal.InvalidTcpFlags byte) = refl
+packets-own refusal.DataOffset = refl
+packets-own refusal.ExtensionHeaders = refl
+
+no-packets : (c : BundleCheck) → 0 < bundleRefusal c → ofPacket (bundleRefusal c) ≡ false
+unfolding bundleRefusal refusalFrom firstNumbered
+no-packets check.Good h = absurd (omega arith)
+no-packets check.DoesNotFit h = refl
+no-packets (check.List why.DoesNotFit) h = refl
+no-packets (check.List (why.BadRecord i)) h = refl
 
 packet-or-bundle : (a : PacketAnswer) (c : BundleCheck) → 0 < bundleRefusal c → lineOf a ≡ refusedLine (bundleRefusal c) → ⊥
 unfolding lineOf answerText refusedLine
@@ -213,13 +165,12 @@ packet-or-bundle (packet.Syn f) c h e = let z = ap (λ (s : List ℕ). byteAt s 
 packet-or-bundle (packet.SynAck f) c h e = let z = ap (λ (s : List ℕ). byteAt s 0) e in omega arith
 packet-or-bundle packet.Nothing c h e = let z = ap (λ (s : List ℕ). byteAt s 0) e in omega arith
 packet-or-bundle (packet.Refused r) c h e =
-    let few = number-small r in
-    let same = sym (refused-read (number r) (omega arith)) ∙ ap behind e ∙ refused-read (bundleRefusal c) (bundle-small c) in
-    let many = bundle-large c h in
-    omega arith
+    let small = numbered (table.Packet r) .1 in
+    let same = sym (refused-read (packetNumber r) (omega arith)) ∙ ap behind e ∙ refused-read (bundleRefusal c) (bundle-small c) in
+    true≢false (sym (packets-own r) ∙ ap ofPacket same ∙ no-packets c h)
 
 all-words : Words
-unfolding lineOf answerText foundText headLine refusedLine decimal width number
+unfolding lineOf answerText foundText headLine refusedLine decimal width
 all-words =
     record {
       packets-0 = refl;

@@ -22,22 +22,24 @@ use Rattle.one_option.specs.Options.{asked, runsPast, optionsAfter}
 use Rattle.one_option.specs.See.{laterMss, laterScale, trailingNonzero, excessiveScaling, ownTimestampZero, peerTimestampNonzero, laterQuirks, seeOption}
 use Rattle.syn_options.specs.Walk.{entryByte, putEntry, walkFrom, walkOf}
 use Rattle.ip.specs.Ip.{ipv4Quirks, ipv4Facts, readIpv4, ipv6Quirks, ipv6Facts, readIpv6, readIp}
-use Rattle.ip.specs.Numbers.{number}
 use Rattle.flow.specs.declared.Reading.{Reading}
 use Rattle.flow.specs.Flags.{maskedType, flagsInvalid, isSynType, isSynAckType}
 use Rattle.flow.specs.Tcp.{headerQuirks, quirksOfHeaders, payloadClass, observationOf, observationFrom, knownPeer, readTcp}
 use Rattle.flow.specs.Reading.{readPacket, refusalOf}
 use Rattle.distances.specs.DistanceGates.{versionMatches, windowMatches, payloadMatches}
 use Rattle.distances.specs.Distances.{ttlFit}
-use Rattle.gates.specs.Gates.{olenMatches, mssMatches, scaleMatches, entriesMatch, layoutMatches, entryGood, entriesGood}
+use Rattle.sigrecord.specs.Layout.{entryGood, entriesGood}
+use Rattle.matching.specs.Gates.{olenMatches, mssMatches, scaleMatches, entriesMatch, layoutMatches}
 use Rattle.matching.specs.Tolerance.{maskedQuirks, quirksFit, judgeInRange, judge}
 use Rattle.matching.specs.Fit.{featuresOf, scalarGates, toleranceOf, fitOf}
-use Rattle.sigrecord.specs.Record.{versionOf, ttlOf, mssOf, scaleOf, windowOf, payloadOf, signatureOf, versionGood, ttlGood, presenceGood, windowGood, payloadGood, quirksGood, scalarsGood}
+use Rattle.sigrecord.specs.Record.{versionOf, ttlOf, mssOf, scaleOf, windowOf, payloadOf, signatureOf}
+use Rattle.sigrecord.specs.WellFormed.{versionGood, ttlGood, presenceGood, windowGood, payloadGood, quirksGood, scalarsGood}
 use Rattle.siglist.specs.List.{listFits, layoutLies, recordGood, recordsFrom, checkList}
 use Rattle.found.specs.declared.Found.the-variants as found
 use Rattle.search.specs.declared.SearchAnswer.the-variants as answer
-use Rattle.found.specs.Keep.{keep}
-use Rattle.search.specs.Search.{fitAt, searchFrom, numbersFrom, searchOver, searchAll, searchList}
+use Rattle.found.specs.Least.{prefer, leastFrom, firstLeast, numbersFrom}
+use Rattle.found.specs.Rank.{foundOf}
+use Rattle.search.specs.Search.{fitAt, candidateAt, rankAt, foundAt, searchRow, searchOver, searchAll, searchList}
 use Rattle.alike.proofs.Packets.{read-alike}
 use Rattle.acceptance.specs.Values.{packetA, exampleList}
 use Rattle.acceptance.specs.NotFree.{ReadApart, AnsweredApart, stamped, overIpv6, noLength, noLengthIpv6, NotFree}
@@ -85,11 +87,11 @@ not-exact p differs same = differs (sym same ∙ values .search .exact)
 
 -- With another kind of option packet A does not fit.
 other-kind : searchList (readPacket (set packetA 40 3) mss.Absent .observation) exampleList ≡ answer.Found found.None
-unfolding readPacket readIp readIpv4 ipv4Facts ipv4Quirks ipv4OptionLength readingOf guessOf initialOf readTcp flagsInvalid maskedType isSynType observationFrom observationOf quirksOfHeaders headerQuirks payloadClass walkOf walkFrom optionsAfter asked runsPast putEntry entryByte seeOption laterMss laterScale laterQuirks trailingNonzero excessiveScaling ownTimestampZero peerTimestampNonzero anyNonzero addIf with bitOf placeOf empty fromQuirks be16 be32 checkList listFits recordsFrom recordGood layoutLies scalarsGood versionGood ttlGood presenceGood windowGood payloadGood quirksGood entryGood entriesGood allBelow isEmpty difference seventeen displayOrder searchList searchAll searchOver searchFrom numbersFrom keep fitAt featuresOf windowMultiplier ownTimestampNonzero holdsKind contains holds digit multiplierOf firstMultiple twelve divides signatureOf versionOf ttlOf mssOf scaleOf windowOf payloadOf fitOf scalarGates versionMatches olenMatches mssMatches windowMatches scaleMatches payloadMatches layoutMatches entriesMatch toleranceOf ttlFit quirksFit maskedQuirks maskWhenObsV4 maskWhenObsV6 fuzzyDeletable fuzzyAddable judge judgeInRange
+unfolding readPacket readIp readIpv4 ipv4Facts ipv4Quirks ipv4OptionLength readingOf guessOf initialOf readTcp flagsInvalid maskedType isSynType observationFrom observationOf quirksOfHeaders headerQuirks payloadClass walkOf walkFrom optionsAfter asked runsPast putEntry entryByte seeOption laterMss laterScale laterQuirks trailingNonzero excessiveScaling ownTimestampZero peerTimestampNonzero anyNonzero addIf with bitOf placeOf empty fromQuirks be16 be32 checkList listFits recordsFrom recordGood layoutLies scalarsGood versionGood ttlGood presenceGood windowGood payloadGood quirksGood entryGood entriesGood allBelow isEmpty difference seventeen displayOrder searchList searchAll searchOver searchRow foundAt firstLeast leastFrom prefer numbersFrom rankAt candidateAt foundOf fitAt featuresOf windowMultiplier ownTimestampNonzero holdsKind contains holds digit multiplierOf firstMultiple twelve divides signatureOf versionOf ttlOf mssOf scaleOf windowOf payloadOf fitOf scalarGates versionMatches olenMatches mssMatches windowMatches scaleMatches payloadMatches layoutMatches entriesMatch toleranceOf ttlFit quirksFit maskedQuirks maskWhenObsV4 maskWhenObsV6 fuzzyDeletable fuzzyAddable judge judgeInRange
 other-kind = refl
 
 pub not-free : NotFree
-unfolding readPacket readIp readIpv4 ipv4Facts ipv4Quirks ipv4OptionLength readIpv6 ipv6Facts ipv6Quirks ipv6ExtensionLength readingOf guessOf initialOf readTcp flagsInvalid maskedType isSynType isSynAckType knownPeer observationFrom observationOf quirksOfHeaders headerQuirks payloadClass walkOf walkFrom optionsAfter asked runsPast putEntry entryByte seeOption laterMss laterScale laterQuirks trailingNonzero excessiveScaling ownTimestampZero peerTimestampNonzero anyNonzero addIf with bitOf placeOf empty fromQuirks be16 be32 refusalOf number
+unfolding readPacket readIp readIpv4 ipv4Facts ipv4Quirks ipv4OptionLength readIpv6 ipv6Facts ipv6Quirks ipv6ExtensionLength readingOf guessOf initialOf readTcp flagsInvalid maskedType isSynType isSynAckType knownPeer observationFrom observationOf quirksOfHeaders headerQuirks payloadClass walkOf walkFrom optionsAfter asked runsPast putEntry entryByte seeOption laterMss laterScale laterQuirks trailingNonzero excessiveScaling ownTimestampZero peerTimestampNonzero anyNonzero addIf with bitOf placeOf empty fromQuirks be16 be32 refusalOf
 not-free =
     record {
       apart = λ p q differs a. differs (read-alike p q mss.Absent a);

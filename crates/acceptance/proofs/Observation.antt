@@ -1,12 +1,11 @@
--- What holds of every reading: its layout and its quirks by flow's laws; the TTL, the peer's timestamp and the peer's MSS, stage by stage.
+-- What holds of every reading: its layout, its quirks and its peer's MSS by flow's laws; the TTL and the peer's timestamp, stage by stage.
 use mathlib.Core.Path.{_≡_, refl, sym, _∙_, ap}
-use mathlib.Core.Bool.{Bool, true, false, cond, not, _&&_, _||_, false≢true}
+use mathlib.Core.Bool.{Bool, true, false, cond, not, _&&_, false≢true}
 use mathlib.Core.List.{List, [], _∷_}
 use Prim.Native.Nat.{ℕ}
 use native.Mathlib.Omega.{arith}
-use lib.Dec.{eqb, leb, ltb}
+use lib.Dec.{eqb, leb}
 use lib.ListN.{length, take}
-use Rattle.basis.specs.Bytes.{part}
 use Rattle.basis.specs.Digits.{digit}
 use Rattle.rfc.specs.Rfc791 as v4
 use Rattle.rfc.specs.Rfc8200 as v6
@@ -30,17 +29,17 @@ use Rattle.syn_options.specs.declared.Walked.{Walked}
 use Rattle.syn_options.specs.Walk.{putOption, walkFrom, startWalk, walkOf}
 use Rattle.ip.specs.declared.IpFacts.{IpFacts}
 use Rattle.ip.specs.declared.IpRead.{IpRead}
-use Rattle.ip.specs.declared.IpRead.the-variants as ip
-use Rattle.ip.specs.declared.Refusal.{Refusal}
-use Rattle.ip.specs.Ip.{ipv4Quirks, ipv4Facts, readIpv4, ipv6Quirks, ipv6Facts, readIpv6, readIp}
+use Rattle.ip.specs.Ip.{ipv4Quirks, ipv4Facts, ipv6Quirks, ipv6Facts}
+use Rattle.ip.proofs.Ip.{Given, given}
 use Rattle.flow.specs.declared.Answer.{Answer}
 use Rattle.flow.specs.declared.Answer.the-variants as answer
 use Rattle.flow.specs.declared.Reading.{Reading}
 use Rattle.flow.specs.Flags.{flagsInvalid, isSynType, isSynAckType}
 use Rattle.flow.specs.Tcp.{headerQuirks, quirksOfHeaders, observationOf, observationFrom, knownPeer, readTcp}
-use Rattle.flow.specs.Reading.{tcpPart, afterIp, readPacket}
+use Rattle.flow.specs.Reading.{afterIp, readPacket}
+use Rattle.flow.specs.Peer.{peerBeside}
 use Rattle.flow.proofs.Observed.{sound}
-use Rattle.flow.proofs.Peer.{peer-only-synack}
+use Rattle.flow.proofs.Peer.{peer-beside, peer-only-synack}
 use Rattle.acceptance.specs.Demand2.{TheObservation}
 
 -- ---- a set without the peer's timestamp
@@ -98,44 +97,30 @@ header-lacks t q lacks =
 abbrev NoGuess : Ttl → Type 0
 NoGuess x = (t : ℕ) → x ≡ ttl.Guess t → ⊥
 
-record Shown (peer : Mss) (r : Reading) : Type 0 where
+record Shown (r : Reading) : Type 0 where
   guess : NoGuess (r .observation .ittl)
   stamp : contains (r .observation .quirks) quirk.PeerTimestampNonZero ≡ true → r .answer ≡ answer.Syn
-  syn : r .answer ≡ answer.Syn → r .observation .«peer_mss» ≡ mss.Absent
-  syn-ack : r .answer ≡ answer.SynAck → r .observation .«peer_mss» ≡ knownPeer peer
 
 record FactsFit (f : IpFacts) : Type 0 where
   guess : NoGuess (f .ittl)
   lacks : Lacks (f .quirks)
 
-module _ (peer : Mss) where
-  shown-empty : (a : Answer) → (a ≡ answer.SynAck → ⊥) → Shown peer (record { answer = a; observation = emptyObservation })
-  unfolding emptyObservation
-  shown-empty a other =
-      record {
-        guess = λ t e. let z : _≡_ {A = ℕ} 0 1 = cc in omega arith;
-        stamp = λ e. absurd (false≢true (sym lacks-empty ∙ e));
-        syn = λ e. refl;
-        syn-ack = λ e. absurd (other e);
-      }
+shown-empty : (a : Answer) → Shown (record { answer = a; observation = emptyObservation })
+unfolding emptyObservation
+shown-empty a =
+    record {
+      guess = λ t e. let z : _≡_ {A = ℕ} 0 1 = cc in omega arith;
+      stamp = λ e. absurd (false≢true (sym lacks-empty ∙ e));
+    }
 
-  shown-syn
-      : (f : IpFacts) (t : List ℕ) → FactsFit f → Shown peer (record { answer = answer.Syn; observation = observationFrom f t true mss.Absent })
+module _ (f : IpFacts) (t : List ℕ) (peer : Mss) (fits : FactsFit f) where
+  shown-syn : Shown (record { answer = answer.Syn; observation = observationFrom f t true mss.Absent })
   unfolding observationFrom observationOf
-  shown-syn f t fits =
-      record {
-        guess = fits .guess;
-        stamp = λ e. refl;
-        syn = λ e. refl;
-        syn-ack = λ e. let z : _≡_ {A = ℕ} 0 1 = cc in absurd (omega arith);
-      }
+  shown-syn = record { guess = fits .guess; stamp = λ e. refl }
 
-  shown-syn-ack
-      : (f : IpFacts) (t : List ℕ)
-      → FactsFit f
-      → Shown peer (record { answer = answer.SynAck; observation = observationFrom f t false (knownPeer peer) })
+  shown-syn-ack : Shown (record { answer = answer.SynAck; observation = observationFrom f t false (knownPeer peer) })
   unfolding observationFrom observationOf walkOf
-  shown-syn-ack f t fits =
+  shown-syn-ack =
       record {
         guess = fits .guess;
         stamp = λ e.
@@ -144,72 +129,40 @@ module _ (peer : Mss) where
             (sym
             (walk-lacks (startWalk (quirksOfHeaders t (f .quirks))) (optionsOf (take 40 (options t))) (header-lacks t (f .quirks) (fits .lacks)))
             ∙ e));
-        syn = λ e. let z : _≡_ {A = ℕ} 0 1 = cc in absurd (omega arith);
-        syn-ack = λ e. refl;
       }
 
-  either : (t : Bool) (a b : Reading) → Shown peer a → Shown peer b → Shown peer (cond {A = Reading} t a b)
+  either : (c : Bool) (a b : Reading) → Shown a → Shown b → Shown (cond {A = Reading} c a b)
   either true a b x y = x
   either false a b x y = y
 
-  shown-tcp : (f : IpFacts) (t : List ℕ) → FactsFit f → Shown peer (readTcp f t peer)
+  shown-tcp : Shown (readTcp f t peer)
   unfolding readTcp
-  shown-tcp f t fits =
-      either (flagsInvalid (control t)) _ _
-      (shown-empty _ (λ e. let z : _≡_ {A = ℕ} 0 1 = cc in omega arith))
-      (either (isSynType (control t)) _ _ (shown-syn f t fits)
-      (either (isSynAckType (control t)) _ _ (shown-syn-ack f t fits)
-      (shown-empty _ (λ e. let z : _≡_ {A = ℕ} 0 1 = cc in omega arith))))
+  shown-tcp =
+      either (flagsInvalid (control t)) _ _ (shown-empty _)
+      (either (isSynType (control t)) _ _ shown-syn (either (isSynAckType (control t)) _ _ shown-syn-ack (shown-empty _)))
 
--- ---- the IP stage
+-- ---- after the IP stage
 
-data IpFits : IpRead → Type 0 where
-  refused : {r : Refusal} → IpFits (ip.Refused r)
-  facts : {f : IpFacts} → FactsFit f → IpFits (ip.Facts f)
-
-choose : (t : Bool) {a b : IpRead} → IpFits a → IpFits b → IpFits (cond t a b)
-choose true x y = x
-choose false x y = y
-
-fits-v4 : (p : List ℕ) → IpFits (readIpv4 p)
-unfolding readIpv4 ipv4Facts ipv4Quirks placeOf
-fits-v4 p =
-    choose (ltb (length p) 20) refused
-    (choose (ltb (v4.ihl p) 5) refused
-    (choose (not (eqb (v4.protocol p) 6)) refused
-    (choose (ltb 0 (v4.fragmentOffset p) || eqb (v4.moreFragments p) 1) refused
-    (choose (ltb (length (part (v4.dataStart p) (v4.dataEnd p) p)) 20) refused
-    (facts {f = ipv4Facts p (v4.dataStart p) (v4.dataEnd p)}
+after-ip : (p : List ℕ) (peer : Mss) {n : ℕ} {r : IpRead} → Given p n r → Shown (afterIp readTcp r p peer)
+unfolding ipv4Facts ipv4Quirks ipv6Facts ipv6Quirks placeOf
+after-ip p peer (Given.refused small) = shown-empty _
+after-ip p peer (Given.four long words) =
+    shown-tcp _ _ peer
     (record {
       guess = never-guess (v4.ttl p);
-      lacks = lacks-add-if _ _ _ refl (lacks-add-if _ _ _ refl (lacks-add-if _ _ _ refl (lacks-add-if _ _ _ refl (lacks-add-if _ _ _ refl lacks-empty))));
-    }))))))
+      lacks = lacks-add-if _ _ _ refl
+          (lacks-add-if _ _ _ refl (lacks-add-if _ _ _ refl (lacks-add-if _ _ _ refl (lacks-add-if _ _ _ refl lacks-empty))));
+    })
+after-ip p peer (Given.six long) =
+    shown-tcp _ _ peer
+    (record { guess = never-guess (v6.hopLimit p); lacks = lacks-add-if _ _ _ refl (lacks-add-if _ _ _ refl lacks-empty) })
 
-fits-v6 : (p : List ℕ) → IpFits (readIpv6 p)
-unfolding readIpv6 ipv6Facts ipv6Quirks placeOf
-fits-v6 p =
-    choose (ltb (length p) 40) refused
-    (choose (not (eqb (v6.nextHeader p) 6)) refused
-    (choose (ltb (length (v6.payload p)) 20) refused
-    (facts {f = ipv6Facts p (v6.payloadEnd p)}
-    (record { guess = never-guess (v6.hopLimit p); lacks = lacks-add-if _ _ _ refl (lacks-add-if _ _ _ refl lacks-empty) }))))
-
-fits-ip : (p : List ℕ) → IpFits (readIp p)
-unfolding readIp
-fits-ip p =
-    choose (eqb (length p) 0) refused
-    (choose (eqb (v4.version p) 4) (fits-v4 p) (choose (eqb (v4.version p) 6) (fits-v6 p) refused))
-
-after-ip : (p : List ℕ) (peer : Mss) {r : IpRead} → IpFits r → Shown peer (afterIp r p peer)
-after-ip p peer refused = shown-empty peer _ (λ e. let z : _≡_ {A = ℕ} 0 1 = cc in omega arith)
-after-ip p peer (facts {f = f} fits) = shown-tcp peer f (tcpPart f p) fits
-
-reading-shown : (p : List ℕ) (peer : Mss) → Shown peer (readPacket p peer)
+reading-shown : (p : List ℕ) (peer : Mss) → Shown (readPacket p peer)
 unfolding readPacket
-reading-shown p peer = after-ip p peer (fits-ip p)
+reading-shown p peer = after-ip p peer (given p)
 
 pub the-observation : (p : List ℕ) (peer : Mss) → TheObservation p peer
-unfolding Within
+unfolding Within peerBeside
 the-observation p peer =
     let s = sound p peer in
     let r = reading-shown p peer in
@@ -221,7 +174,7 @@ the-observation p peer =
       of-seventeen = s .quirks .within;
       no-opt-bad = s .quirks .notBad;
       peer-stamp = r .stamp;
-      syn-has-none = r .syn;
-      syn-ack-takes = r .syn-ack;
-      no-other-takes = λ other. peer-only-synack peer other p;
+      syn-has-none = λ e. peer-beside p peer ∙ ap (λ (a : Answer). peerBeside a peer) e;
+      syn-ack-takes = λ e. peer-beside p peer ∙ ap (λ (a : Answer). peerBeside a peer) e;
+      no-other-takes = peer-only-synack p peer;
     }

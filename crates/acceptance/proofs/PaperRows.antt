@@ -5,9 +5,11 @@ use Prim.Native.Nat.{ℕ, zero, suc, _<_, _≤_}
 use native.Mathlib.Omega.{arith}
 use Rattle.tcp.specs.declared.Mss.{Mss}
 use Rattle.observable.specs.declared.TcpObservation.{TcpObservation}
-use Rattle.ip.specs.declared.Refusal.{Refusal}
-use Rattle.ip.specs.declared.Refusal.the-variants as refusal
-use Rattle.ip.specs.Numbers.{number}
+use Rattle.refusals.specs.declared.PacketRefusal.{PacketRefusal}
+use Rattle.refusals.specs.declared.ListRefusal.the-variants as why
+use Rattle.refusals.specs.declared.Refusal.the-variants as table
+use Rattle.refusals.specs.Refusals.{packetRefused}
+use Rattle.refusals.proofs.Back.{numbered}
 use Rattle.flow.specs.declared.Answer.{Answer}
 use Rattle.flow.specs.declared.Answer.the-variants as answer
 use Rattle.flow.specs.declared.Reading.{Reading}
@@ -27,66 +29,41 @@ use Rattle.bundle.specs.declared.BundleCheck.the-variants as bundle
 use Rattle.bundle.specs.Bundle.{listOf, checkBundle, bundleRefusal}
 use Rattle.gateway.specs.Code.{afterList, gatewayAnswer}
 use Rattle.acceptance.specs.Refusals.{First, PacketRow, packetOrder, Refused, Gives, Answered, ListRow}
-use Rattle.acceptance.specs.OnPaper.{alone, refusalPaper, answerPaper, packetPaper, optionsPaper, listPaper, searchPaper, bundlePaper, gatewayPaper, Also, IsRow, GatewayRow, Rows, SameNumbers}
+use Rattle.acceptance.specs.OnPaper.{alone, paperOf, answerPaper, packetPaper, optionsPaper, listPaper, searchPaper, bundlePaper, gatewayPaper, Also, IsRow, GatewayRow, Rows, TheTable}
 use Rattle.acceptance.proofs.Refusals.{refusals}
-use Rattle.acceptance.proofs.PaperStages.{same-number, ip-row, header-row}
+use Rattle.acceptance.proofs.PaperStages.{others, under-7, ip-row, header-row}
 
 -- ---- the numbers
 
 packet-same : (a : Answer) → refusalOf a ≡ answerPaper a .number
 unfolding refusalOf
-packet-same answer.Syn = refl
-packet-same answer.SynAck = refl
-packet-same answer.Nothing = refl
-packet-same (answer.Refused r) = same-number r
+packet-same a = refl
 
 options-same : (a : OptionsAnswer) → optionsRefusal a ≡ optionsPaper a .number
 unfolding optionsRefusal
-options-same options.Parsed = refl
-options-same options.Refused = refl
+options-same a = refl
 
 list-same : (a : ListAnswer) → listRefusal a ≡ listPaper a .number
 unfolding listRefusal
-list-same list.Good = refl
-list-same list.DoesNotFit = refl
-list-same (list.BadRecord i) = refl
+list-same a = refl
 
 search-same : (a : SearchAnswer) → searchRefusal a ≡ searchPaper a .number
 unfolding searchRefusal
-search-same (search.Found f) = refl
-search-same search.DoesNotFit = refl
-search-same (search.BadRecord i) = refl
-search-same search.LayoutTooLong = refl
+search-same a = refl
 
 bundle-same : (a : BundleCheck) → bundleRefusal a ≡ bundlePaper a .number
 unfolding bundleRefusal
-bundle-same bundle.Good = refl
-bundle-same bundle.ListDoesNotFit = refl
-bundle-same (bundle.BadRecord i) = refl
-bundle-same bundle.DoesNotFit = refl
+bundle-same a = refl
 
 -- ---- what a packet's row returns
 
 module _ (p l : List ℕ) where
-  others : (n : ℕ) → (n ≡ 7 → ⊥) → (n ≡ 10 → ⊥) → Also p l (alone n)
-  others n seven ten = Also.of-others seven ten
-
-  under-7 : (r : Refusal) → number r < 7 → Also p l (refusalPaper r)
-  unfolding number
-  under-7 refusal.Version h = others 1 (λ e. omega arith) (λ e. omega arith)
-  under-7 refusal.TooShort h = others 2 (λ e. omega arith) (λ e. omega arith)
-  under-7 refusal.HeaderLength h = others 3 (λ e. omega arith) (λ e. omega arith)
-  under-7 refusal.UnsupportedProtocol h = others 4 (λ e. omega arith) (λ e. omega arith)
-  under-7 refusal.Fragment h = others 5 (λ e. omega arith) (λ e. omega arith)
-  under-7 refusal.TcpTooShort h = others 6 (λ e. omega arith) (λ e. omega arith)
-  under-7 (refusal.InvalidTcpFlags byte) h = absurd (omega arith)
-
-  of-refused : {r : Refusal} → Refused p r → Also p l (refusalPaper r)
-  of-refused (Refused.nothing-more {r} h) = under-7 r h
+  of-refused : {r : PacketRefusal} → Refused p r → Also p l (paperOf (packetRefused r))
+  of-refused (Refused.nothing-more {r} h) = under-7 p l r h
   of-refused (Refused.flags-byte b) = Also.of-7 b
 
   none-returned : Also p l (alone 0)
-  none-returned = others 0 (λ e. omega arith) (λ e. omega arith)
+  none-returned = others p l 0 (λ e. omega arith) (λ e. omega arith)
 
   of-answered : {x : Reading} → Answered p x → Also p l (answerPaper (x .answer))
   of-answered (Answered.syn b e) = none-returned
@@ -107,19 +84,19 @@ module _ (p l : List ℕ) where
 
   list-also : (a : ListAnswer) → checkList l ≡ a → Also p l (listPaper a)
   list-also list.Good e = none-returned
-  list-also list.DoesNotFit e = others 9 (λ e. omega arith) (λ e. omega arith)
-  list-also (list.BadRecord i) e = Also.of-10 (refusals .list-gives l i e)
+  list-also (list.Refused why.DoesNotFit) e = others p l 9 (λ e. omega arith) (λ e. omega arith)
+  list-also (list.Refused (why.BadRecord i)) e = Also.of-10 (refusals .list-gives l i e)
 
   search-also : (o : TcpObservation) (a : SearchAnswer) → searchList o l ≡ a → Also p l (searchPaper a)
   search-also o (search.Found f) e = none-returned
-  search-also o search.DoesNotFit e = others 9 (λ e. omega arith) (λ e. omega arith)
-  search-also o (search.BadRecord i) e = Also.of-10 (refusals .search-gives o l i e)
-  search-also o search.LayoutTooLong e = others 11 (λ e. omega arith) (λ e. omega arith)
+  search-also o (search.List why.DoesNotFit) e = others p l 9 (λ e. omega arith) (λ e. omega arith)
+  search-also o (search.List (why.BadRecord i)) e = Also.of-10 (refusals .search-gives o l i e)
+  search-also o search.LayoutTooLong e = others p l 11 (λ e. omega arith) (λ e. omega arith)
 
 bundle-also : (b : List ℕ) (a : BundleCheck) → checkBundle b ≡ a → Also [] (listOf b) (bundlePaper a)
 bundle-also b bundle.Good e = none-returned [] (listOf b)
-bundle-also b bundle.ListDoesNotFit e = others [] (listOf b) 9 (λ e. omega arith) (λ e. omega arith)
-bundle-also b (bundle.BadRecord i) e = Also.of-10 (refusals .bundle-gives b i e)
+bundle-also b (bundle.List why.DoesNotFit) e = others [] (listOf b) 9 (λ e. omega arith) (λ e. omega arith)
+bundle-also b (bundle.List (why.BadRecord i)) e = Also.of-10 (refusals .bundle-gives b i e)
 bundle-also b bundle.DoesNotFit e = others [] (listOf b) 12 (λ e. omega arith) (λ e. omega arith)
 
 options-also : (a : OptionsAnswer) → Also [] [] (optionsPaper a)
@@ -222,21 +199,12 @@ module _ (p l : List ℕ) where
       by-list list.Good e f =
           let row = packet-answer-row (peerOf peer) in
           record { first = behind-list f refl (as-gateway packetOrder under-8 (row .first)); also = row .also }
-      by-list list.DoesNotFit e f = record { first = in-list f (omega arith); also = list-also p l list.DoesNotFit e }
-      by-list (list.BadRecord i) e f = record { first = in-list f (omega arith); also = list-also p l (list.BadRecord i) e }
+      by-list (list.Refused r) e f = record { first = in-list f (numbered (table.List r) .0); also = list-also p l (list.Refused r) e }
 
 -- ---- together
 
-pub numbers : SameNumbers
-numbers =
-    record {
-      refusal = same-number;
-      packet = packet-same;
-      options = options-same;
-      list = list-same;
-      search = search-same;
-      bundle = bundle-same;
-    }
+pub the-table : TheTable
+the-table value = refl
 
 pub rows : Rows
 rows =

@@ -1,135 +1,103 @@
 -- Nothing of a refusal is lost on paper: every one is read back.
-use mathlib.Core.Path.{_≡_, refl, sym, _∙_, ap, subst}
-use mathlib.Core.Bool.{cond}
-use Prim.Native.Nat.{_<_}
-use native.Mathlib.Omega.{arith}
-use lib.Dec.{eqb}
-use Rattle.ip.specs.declared.IpRead.{IpRead}
+use mathlib.Core.Path.{_≡_, refl, ap}
+use Rattle.refusals.specs.declared.PacketRefusal.{PacketRefusal}
+use Rattle.refusals.specs.declared.PacketRefusal.the-variants as refusal
+use Rattle.refusals.specs.declared.ListRefusal.{ListRefusal}
+use Rattle.refusals.specs.declared.Refusal.{Refusal}
+use Rattle.refusals.specs.Refusals.{byKind, Verdict}
+use Rattle.refusals.proofs.Back.{IfRefused, told-apart}
 use Rattle.ip.specs.declared.IpRead.the-variants as ip
-use Rattle.ip.specs.declared.Refusal.{Refusal}
-use Rattle.ip.specs.declared.Refusal.the-variants as refusal
-use Rattle.flow.specs.declared.Answer.{Answer}
+use Rattle.ip.specs.Ip.{ipVerdict}
 use Rattle.flow.specs.declared.Answer.the-variants as answer
-use Rattle.syn_options.specs.declared.OptionsAnswer.{OptionsAnswer}
+use Rattle.flow.specs.Reading.{answerVerdict}
 use Rattle.syn_options.specs.declared.OptionsAnswer.the-variants as options
-use Rattle.siglist.specs.declared.Header.{Header}
+use Rattle.syn_options.specs.Walk.{optionsVerdict}
 use Rattle.siglist.specs.declared.Header.the-variants as header
-use Rattle.siglist.specs.declared.ListAnswer.{ListAnswer}
 use Rattle.siglist.specs.declared.ListAnswer.the-variants as list
-use Rattle.search.specs.declared.SearchAnswer.{SearchAnswer}
+use Rattle.siglist.specs.List.{headerVerdict, listVerdict}
 use Rattle.search.specs.declared.SearchAnswer.the-variants as search
-use Rattle.packet_answer.specs.declared.PacketAnswer.{PacketAnswer}
+use Rattle.search.specs.Search.{searchVerdict}
 use Rattle.packet_answer.specs.declared.PacketAnswer.the-variants as packet
-use Rattle.bundle.specs.declared.BundleCheck.{BundleCheck}
+use Rattle.packet_answer.specs.Packet.{packetVerdict}
 use Rattle.bundle.specs.declared.BundleCheck.the-variants as bundle
-use Rattle.gateway.specs.declared.GatewayAnswer.{GatewayAnswer}
+use Rattle.bundle.specs.Bundle.{bundleVerdict}
 use Rattle.gateway.specs.declared.GatewayAnswer.the-variants as gateway
-use Rattle.gateway.specs.Decode.{refusalFrom}
-use Rattle.acceptance.specs.OnPaper.{Paper, refusalPaper, ipPaper, answerPaper, packetPaper, optionsPaper, headerPaper, listPaper, searchPaper, bundlePaper, gatewayPaper, valueOf, ToldApart, Told}
+use Rattle.gateway.specs.Code.{gatewayVerdict}
+use Rattle.gateway.specs.Decode.{refusedAs}
+use Rattle.acceptance.specs.OnPaper.{Paper, paperOf, ToldApart, Told}
 
-by-back : {A : Type 0} (paper : A → Paper) (from : Paper → A) → ((a : A) → 0 < paper a .number → from (paper a) ≡ a) → ToldApart paper
-by-back paper from back a b h e =
-    sym (back a h) ∙ ap from e ∙ back b (subst (λ (x : Paper). 0 < x .number) e h)
+-- Each refusal of an answer type gives its answer again.
+abbrev Again : {A : Type 0} → (Refusal → A) → (A → Verdict) → Type 0
+Again {A} from verdict = (a : A) → IfRefused (λ (r : Refusal). from r ≡ a) (verdict a)
 
-abbrev refusalBack : Paper → Refusal
-refusalBack x = refusalFrom (x .number) (valueOf (x .also))
+by-again : {A : Type 0} (from : Refusal → A) (verdict : A → Verdict) → Again from verdict → ToldApart (λ (a : A). paperOf (verdict a))
+by-again from verdict again a b h e =
+    told-apart verdict from again a b h (ap (λ (x : Paper). x .number) e) (ap (λ (x : Paper). x .also) e)
 
-refusal-back : (r : Refusal) → refusalBack (refusalPaper r) ≡ r
-refusal-back refusal.Version = refl
-refusal-back refusal.TooShort = refl
-refusal-back refusal.HeaderLength = refl
-refusal-back refusal.UnsupportedProtocol = refl
-refusal-back refusal.Fragment = refl
-refusal-back refusal.TcpTooShort = refl
-refusal-back (refusal.InvalidTcpFlags byte) = refl
+-- An answer type whose refusals are a packet's.
+abbrev ofPacket : {A : Type 0} → (PacketRefusal → A) → Refusal → A
+ofPacket refused r = byKind refused (λ why. refused refusal.Version) (refused refusal.Version) r
 
-ip-back : (a : IpRead) → 0 < ipPaper a .number → ip.Refused (refusalBack (ipPaper a)) ≡ a
-ip-back (ip.Refused r) h = ap ip.Refused (refusal-back r)
-ip-back (ip.Facts f) h = absurd (omega arith)
+ip-again : Again (ofPacket ip.Refused) ipVerdict
+ip-again (ip.Refused r) = refl
+ip-again (ip.Facts f) = tt
 
-header-back : (a : Header) → 0 < headerPaper a .number → header.DoesNotFit ≡ a
-header-back (header.Fits areas) h = absurd (omega arith)
-header-back header.DoesNotFit h = refl
+answer-again : Again (ofPacket answer.Refused) answerVerdict
+answer-again answer.Syn = tt
+answer-again answer.SynAck = tt
+answer-again answer.Nothing = tt
+answer-again (answer.Refused r) = refl
 
-answer-back : (a : Answer) → 0 < answerPaper a .number → answer.Refused (refusalBack (answerPaper a)) ≡ a
-answer-back answer.Syn h = absurd (omega arith)
-answer-back answer.SynAck h = absurd (omega arith)
-answer-back answer.Nothing h = absurd (omega arith)
-answer-back (answer.Refused r) h = ap answer.Refused (refusal-back r)
+packet-again : Again (ofPacket packet.Refused) packetVerdict
+packet-again (packet.Syn f) = tt
+packet-again (packet.SynAck f) = tt
+packet-again packet.Nothing = tt
+packet-again (packet.Refused r) = refl
 
-packet-back : (a : PacketAnswer) → 0 < packetPaper a .number → packet.Refused (refusalBack (packetPaper a)) ≡ a
-packet-back (packet.Syn f) h = absurd (omega arith)
-packet-back (packet.SynAck f) h = absurd (omega arith)
-packet-back packet.Nothing h = absurd (omega arith)
-packet-back (packet.Refused r) h = ap packet.Refused (refusal-back r)
+options-again : Again (λ r. options.Refused) optionsVerdict
+options-again options.Parsed = tt
+options-again options.Refused = refl
 
-options-back : (a : OptionsAnswer) → 0 < optionsPaper a .number → options.Refused ≡ a
-options-back options.Parsed h = absurd (omega arith)
-options-back options.Refused h = refl
+header-again : Again (λ r. header.DoesNotFit) headerVerdict
+header-again (header.Fits areas) = tt
+header-again header.DoesNotFit = refl
 
-abbrev listBack : Paper → ListAnswer
-listBack x = cond (eqb (x .number) 9) list.DoesNotFit (list.BadRecord (valueOf (x .also)))
+-- One whose refusals are a list's, and one more or none.
+abbrev ofList : {A : Type 0} → (ListRefusal → A) → A → Refusal → A
+ofList refused other r = byKind (λ why. other) refused other r
 
-list-back : (a : ListAnswer) → 0 < listPaper a .number → listBack (listPaper a) ≡ a
-list-back list.Good h = absurd (omega arith)
-list-back list.DoesNotFit h = refl
-list-back (list.BadRecord i) h = refl
+list-again : Again (ofList list.Refused list.Good) listVerdict
+list-again list.Good = tt
+list-again (list.Refused r) = refl
 
-abbrev searchBack : Paper → SearchAnswer
-searchBack x =
-    cond (eqb (x .number) 11) search.LayoutTooLong
-    (cond (eqb (x .number) 9) search.DoesNotFit (search.BadRecord (valueOf (x .also))))
+search-again : Again (ofList search.List search.LayoutTooLong) searchVerdict
+search-again (search.Found f) = tt
+search-again search.LayoutTooLong = refl
+search-again (search.List r) = refl
 
-search-back : (a : SearchAnswer) → 0 < searchPaper a .number → searchBack (searchPaper a) ≡ a
-search-back (search.Found f) h = absurd (omega arith)
-search-back search.DoesNotFit h = refl
-search-back (search.BadRecord i) h = refl
-search-back search.LayoutTooLong h = refl
+bundle-again : Again (ofList bundle.List bundle.DoesNotFit) bundleVerdict
+bundle-again bundle.Good = tt
+bundle-again bundle.DoesNotFit = refl
+bundle-again (bundle.List r) = refl
 
-abbrev bundleBack : Paper → BundleCheck
-bundleBack x =
-    cond (eqb (x .number) 12) bundle.DoesNotFit
-    (cond (eqb (x .number) 9) bundle.ListDoesNotFit (bundle.BadRecord (valueOf (x .also))))
-
-bundle-back : (a : BundleCheck) → 0 < bundlePaper a .number → bundleBack (bundlePaper a) ≡ a
-bundle-back bundle.Good h = absurd (omega arith)
-bundle-back bundle.ListDoesNotFit h = refl
-bundle-back (bundle.BadRecord i) h = refl
-bundle-back bundle.DoesNotFit h = refl
-
-abbrev gatewayBack : Paper → GatewayAnswer
-gatewayBack x =
-    cond (eqb (x .number) 9) gateway.ListDoesNotFit
-    (cond (eqb (x .number) 10) (gateway.BadRecord (valueOf (x .also))) (gateway.Packet (packet.Refused (refusalBack x))))
-
-gateway-refused : (r : Refusal) → gatewayBack (refusalPaper r) ≡ gateway.Packet (packet.Refused r)
-gateway-refused refusal.Version = refl
-gateway-refused refusal.TooShort = refl
-gateway-refused refusal.HeaderLength = refl
-gateway-refused refusal.UnsupportedProtocol = refl
-gateway-refused refusal.Fragment = refl
-gateway-refused refusal.TcpTooShort = refl
-gateway-refused (refusal.InvalidTcpFlags byte) = refl
-
-gateway-back : (a : GatewayAnswer) → 0 < gatewayPaper a .number → gatewayBack (gatewayPaper a) ≡ a
-gateway-back (gateway.Packet (packet.Syn f)) h = absurd (omega arith)
-gateway-back (gateway.Packet (packet.SynAck f)) h = absurd (omega arith)
-gateway-back (gateway.Packet packet.Nothing) h = absurd (omega arith)
-gateway-back (gateway.Packet (packet.Refused r)) h = gateway-refused r
-gateway-back gateway.ListDoesNotFit h = refl
-gateway-back (gateway.BadRecord i) h = refl
+gateway-again : Again refusedAs gatewayVerdict
+gateway-again (gateway.Packet (packet.Syn f)) = tt
+gateway-again (gateway.Packet (packet.SynAck f)) = tt
+gateway-again (gateway.Packet packet.Nothing) = tt
+gateway-again (gateway.Packet (packet.Refused r)) = refl
+gateway-again (gateway.List r) = refl
 
 pub told : Told
 told =
     record {
-      refusal = by-back refusalPaper refusalBack (λ r h. refusal-back r);
-      ip = by-back ipPaper (λ x. ip.Refused (refusalBack x)) ip-back;
-      packet = by-back answerPaper (λ x. answer.Refused (refusalBack x)) answer-back;
-      options = by-back optionsPaper (λ x. options.Refused) options-back;
-      header = by-back headerPaper (λ x. header.DoesNotFit) header-back;
-      list = by-back listPaper listBack list-back;
-      search = by-back searchPaper searchBack search-back;
-      bundle = by-back bundlePaper bundleBack bundle-back;
-      packet-answer = by-back packetPaper (λ x. packet.Refused (refusalBack x)) packet-back;
-      gateway = by-back gatewayPaper gatewayBack gateway-back;
+      refusal = by-again (λ r. r) Verdict.refused (λ r. refl);
+      ip = by-again (ofPacket ip.Refused) ipVerdict ip-again;
+      packet = by-again (ofPacket answer.Refused) answerVerdict answer-again;
+      options = by-again (λ r. options.Refused) optionsVerdict options-again;
+      header = by-again (λ r. header.DoesNotFit) headerVerdict header-again;
+      list = by-again (ofList list.Refused list.Good) listVerdict list-again;
+      search = by-again (ofList search.List search.LayoutTooLong) searchVerdict search-again;
+      bundle = by-again (ofList bundle.List bundle.DoesNotFit) bundleVerdict bundle-again;
+      packet-answer = by-again (ofPacket packet.Refused) packetVerdict packet-again;
+      gateway = by-again refusedAs gatewayVerdict gateway-again;
     }

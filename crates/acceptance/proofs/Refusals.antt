@@ -14,6 +14,8 @@ use Rattle.syn_options.specs.declared.OptionsAnswer.the-variants as optionsAnsw
 use Rattle.syn_options.specs.declared.OptionsRead.{OptionsRead}
 use Rattle.syn_options.specs.Walk.{startWalk, walkOf, parsedOf, parseOptionsRaw, optionsRefusal}
 use Rattle.syn_options.proofs.Entries.{refused-over-forty}
+use Rattle.refusals.specs.declared.ListRefusal.{ListRefusal}
+use Rattle.refusals.specs.declared.ListRefusal.the-variants as why
 use Rattle.siglist.specs.declared.ListAnswer.{ListAnswer}
 use Rattle.siglist.specs.declared.ListAnswer.the-variants as listAnswer
 use Rattle.siglist.specs.List.{recordCount, recordsOffset, layoutCount, layoutOffset, listFits, checkList, listRefusal}
@@ -25,7 +27,7 @@ use Rattle.search.proofs.SearchOrder.{search-order}
 use Rattle.acceptance.specs.Refusals.{First, OptionsRow, FirstBad, ListRow, SearchRow, Refusals}
 use Rattle.bundle.specs.Bundle.{listOf}
 use Rattle.acceptance.proofs.BadRecord.{bad-of, good-not-bad, record-bad}
-use Rattle.acceptance.proofs.BundleRefusals.{bundle-row, bad-of-list, none-beside, answered}
+use Rattle.acceptance.proofs.BundleRefusals.{bundle-row, refused-of-list, none-beside, answered}
 use Rattle.acceptance.proofs.Fails.{and-false}
 use Rattle.acceptance.proofs.First.{by-test, exactly}
 use Rattle.acceptance.proofs.PacketGives.{packet-gives, packet-answers}
@@ -102,14 +104,14 @@ module _ (l : List ℕ) where
       by-fit false e = rw (does-not-fit l e) (First.here (fits-not e))
 
   -- The index of refusal 10.
-  named-bad : {a : ListAnswer} (i : ℕ) → Checked l 0 (recordCount l) a → a ≡ listAnswer.BadRecord i → FirstBad l i
+  named-bad : {a : ListAnswer} (i : ℕ) → Checked l 0 (recordCount l) a → a ≡ listAnswer.Refused (why.BadRecord i) → FirstBad l i
   named-bad i (Checked.all-good good) e = let z : _≡_ {A = ℕ} 0 1 = cc in absurd (omega arith)
   named-bad i (Checked.first-bad k h j bad before) e =
       let same : k ≡ i = cc in
       rw (← same)
       (record { within = omega arith; bad = bad-of l k bad; before = λ m b. good-not-bad l m (before m (omega arith) b) })
 
-  list-gives : (i : ℕ) → checkList l ≡ listAnswer.BadRecord i → FirstBad l i
+  list-gives : (i : ℕ) → checkList l ≡ listAnswer.Refused (why.BadRecord i) → FirstBad l i
   list-gives i e = by-fit (listFits l) refl
     where
       by-fit : (t : Bool) → listFits l ≡ t → FirstBad l i
@@ -144,21 +146,20 @@ module _ (o : TcpObservation) (l : List ℕ) where
       (by-test (ltb 40 (o .olayout .count)) (λ e. SearchRow.layout-over-40 (ltb-true 40 (o .olayout .count) e)) few (λ e.
       as-list (list-row l)))
 
-  after-bad : (a : ListAnswer) (i : ℕ) → afterListCheck a o l ≡ searchAnswer.BadRecord i → a ≡ listAnswer.BadRecord i
-  after-bad listAnswer.Good i e = let z : _≡_ {A = ℕ} 0 1 = cc in absurd (omega arith)
-  after-bad listAnswer.DoesNotFit i e = let z : _≡_ {A = ℕ} 0 1 = cc in absurd (omega arith)
-  after-bad (listAnswer.BadRecord k) i e = let same : k ≡ i = cc in ap listAnswer.BadRecord same
+  after-refused : (a : ListAnswer) (r : ListRefusal) → afterListCheck a o l ≡ searchAnswer.List r → a ≡ listAnswer.Refused r
+  after-refused listAnswer.Good r e = let z : _≡_ {A = ℕ} 0 1 = cc in absurd (omega arith)
+  after-refused (listAnswer.Refused s) r e = let same : s ≡ r = cc in ap listAnswer.Refused same
 
-  search-gives : (i : ℕ) → searchList o l ≡ searchAnswer.BadRecord i → FirstBad l i
+  search-gives : (i : ℕ) → searchList o l ≡ searchAnswer.List (why.BadRecord i) → FirstBad l i
   unfolding searchList
   search-gives i = by-count (ltb 40 (o .olayout .count))
     where
       by-count
           : (t : Bool)
-          → cond {A = SearchAnswer} t searchAnswer.LayoutTooLong (afterListCheck (checkList l) o l) ≡ searchAnswer.BadRecord i
+          → cond {A = SearchAnswer} t searchAnswer.LayoutTooLong (afterListCheck (checkList l) o l) ≡ searchAnswer.List (why.BadRecord i)
           → FirstBad l i
       by-count true e = let z : _≡_ {A = ℕ} 0 1 = cc in absurd (omega arith)
-      by-count false e = list-gives l i (after-bad (checkList l) i e)
+      by-count false e = list-gives l i (after-refused (checkList l) (why.BadRecord i) e)
 
 pub refusals : Refusals
 refusals =
@@ -174,7 +175,7 @@ refusals =
       search = λ o l. exactly (search-row o l);
       search-gives = search-gives;
       bundle = λ b. exactly (bundle-row b (list-row (listOf b)));
-      bundle-gives = λ b i e. list-gives (listOf b) i (bad-of-list b i e);
+      bundle-gives = λ b i e. list-gives (listOf b) i (refused-of-list b (why.BadRecord i) e);
       bundle-refused = none-beside;
       bundle-answered = answered;
     }

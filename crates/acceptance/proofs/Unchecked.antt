@@ -1,5 +1,5 @@
 -- What the functions that do not refuse answer.
-use mathlib.Core.Path.{_≡_, refl, _∙_, ap}
+use mathlib.Core.Path.{_≡_, refl, sym, _∙_, ap}
 use mathlib.Core.Bool.{Bool, true, false, cond, _&&_}
 use mathlib.Core.List.{List, [], _∷_}
 use Prim.Native.Nat.{ℕ, _<_, _≤_}
@@ -10,21 +10,21 @@ use lib.Seq.{take-take}
 use borrow.Author.Tests.{le-ltb, ne-eqb, leb-true}
 use Rattle.basis.proofs.Tests.{and-left, and-right, and-false}
 use Rattle.syn_options.specs.Walk.{walkOf, parseOptionsRaw}
-use Rattle.gates.specs.Gates.{layoutMatches}
+use Rattle.matching.specs.Gates.{layoutMatches}
 use Rattle.matching.specs.declared.Features.{Features}
-use Rattle.matching.specs.declared.SignatureFit.{SignatureFit}
 use Rattle.matching.specs.declared.SignatureFit.the-variants as fit
 use Rattle.matching.specs.Fit.{featuresOf, fitOf}
-use Rattle.sigrecord.specs.Record.{entryCount, labelOf, scalarsGood}
+use Rattle.sigrecord.specs.Record.{entryCount}
+use Rattle.sigrecord.specs.WellFormed.{scalarsGood}
 use Rattle.siglist.specs.declared.ListAnswer.{ListAnswer}
+use Rattle.refusals.specs.declared.ListRefusal.the-variants as why
 use Rattle.siglist.specs.declared.ListAnswer.the-variants as list
 use Rattle.siglist.specs.List.{recordCount, recordAt, listFits, layoutLies, recordGood, checkList}
 use Rattle.siglist.proofs.FirstBad.{Checked, first-bad-named}
-use Rattle.found.specs.declared.Found.{Found}
-use Rattle.found.specs.declared.Found.the-variants as found
-use Rattle.found.specs.Keep.{isNone, keep}
-use Rattle.search.specs.Search.{fitAt, searchFrom, numbersFrom, searchOver, searchAll, searchList}
-use Rattle.search.proofs.Rows.{keep-none, none-found}
+use Rattle.found.specs.Least.{numbersFrom}
+use Rattle.found.proofs.Least.{Without, end, stays-in, left-out}
+use Rattle.search.specs.Search.{fitAt, rankAt, searchOver, searchAll, searchList}
+use Rattle.search.proofs.Rows.{no-rank, none-fits, none-found, without}
 use Rattle.flow.specs.Reading.{readPacket}
 use Rattle.packet_answer.specs.declared.PacketAnswer.the-variants as packet
 use Rattle.bundle.specs.declared.BundleCheck.the-variants as check
@@ -43,31 +43,19 @@ module _ (f : Features) (kinds bytes l : List ℕ) where
   unfolding fitAt
   bad-fits-not i e = simp (e, and-false)
 
-  passed : (held : Found) (label : ℕ) (x : SignatureFit) → x ≡ fit.None → keep held label x ≡ held
-  unfolding isNone
-  passed held label x e = keep-none held label x (rw e refl)
-
   -- The bad records of a row may be left out.
-  good-row : (held : Found) (is : List ℕ) → searchFrom held f kinds bytes l is ≡ searchFrom held f kinds bytes l (goodOnes l is)
-  unfolding searchFrom goodOnes
-  good-row held [] = refl
-  good-row held (i ∷ is) =
-      by-test (recordGood l i) refl (good-row (keep held (labelOf (recordAt l i)) (fitAt f kinds bytes l i)) is)
+  good-ones : (is : List ℕ) → Without (rankAt f kinds bytes l) (goodOnes l is) is
+  unfolding goodOnes
+  good-ones [] = end
+  good-ones (i ∷ is) = by-test (recordGood l i) refl (good-ones is)
     where
       by-test
           : (t : Bool)
           → recordGood l i ≡ t
-          → searchFrom (keep held (labelOf (recordAt l i)) (fitAt f kinds bytes l i)) f kinds bytes l is
-          ≡ searchFrom (keep held (labelOf (recordAt l i)) (fitAt f kinds bytes l i)) f kinds bytes l (goodOnes l is)
-          → searchFrom held f kinds bytes l (i ∷ is) ≡ searchFrom held f kinds bytes l (cond t (i ∷ goodOnes l is) (goodOnes l is))
-      by-test true e rest = rest
-      by-test false e rest =
-          rest ∙ ap (λ (h : Found). searchFrom h f kinds bytes l (goodOnes l is)) (passed held _ _ (bad-fits-not i e))
-
-  all-none : ((i : ℕ) → fitAt f kinds bytes l i ≡ fit.None) → (is : List ℕ) → searchFrom found.None f kinds bytes l is ≡ found.None
-  unfolding searchFrom keep
-  all-none none [] = refl
-  all-none none (i ∷ is) = rw (none i) (all-none none is)
+          → Without (rankAt f kinds bytes l) (goodOnes l is) is
+          → Without (rankAt f kinds bytes l) (cond t (i ∷ goodOnes l is) (goodOnes l is)) (i ∷ is)
+      by-test true e rest = stays-in rest
+      by-test false e rest = left-out (no-rank f kinds bytes l i (bad-fits-not i e)) rest
 
 -- ---- an observation with too long a layout
 
@@ -98,11 +86,11 @@ module _ (f : Features) (kinds bytes l : List ℕ) (long : 40 < f .count) where
 
 -- ---- a list that does not fit
 
-never-unfit : {l : List ℕ} {a : ListAnswer} → Checked l 0 (recordCount l) a → a ≡ list.DoesNotFit → ⊥
+never-unfit : {l : List ℕ} {a : ListAnswer} → Checked l 0 (recordCount l) a → a ≡ list.Refused why.DoesNotFit → ⊥
 never-unfit (Checked.all-good all) e = let z : _≡_ {A = ℕ} 0 1 = cc in omega arith
 never-unfit (Checked.first-bad k b u bad before) e = let z : _≡_ {A = ℕ} 0 1 = cc in omega arith
 
-unfit : (l : List ℕ) → checkList l ≡ list.DoesNotFit → listFits l ≡ false
+unfit : (l : List ℕ) → checkList l ≡ list.Refused why.DoesNotFit → listFits l ≡ false
 unfit l e = by-test (listFits l) refl
   where
     by-test : (t : Bool) → listFits l ≡ t → t ≡ false
@@ -112,8 +100,7 @@ unfit l e = by-test (listFits l) refl
 good-code : (a : ListAnswer) → listCode a ≡ 0 → a ≡ list.Good
 unfolding listCode codeOf fieldsOf
 good-code list.Good e = refl
-good-code list.DoesNotFit e = absurd (omega arith)
-good-code (list.BadRecord i) e = absurd (omega arith)
+good-code (list.Refused r) e = absurd (omega arith)
 
 -- ---- the statements
 
@@ -122,10 +109,13 @@ unfolding searchAll searchOver searchList checkList featuresOf
 search-unchecked =
     record {
       same = λ o l few good. rw (le-ltb 40 (o .olayout .count) few, good);
-      bad-record = λ o l. good-row (featuresOf o) (o .olayout .kinds) (o .olayout .bytes) l found.None (numbersFrom 0 (recordCount l));
+      bad-record = λ o l.
+          sym
+          (without (featuresOf o) (o .olayout .kinds) (o .olayout .bytes) l
+          (good-ones (featuresOf o) (o .olayout .kinds) (o .olayout .bytes) l (numbersFrom 0 (recordCount l))));
       does-not-fit = λ o l e. none-found (featuresOf o) (o .olayout .kinds) (o .olayout .bytes) l (unfit l e) (numbersFrom 0 (recordCount l));
       layout-too-long = λ o l long.
-          all-none (featuresOf o) (o .olayout .kinds) (o .olayout .bytes) l
+          none-fits (featuresOf o) (o .olayout .kinds) (o .olayout .bytes) l
           (long-fits-not (featuresOf o) (o .olayout .kinds) (o .olayout .bytes) l long) (numbersFrom 0 (recordCount l));
     }
 

@@ -14,23 +14,26 @@ use Rattle.one_option.specs.Options.{asked, runsPast, optionsAfter}
 use Rattle.one_option.specs.See.{laterMss, laterScale, trailingNonzero, excessiveScaling, ownTimestampZero, peerTimestampNonzero, laterQuirks, seeOption}
 use Rattle.syn_options.specs.Walk.{entryByte, putEntry, walkFrom, walkOf, parseOptionsRaw}
 use Rattle.ip.specs.Ip.{ipv4Quirks, ipv4Facts, readIpv4, readIp}
-use Rattle.ip.specs.Numbers.{number}
 use Rattle.flow.specs.Flags.{maskedType, flagsInvalid, isSynType}
 use Rattle.flow.specs.Tcp.{headerQuirks, quirksOfHeaders, payloadClass, observationOf, observationFrom, readTcp}
 use Rattle.flow.specs.Reading.{readPacket, refusalOf}
 use Rattle.distances.specs.DistanceGates.{versionMatches, windowMatches, payloadMatches}
 use Rattle.distances.specs.Distances.{ttlFit}
-use Rattle.gates.specs.Gates.{olenMatches, mssMatches, scaleMatches, entriesMatch, layoutMatches, entryGood, entriesGood}
+use Rattle.sigrecord.specs.Layout.{entryGood, entriesGood}
+use Rattle.matching.specs.Gates.{olenMatches, mssMatches, scaleMatches, entriesMatch, layoutMatches}
 use Rattle.matching.specs.Tolerance.{maskedQuirks, quirksFit, judgeInRange, judge}
 use Rattle.matching.specs.Fit.{featuresOf, scalarGates, toleranceOf, fitOf}
-use Rattle.sigrecord.specs.Record.{versionOf, ttlOf, mssOf, scaleOf, windowOf, payloadOf, signatureOf, versionGood, ttlGood, presenceGood, windowGood, payloadGood, quirksGood, scalarsGood}
+use Rattle.sigrecord.specs.Record.{versionOf, ttlOf, mssOf, scaleOf, windowOf, payloadOf, signatureOf}
+use Rattle.sigrecord.specs.WellFormed.{versionGood, ttlGood, presenceGood, windowGood, payloadGood, quirksGood, scalarsGood}
 use Rattle.siglist.specs.List.{listFits, layoutLies, recordGood, recordsFrom, checkList}
-use Rattle.found.specs.Keep.{keep}
-use Rattle.search.specs.Search.{fitAt, searchFrom, numbersFrom, searchOver, searchAll, searchList}
+use Rattle.found.specs.Least.{prefer, leastFrom, firstLeast, numbersFrom}
+use Rattle.found.specs.Rank.{foundOf}
+use Rattle.search.specs.Search.{fitAt, candidateAt, rankAt, foundAt, searchRow, searchOver, searchAll, searchList}
 use Rattle.packet_answer.specs.Packet.{peerOf, answerOf}
 use Rattle.bundle.specs.Bundle.{packetEnd, packetFits, packetsFit, listLies, bundleFits, checkBundle}
 use Rattle.bundle.specs.Answers.{answerAt, packetLies, answersFrom, bundleAnswer}
-use Rattle.report.specs.Text.{width, decimal, foundText, answerText, lineOf, headLine, refusedLine}
+use Rattle.text.specs.Decimal.{width, decimal}
+use Rattle.report.specs.Text.{foundText, answerText, lineOf, headLine, refusedLine}
 use Rattle.report.specs.Pages.{linesOf, outputOf}
 use Rattle.acceptance.specs.Values.{QuirkValues, TtlValues, WindowValues, OptionValues, PacketValues, FitValues, ThreeAnswers, WholeExample, Values}
 
@@ -84,7 +87,7 @@ option-values =
     }
 
 packet-values : PacketValues
-unfolding readPacket readIp readIpv4 ipv4Facts ipv4Quirks ipv4OptionLength readingOf guessOf initialOf readTcp flagsInvalid maskedType isSynType observationFrom observationOf quirksOfHeaders headerQuirks payloadClass walkOf walkFrom optionsAfter asked runsPast putEntry entryByte seeOption laterMss laterScale laterQuirks trailingNonzero excessiveScaling ownTimestampZero peerTimestampNonzero anyNonzero addIf with bitOf placeOf empty fromQuirks be16 be32 refusalOf number
+unfolding readPacket readIp readIpv4 ipv4Facts ipv4Quirks ipv4OptionLength readingOf guessOf initialOf readTcp flagsInvalid maskedType isSynType observationFrom observationOf quirksOfHeaders headerQuirks payloadClass walkOf walkFrom optionsAfter asked runsPast putEntry entryByte seeOption laterMss laterScale laterQuirks trailingNonzero excessiveScaling ownTimestampZero peerTimestampNonzero anyNonzero addIf with bitOf placeOf empty fromQuirks be16 be32 refusalOf
 packet-values = record { packet-A = refl; packet-C = refl }
 
 fit-values : FitValues
@@ -102,11 +105,11 @@ fit-values =
     }
 
 three-answers : ThreeAnswers
-unfolding readPacket readIp readIpv4 ipv4Facts ipv4Quirks ipv4OptionLength readingOf guessOf initialOf readTcp flagsInvalid maskedType isSynType observationFrom observationOf quirksOfHeaders headerQuirks payloadClass walkOf walkFrom optionsAfter asked runsPast putEntry entryByte seeOption laterMss laterScale laterQuirks trailingNonzero excessiveScaling ownTimestampZero peerTimestampNonzero anyNonzero addIf with bitOf placeOf empty fromQuirks be16 be32 checkList listFits recordsFrom recordGood layoutLies scalarsGood versionGood ttlGood presenceGood windowGood payloadGood quirksGood entryGood entriesGood allBelow isEmpty difference seventeen displayOrder searchList searchAll searchOver searchFrom numbersFrom keep fitAt featuresOf windowMultiplier ownTimestampNonzero holdsKind contains holds digit multiplierOf firstMultiple twelve divides signatureOf versionOf ttlOf mssOf scaleOf windowOf payloadOf fitOf scalarGates versionMatches olenMatches mssMatches windowMatches scaleMatches payloadMatches layoutMatches entriesMatch toleranceOf ttlFit quirksFit maskedQuirks maskWhenObsV4 maskWhenObsV6 fuzzyDeletable fuzzyAddable judge judgeInRange
+unfolding readPacket readIp readIpv4 ipv4Facts ipv4Quirks ipv4OptionLength readingOf guessOf initialOf readTcp flagsInvalid maskedType isSynType observationFrom observationOf quirksOfHeaders headerQuirks payloadClass walkOf walkFrom optionsAfter asked runsPast putEntry entryByte seeOption laterMss laterScale laterQuirks trailingNonzero excessiveScaling ownTimestampZero peerTimestampNonzero anyNonzero addIf with bitOf placeOf empty fromQuirks be16 be32 checkList listFits recordsFrom recordGood layoutLies scalarsGood versionGood ttlGood presenceGood windowGood payloadGood quirksGood entryGood entriesGood allBelow isEmpty difference seventeen displayOrder searchList searchAll searchOver searchRow foundAt firstLeast leastFrom prefer numbersFrom rankAt candidateAt foundOf fitAt featuresOf windowMultiplier ownTimestampNonzero holdsKind contains holds digit multiplierOf firstMultiple twelve divides signatureOf versionOf ttlOf mssOf scaleOf windowOf payloadOf fitOf scalarGates versionMatches olenMatches mssMatches windowMatches scaleMatches payloadMatches layoutMatches entriesMatch toleranceOf ttlFit quirksFit maskedQuirks maskWhenObsV4 maskWhenObsV6 fuzzyDeletable fuzzyAddable judge judgeInRange
 three-answers = record { list-good = refl; exact = refl; fuzzy = refl; none = refl }
 
 whole-example : WholeExample
-unfolding readPacket readIp readIpv4 ipv4Facts ipv4Quirks ipv4OptionLength readingOf guessOf initialOf readTcp flagsInvalid maskedType isSynType observationFrom observationOf quirksOfHeaders headerQuirks payloadClass walkOf walkFrom optionsAfter asked runsPast putEntry entryByte seeOption laterMss laterScale laterQuirks trailingNonzero excessiveScaling ownTimestampZero peerTimestampNonzero anyNonzero addIf with bitOf placeOf empty fromQuirks be16 be32 checkList listFits recordsFrom recordGood layoutLies scalarsGood versionGood ttlGood presenceGood windowGood payloadGood quirksGood entryGood entriesGood allBelow isEmpty difference seventeen displayOrder searchList searchAll searchOver searchFrom numbersFrom keep fitAt featuresOf windowMultiplier ownTimestampNonzero holdsKind contains holds digit multiplierOf firstMultiple twelve divides signatureOf versionOf ttlOf mssOf scaleOf windowOf payloadOf fitOf scalarGates versionMatches olenMatches mssMatches windowMatches scaleMatches payloadMatches layoutMatches entriesMatch toleranceOf ttlFit quirksFit maskedQuirks maskWhenObsV4 maskWhenObsV6 fuzzyDeletable fuzzyAddable judge judgeInRange outputOf bundleAnswer checkBundle bundleFits packetsFit packetFits packetEnd peerOf answersFrom packetLies listLies answerAt answerOf linesOf lineOf answerText foundText headLine refusedLine decimal width number
+unfolding readPacket readIp readIpv4 ipv4Facts ipv4Quirks ipv4OptionLength readingOf guessOf initialOf readTcp flagsInvalid maskedType isSynType observationFrom observationOf quirksOfHeaders headerQuirks payloadClass walkOf walkFrom optionsAfter asked runsPast putEntry entryByte seeOption laterMss laterScale laterQuirks trailingNonzero excessiveScaling ownTimestampZero peerTimestampNonzero anyNonzero addIf with bitOf placeOf empty fromQuirks be16 be32 checkList listFits recordsFrom recordGood layoutLies scalarsGood versionGood ttlGood presenceGood windowGood payloadGood quirksGood entryGood entriesGood allBelow isEmpty difference seventeen displayOrder searchList searchAll searchOver searchRow foundAt firstLeast leastFrom prefer numbersFrom rankAt candidateAt foundOf fitAt featuresOf windowMultiplier ownTimestampNonzero holdsKind contains holds digit multiplierOf firstMultiple twelve divides signatureOf versionOf ttlOf mssOf scaleOf windowOf payloadOf fitOf scalarGates versionMatches olenMatches mssMatches windowMatches scaleMatches payloadMatches layoutMatches entriesMatch toleranceOf ttlFit quirksFit maskedQuirks maskWhenObsV4 maskWhenObsV6 fuzzyDeletable fuzzyAddable judge judgeInRange outputOf bundleAnswer checkBundle bundleFits packetsFit packetFits packetEnd peerOf answersFrom packetLies listLies answerAt answerOf linesOf lineOf answerText foundText headLine refusedLine decimal width
 whole-example = record { lines = refl }
 
 pub values : Values

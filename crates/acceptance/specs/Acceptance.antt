@@ -7,9 +7,10 @@ use Rattle.acceptance.specs.Honesty.{Honesty}
 use Rattle.acceptance.specs.Lines.{Lines}
 use Rattle.acceptance.specs.OnPaper.{OnPaper}
 use Rattle.acceptance.specs.Refusals.{Refusals}
+use Rattle.acceptance.specs.Stages.{Stages}
 use Rattle.acceptance.specs.Unchecked.{Unchecked}
 
-pub record Acceptance : Type 0 where
+pub record Acceptance : Type 1 where
   -- B: "Exact, fuzzy and none stay three answers."
   pub honesty : Honesty
   pub lines : Lines
@@ -23,3 +24,5 @@ pub record Acceptance : Type 0 where
   pub demand2 : Demand2
   -- C3: packets that differ only in free bytes get the same answer.
   pub demand3 : Demand3
+  -- and so does every reader of two stages that each keep to it
+  pub stages : Stages

@@ -6,7 +6,7 @@ use Prim.Native.Nat.{ℕ}
 use lib.ListN.{replicate, set}
 use Rattle.ip_options.specs.IpOptions.{ipv6ExtensionLength}
 use Rattle.ip.specs.declared.IpRead.the-variants as ip
-use Rattle.ip.specs.declared.Refusal.the-variants as refusal
+use Rattle.refusals.specs.declared.PacketRefusal.the-variants as refusal
 use Rattle.ip.specs.Ip.{readIp}
 use Rattle.alike.specs.Packets.{Alike}
 

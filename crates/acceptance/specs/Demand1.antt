@@ -3,13 +3,15 @@
 -- the product, crate by crate, over the function's own contract and signature (Promised.antt says what a line says), with the definition
 -- that the one result is: the leaves, the reader, the fit and the search, and what is given out. The order is that of crates.txt; a
 -- function that is added gets a line in its crate's record.
-use Rattle.acceptance.specs.Leaves.{Numbers, Quirks, TtlReading, Window, IpOptions}
+use Rattle.acceptance.specs.Leaves.{RefusalNumbers, Numbers, Quirks, TtlReading, Window, IpOptions}
 use Rattle.acceptance.specs.Reader.{Observable, OneOption, Options, Ip, Flow}
-use Rattle.acceptance.specs.Fitting.{Distances, Matching, Siglist, Held, Search}
-use Rattle.acceptance.specs.GivenOut.{PacketAnswered, Bundle, Report, Gateway}
+use Rattle.acceptance.specs.Fitting.{Sigrecord, Distances, Matching, Siglist, Findings, Search}
+use Rattle.acceptance.specs.GivenOut.{Text, PacketAnswered, Bundle, Report, Gateway}
 
 pub record Demand1 : Type 0 where
+  pub refusals : RefusalNumbers
   pub numbers : Numbers
+  pub text : Text
   pub quirks : Quirks
   pub ttl : TtlReading
   pub window : Window
@@ -19,10 +21,11 @@ pub record Demand1 : Type 0 where
   pub options : Options
   pub ip : Ip
   pub flow : Flow
+  pub sigrecord : Sigrecord
   pub distances : Distances
   pub matching : Matching
   pub siglist : Siglist
-  pub held : Held
+  pub found : Findings
   pub search : Search
   pub packetAnswered : PacketAnswered
   pub bundle : Bundle

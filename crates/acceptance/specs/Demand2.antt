@@ -21,7 +21,7 @@ use Rattle.window_size.specs.Multiplier.{FirstOf, multiplierOf}
 use Rattle.observable.specs.declared.TcpObservation.{TcpObservation}
 use Rattle.observable.specs.Observation.{emptyObservation}
 use Rattle.syn_options.specs.Walk.{walkOf}
-use Rattle.ip.specs.declared.Refusal.{Refusal}
+use Rattle.refusals.specs.declared.PacketRefusal.{PacketRefusal}
 use Rattle.flow.specs.declared.Answer.the-variants as packet
 use Rattle.flow.specs.declared.Reading.{Reading}
 use Rattle.flow.specs.Tcp.{knownPeer}
@@ -117,7 +117,7 @@ SingleFit =
 
 pub record ShutOut : Type 0 where
   -- "a reader that refuses all (packet A)"
-  pub refuses-all : ((p : List ℕ) → (r : Refusal) × (readPacket p mss.Absent .answer ≡ packet.Refused r)) → ⊥
+  pub refuses-all : ((p : List ℕ) → (r : PacketRefusal) × (readPacket p mss.Absent .answer ≡ packet.Refused r)) → ⊥
   -- "one that says none always (A is exact)"
   pub none-always : ((p : List ℕ) → searchList (readPacket p mss.Absent .observation) exampleList ≡ answer.Found found.None) → ⊥
   -- "one that hands back an empty observation untouched"

@@ -11,11 +11,9 @@ use Prim.Native.Nat.{ℕ, suc, _<_, _≤_}
 use contract.Lifetimes.{Lfts}
 use denote.Ref.{RefT, now}
 use lib.ListN.{length, set}
-use Rattle.rfc.specs.Rfc791.{version}
 use Rattle.tcp.specs.declared.Mss.{Mss}
 use Rattle.quirks.specs.declared.QuirkSet.{QuirkSet}
 use Rattle.syn_options.specs.Walk.{walkOf, parseOptionsRaw}
-use Rattle.ip.specs.declared.IpFacts.{IpFacts}
 use Rattle.ip.specs.Ip.{readIp}
 use Rattle.flow.specs.declared.Reading.{Reading}
 use Rattle.flow.specs.Tcp.{readTcp}
@@ -34,7 +32,8 @@ use Rattle.gateway.proofs.termread_answer.Reads as answer'
 use Rattle.alike.specs.Options.{AlikeOptions}
 use Rattle.alike.specs.Ip.{AlikeIpv4, AlikeIpv6}
 use Rattle.alike.specs.Tcp.{AlikeTcp}
-use Rattle.alike.specs.Packets.{Alike}
+use Rattle.alike.specs.Packets.{document01, Alike}
+use Rattle.alike.specs.Stages.{KeepsLevel, KeepsTcp}
 use Rattle.alike.specs.Free.{DifferOnly, Free, FreeTcp, FreeStamp}
 use Rattle.acceptance.specs.Corners.{Corners}
 use Rattle.acceptance.specs.NotFree.{NotFree}
@@ -76,10 +75,9 @@ pub record Run (packet : RefT (List ℕ)) (peer : Mss) (list : RefT (List ℕ)) 
 
 pub record SameAnswer : Type 0 where
   -- the IP stage, refusals 1 to 6 included
-  pub ip-stage4 : (p q : List ℕ) → AlikeIpv4 p q → version p ≡ 4 → readIp p ≡ readIp q
-  pub ip-stage6 : (p q : List ℕ) → AlikeIpv6 p q → version p ≡ 6 → readIp p ≡ readIp q
+  pub ip-stage : KeepsLevel document01 readIp
   -- the TCP stage, refusal 7 included, after any facts of an IP header
-  pub tcp-stage : (f : IpFacts) (t u : List ℕ) (peer : Mss) → AlikeTcp t u → readTcp f t peer ≡ readTcp f u peer
+  pub tcp-stage : KeepsTcp readTcp
   -- an option string by itself, by either walk, and parsed, refusal 8 included
   pub option-walks
       : (s t : List ℕ) → AlikeOptions s t → (stop syn : Bool) (quirks : QuirkSet) → walkOf stop syn quirks s ≡ walkOf stop syn quirks t

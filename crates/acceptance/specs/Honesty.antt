@@ -2,13 +2,13 @@
 -- module 7 and "The signature list"), and that they stay three as the numbers that a gateway gets. `Honesty` is the statement.
 use mathlib.Core.Path.{_≡_}
 use mathlib.Core.Bool.{true, false}
-use mathlib.Core.List.{List}
-use mathlib.Core.Logic.{_↔_}
+use mathlib.Core.List.{List, _++_}
+use mathlib.Core.Logic.{_↔_, _⊎_}
 use Prim.Native.Nat.{ℕ, _%_, _<_}
 use Rattle.tcp.specs.declared.Mss.{Mss}
 use Rattle.quirks.specs.Quirks.{isEmpty}
 use Rattle.observable.specs.declared.TcpObservation.{TcpObservation}
-use Rattle.ip.specs.declared.Refusal.{Refusal}
+use Rattle.refusals.specs.declared.PacketRefusal.{PacketRefusal}
 use Rattle.flow.specs.declared.Answer.the-variants as reading
 use Rattle.flow.specs.Reading.{readPacket}
 use Rattle.distances.specs.declared.TtlFit.{TtlFit}
@@ -19,19 +19,20 @@ use Rattle.matching.specs.declared.FuzzyReason.{FuzzyReason}
 use Rattle.matching.specs.declared.Hops.the-variants as hops
 use Rattle.matching.specs.declared.QuirksFit.{QuirksFit}
 use Rattle.matching.specs.declared.QuirksFit.the-variants as quirksfit
-use Rattle.matching.specs.declared.Signature.{Signature}
+use Rattle.sigrecord.specs.declared.Signature.{Signature}
 use Rattle.matching.specs.declared.SignatureFit.{SignatureFit}
 use Rattle.matching.specs.declared.SignatureFit.the-variants as fit
 use Rattle.matching.specs.declared.Tolerated.{Tolerated}
-use Rattle.gates.specs.Gates.{layoutMatches}
+use Rattle.matching.specs.Gates.{layoutMatches}
 use Rattle.matching.specs.Tolerance.{maskedQuirks, quirksFit}
 use Rattle.matching.specs.Fit.{featuresOf, scalarGates, fitOf}
 use Rattle.sigrecord.specs.Record.{labelOf}
 use Rattle.siglist.specs.List.{recordCount, recordAt}
 use Rattle.found.specs.declared.Found.{Found}
 use Rattle.found.specs.declared.Found.the-variants as found
+use Rattle.found.specs.Rank.{rankOf}
 use Rattle.search.specs.declared.SearchAnswer.the-variants as answer
-use Rattle.search.specs.Search.{fitAt, searchAll, searchList}
+use Rattle.search.specs.Search.{fitAt, searchOver, searchAll, searchList}
 use Rattle.packet_answer.specs.declared.PacketAnswer.{PacketAnswer}
 use Rattle.packet_answer.specs.declared.PacketAnswer.the-variants as packet
 use Rattle.packet_answer.specs.Packet.{peerOf, answerOf}
@@ -118,8 +119,7 @@ outcomeOf (gateway.Packet (packet.Syn f)) = whichOf f
 outcomeOf (gateway.Packet (packet.SynAck f)) = whichOf f
 outcomeOf (gateway.Packet packet.Nothing) = 4
 outcomeOf (gateway.Packet (packet.Refused r)) = 5
-outcomeOf gateway.ListDoesNotFit = 5
-outcomeOf (gateway.BadRecord i) = 5
+outcomeOf (gateway.List r) = 5
 
 -- The number that a gateway gets for a packet, the peer's MSS and a list (`termread_answer`).
 abbrev pub codeAt : List ℕ → ℕ → List ℕ → ℕ
@@ -144,6 +144,10 @@ pub record Honesty : Type 0 where
       → (fitOf f kinds bytes s count entries ≡ fit.Fuzzy reason) ↔ FitsFuzzily f kinds bytes s count entries reason
   -- What a search finds is one of the three outcomes.
   pub search : (o : TcpObservation) (l : List ℕ) (x : Found) → searchList o l ≡ answer.Found x → Outcome o l x
+  -- Over a longer row of record numbers a search finds the same, or what has strictly less rank: exact before fuzzy before none.
+  pub longer-row
+      : (o : TcpObservation) (l is js : List ℕ)
+      → (searchOver (is ++ js) o l ≡ searchOver is o l) ⊎ (rankOf (searchOver (is ++ js) o l) < rankOf (searchOver is o l))
   -- What the program and the gateway answer of a SYN or SYN+ACK is the search for its observation, and is one of the three outcomes
   -- on any list, checked or not.
   pub answered : (o : TcpObservation) (l : List ℕ) → Outcome o l (searchAll o l)
@@ -159,7 +163,7 @@ pub record Honesty : Type 0 where
   pub nothing-answer
       : (p : List ℕ) (peer : Mss) (l : List ℕ) → readPacket p peer .answer ≡ reading.Nothing → answerOf p peer l ≡ packet.Nothing
   pub refused-answer
-      : (p : List ℕ) (peer : Mss) (l : List ℕ) (r : Refusal)
+      : (p : List ℕ) (peer : Mss) (l : List ℕ) (r : PacketRefusal)
       → readPacket p peer .answer ≡ reading.Refused r
       → answerOf p peer l ≡ packet.Refused r
   -- No two of the three answers are one.

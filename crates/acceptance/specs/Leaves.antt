@@ -1,14 +1,24 @@
--- Demand 1, a line for each public function. The leaves: widened bytes and sums, quirks.rs, ttl.rs, window_size.rs, ip_options.rs.
+-- Demand 1, a line for each public function. The leaves: refusals, widened bytes and sums, quirks.rs, ttl.rs, window_size.rs, ip_options.rs.
 use mathlib.Core.Bool.{Bool}
 use mathlib.Core.List.{List}
 use Prim.Native.Nat.{ℕ, _+_, _*_, _-_, min}
 use contract.Lifetimes.{Lfts}
 use denote.Ref.{RefT, now}
+use Rattle.basis.specs.Bytes as bytes
 use Rattle.tcp.specs.declared.IpVersion.{IpVersion}
 use Rattle.tcp.specs.declared.Mss.{Mss}
+use Rattle.refusals.specs.declared.PacketRefusal.{PacketRefusal}
+use Rattle.refusals.specs.declared.ListRefusal.{ListRefusal}
+use Rattle.refusals.specs.declared.Refusal.{Refusal}
+use Rattle.refusals.specs.Refusals.{number, packetValue, listValue}
+use Rattle.refusals.proofs.refusal_number as refusal-number'
+use Rattle.refusals.proofs.packet_value as packet-value'
+use Rattle.refusals.proofs.list_value as list-value'
 use Rattle.numbers.proofs.wide as wide'
 use Rattle.numbers.proofs.be16 as be16'
 use Rattle.numbers.proofs.be32 as be32'
+use Rattle.numbers.proofs.byte_at as byte-at'
+use Rattle.numbers.proofs.be16_at as be16-at'
 use Rattle.numbers.proofs.least as least'
 use Rattle.numbers.proofs.saturating_sub as saturating-sub'
 use Rattle.numbers.proofs.saturating_add as saturating-add'
@@ -39,6 +49,20 @@ use Rattle.ip_options.proofs.calculate_ipv6_length as calculate-ipv6-length'
 use Rattle.observable.proofs.TcpObservation.empty as empty'
 use Rattle.acceptance.specs.Promised.{Answers}
 
+pub record RefusalNumbers : Type 0 where
+  pub refusal-number
+      : (refusal : Refusal)
+      → Answers refusal-number'.signature tt (refusal-number'.Reads.Pre tt) (refusal-number'.Reads.Post tt)
+      (refusal, tt) (number refusal)
+  pub packet-value
+      : (refusal : PacketRefusal)
+      → Answers packet-value'.signature tt (packet-value'.Reads.Pre tt) (packet-value'.Reads.Post tt)
+      (refusal, tt) (packetValue refusal)
+  pub list-value
+      : (refusal : ListRefusal)
+      → Answers list-value'.signature tt (list-value'.Reads.Pre tt) (list-value'.Reads.Post tt)
+      (refusal, tt) (listValue refusal)
+
 pub record Numbers : Type 0 where
   pub wide : (x : ℕ) → Answers wide'.signature tt (wide'.Reads.Pre tt) (wide'.Reads.Post tt) (x, tt) x
   pub be16
@@ -49,6 +73,14 @@ pub record Numbers : Type 0 where
       : (high low : ℕ)
       → Answers be32'.signature tt (be32'.Reads.Pre tt) (be32'.Reads.Post tt)
       (high, (low, tt)) (high * 65536 + low)
+  pub byte-at
+      : (κs : Lfts 1) (s : RefT (List ℕ)) (i : ℕ)
+      → Answers byte-at'.signature κs (byte-at'.Reads.Pre κs) (byte-at'.Reads.Post κs)
+      (s, (i, tt)) (bytes.byteAt (now s) i)
+  pub be16-at
+      : (κs : Lfts 1) (s : RefT (List ℕ)) (i : ℕ)
+      → Answers be16-at'.signature κs (be16-at'.Reads.Pre κs) (be16-at'.Reads.Post κs)
+      (s, (i, tt)) (bytes.be16 (now s) i)
   pub least : (a b : ℕ) → Answers least'.signature tt (least'.Reads.Pre tt) (least'.Reads.Post tt) (a, (b, tt)) (min a b)
   pub saturating-sub
       : (a b : ℕ)

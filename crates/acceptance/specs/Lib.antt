@@ -15,5 +15,6 @@ pub mod Overlap
 pub mod Promised
 pub mod Reader
 pub mod Refusals
+pub mod Stages
 pub mod Unchecked
 pub mod Values

@@ -7,8 +7,8 @@ use Prim.Native.Nat.{ℕ, _<_}
 use Prim.Native.Char.{Char, code}
 use Prim.Native.String.{String, [] as end, _∷_ as _then_}
 use Rattle.tcp.specs.declared.Mss.{Mss}
-use Rattle.ip.specs.declared.Refusal.the-variants as refusal
-use Rattle.ip.specs.Numbers.{number}
+use Rattle.refusals.specs.declared.PacketRefusal.the-variants as refusal
+use Rattle.refusals.specs.Refusals.{packetNumber}
 use Rattle.matching.specs.declared.FuzzyReason.{FuzzyReason}
 use Rattle.found.specs.declared.Found.{Found}
 use Rattle.found.specs.declared.Found.the-variants as found
@@ -46,7 +46,7 @@ abbrev pub printed : PacketAnswer → Printed
 printed (packet.Syn f) = Printed.syn (printedFound f)
 printed (packet.SynAck f) = Printed.synack (printedFound f)
 printed packet.Nothing = Printed.nothing
-printed (packet.Refused r) = Printed.refused (number r)
+printed (packet.Refused r) = Printed.refused (packetNumber r)
 
 -- "22 label (two)": a label is a number of two bytes.
 abbrev pub TwoBytes : Found → Type 0

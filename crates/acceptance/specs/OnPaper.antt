@@ -1,54 +1,38 @@
 -- "If an answer is an enum, the promises use a definition that gives this paper's number and values for each of its cases" (document 01,
--- last paragraph): of each answer type that refuses one definition, by its cases in the table's order, and what ties it to the functions'
--- answers.
+-- last paragraph): of each answer type that refuses one definition, read off the table of the crate `refusals`, and what ties it to the
+-- functions' answers.
 -- `OnPaper` is the statement.
 use mathlib.Core.Path.{_≡_}
 use mathlib.Core.List.{List, [], _∷_}
 use Prim.Native.Nat.{ℕ, _+_, _*_, _<_}
 use Rattle.tcp.specs.declared.Mss.{Mss}
 use Rattle.observable.specs.declared.TcpObservation.{TcpObservation}
+use Rattle.refusals.specs.declared.Refusal.{Refusal}
+use Rattle.refusals.specs.Refusals.{Returned, valueOf, everyRefusal, Verdict, numberOf, returnedBy}
 use Rattle.ip.specs.declared.IpRead.{IpRead}
-use Rattle.ip.specs.declared.IpRead.the-variants as ip
-use Rattle.ip.specs.declared.Refusal.{Refusal}
-use Rattle.ip.specs.declared.Refusal.the-variants as refusal
-use Rattle.ip.specs.Ip.{readIp}
-use Rattle.ip.specs.Numbers.{number}
+use Rattle.ip.specs.Ip.{readIp, ipVerdict}
 use Rattle.flow.specs.declared.Answer.{Answer}
-use Rattle.flow.specs.declared.Answer.the-variants as answer
-use Rattle.flow.specs.Reading.{readPacket, refusalOf}
+use Rattle.flow.specs.Reading.{readPacket, answerVerdict}
 use Rattle.syn_options.specs.declared.OptionsAnswer.{OptionsAnswer}
-use Rattle.syn_options.specs.declared.OptionsAnswer.the-variants as options
-use Rattle.syn_options.specs.Walk.{parseOptionsRaw, optionsRefusal}
+use Rattle.syn_options.specs.Walk.{parseOptionsRaw, optionsVerdict}
 use Rattle.siglist.specs.declared.Header.{Header}
-use Rattle.siglist.specs.declared.Header.the-variants as header
 use Rattle.siglist.specs.declared.ListAnswer.{ListAnswer}
-use Rattle.siglist.specs.declared.ListAnswer.the-variants as list
-use Rattle.siglist.specs.List.{headerOf, checkList, listRefusal}
+use Rattle.siglist.specs.List.{headerOf, checkList, headerVerdict, listVerdict}
 use Rattle.search.specs.declared.SearchAnswer.{SearchAnswer}
-use Rattle.search.specs.declared.SearchAnswer.the-variants as search
-use Rattle.search.specs.Search.{searchList, searchRefusal}
+use Rattle.search.specs.Search.{searchList, searchVerdict}
 use Rattle.packet_answer.specs.declared.PacketAnswer.{PacketAnswer}
-use Rattle.packet_answer.specs.declared.PacketAnswer.the-variants as packet
-use Rattle.packet_answer.specs.Packet.{answerOf}
+use Rattle.packet_answer.specs.Packet.{answerOf, packetVerdict}
 use Rattle.bundle.specs.declared.BundleCheck.{BundleCheck}
-use Rattle.bundle.specs.declared.BundleCheck.the-variants as bundle
-use Rattle.bundle.specs.Bundle.{listOf, checkBundle, bundleRefusal}
+use Rattle.bundle.specs.Bundle.{listOf, checkBundle, bundleVerdict}
 use Rattle.gateway.specs.declared.GatewayAnswer.{GatewayAnswer}
-use Rattle.gateway.specs.declared.GatewayAnswer.the-variants as gateway
-use Rattle.gateway.specs.Code.{gatewayAnswer, listCode}
+use Rattle.gateway.specs.Code.{gatewayAnswer, listCode, gatewayVerdict}
 use Rattle.gateway.specs.Decode.{AllBytes}
 use Rattle.acceptance.specs.Honesty.{codeAt, checkedAnswer, checkedCode}
 use Rattle.acceptance.specs.Refusals.{First, PacketRow, packetOrder, FlagsByte, OptionsRow, FirstBad, ListRow, SearchRow, BundleRow}
 
 -- ---- the paper's number and values
 
--- The column "Also returns": nothing, "the flags byte", or "index of the first, from 0".
-pub data Returned : Type 0 where
-  nothing : Returned
-  flags : ℕ → Returned
-  index : ℕ → Returned
-
--- An answer as the table has it; number 0 is no refusal.
+-- An answer as the table has it: its number (0 is no refusal) and the column "Also returns".
 pub record Paper : Type 0 where
   pub number : ℕ
   pub also : Returned
@@ -56,70 +40,43 @@ pub record Paper : Type 0 where
 abbrev pub alone : ℕ → Paper
 alone n = record { number = n; also = Returned.nothing }
 
-abbrev pub noRefusal : Paper
-noRefusal = alone 0
-
-abbrev pub badRecord : ℕ → Paper
-badRecord i = record { number = 10; also = Returned.index i }
+-- Each answer type says which refusal an answer is, if any; the crate `refusals` has the number of each, and what it returns.
+abbrev pub paperOf : Verdict → Paper
+paperOf v = record { number = numberOf v; also = returnedBy v }
 
 abbrev pub refusalPaper : Refusal → Paper
-refusalPaper refusal.Version = alone 1
-refusalPaper refusal.TooShort = alone 2
-refusalPaper refusal.HeaderLength = alone 3
-refusalPaper refusal.UnsupportedProtocol = alone 4
-refusalPaper refusal.Fragment = alone 5
-refusalPaper refusal.TcpTooShort = alone 6
-refusalPaper (refusal.InvalidTcpFlags byte) = record { number = 7; also = Returned.flags byte }
+refusalPaper r = paperOf (Verdict.refused r)
 
 -- `read_ip`'s answer.
 abbrev pub ipPaper : IpRead → Paper
-ipPaper (ip.Refused r) = refusalPaper r
-ipPaper (ip.Facts f) = noRefusal
+ipPaper a = paperOf (ipVerdict a)
 
 -- `read_packet`'s answer.
 abbrev pub answerPaper : Answer → Paper
-answerPaper answer.Syn = noRefusal
-answerPaper answer.SynAck = noRefusal
-answerPaper answer.Nothing = noRefusal
-answerPaper (answer.Refused r) = refusalPaper r
+answerPaper a = paperOf (answerVerdict a)
 
 -- A packet's line in a bundle.
 abbrev pub packetPaper : PacketAnswer → Paper
-packetPaper (packet.Syn f) = noRefusal
-packetPaper (packet.SynAck f) = noRefusal
-packetPaper packet.Nothing = noRefusal
-packetPaper (packet.Refused r) = refusalPaper r
+packetPaper a = paperOf (packetVerdict a)
 
 abbrev pub optionsPaper : OptionsAnswer → Paper
-optionsPaper options.Parsed = noRefusal
-optionsPaper options.Refused = alone 8
+optionsPaper a = paperOf (optionsVerdict a)
 
 -- `read_header`'s answer, and `check_list`'s.
 abbrev pub headerPaper : Header → Paper
-headerPaper (header.Fits areas) = noRefusal
-headerPaper header.DoesNotFit = alone 9
+headerPaper a = paperOf (headerVerdict a)
 
 abbrev pub listPaper : ListAnswer → Paper
-listPaper list.Good = noRefusal
-listPaper list.DoesNotFit = alone 9
-listPaper (list.BadRecord i) = badRecord i
+listPaper a = paperOf (listVerdict a)
 
 abbrev pub searchPaper : SearchAnswer → Paper
-searchPaper (search.Found f) = noRefusal
-searchPaper search.DoesNotFit = alone 9
-searchPaper (search.BadRecord i) = badRecord i
-searchPaper search.LayoutTooLong = alone 11
+searchPaper a = paperOf (searchVerdict a)
 
 abbrev pub bundlePaper : BundleCheck → Paper
-bundlePaper bundle.Good = noRefusal
-bundlePaper bundle.ListDoesNotFit = alone 9
-bundlePaper (bundle.BadRecord i) = badRecord i
-bundlePaper bundle.DoesNotFit = alone 12
+bundlePaper a = paperOf (bundleVerdict a)
 
 abbrev pub gatewayPaper : GatewayAnswer → Paper
-gatewayPaper (gateway.Packet a) = packetPaper a
-gatewayPaper gateway.ListDoesNotFit = alone 9
-gatewayPaper (gateway.BadRecord i) = badRecord i
+gatewayPaper a = paperOf (gatewayVerdict a)
 
 -- ---- what a row returns
 
@@ -141,11 +98,6 @@ pub data GatewayRow (p l : List ℕ) : ℕ → Type 0 where
   of-packet : {n : ℕ} → PacketRow p n → GatewayRow p l n
 
 -- ---- the numbers of include/termread.h
-
-abbrev pub valueOf : Returned → ℕ
-valueOf Returned.nothing = 0
-valueOf (Returned.flags byte) = byte
-valueOf (Returned.index i) = i
 
 -- Outcome 5, the refusal's number, and what it returns in two bytes.
 abbrev pub refusedCode : Paper → ℕ
@@ -169,14 +121,39 @@ pub record Rows : Type 0 where
       : (p : List ℕ) (peer : ℕ) (l : List ℕ)
       → IsRow (GatewayRow p l) (9 ∷ 10 ∷ packetOrder) p l (gatewayPaper (gatewayAnswer p peer l))
 
--- The numbers that the crates' own promises speak of are the paper's.
-pub record SameNumbers : Type 0 where
-  pub refusal : (r : Refusal) → number r ≡ refusalPaper r .number
-  pub packet : (a : Answer) → refusalOf a ≡ answerPaper a .number
-  pub options : (a : OptionsAnswer) → optionsRefusal a ≡ optionsPaper a .number
-  pub list : (a : ListAnswer) → listRefusal a ≡ listPaper a .number
-  pub search : (a : SearchAnswer) → searchRefusal a ≡ searchPaper a .number
-  pub bundle : (a : BundleCheck) → bundleRefusal a ≡ bundlePaper a .number
+-- The table of both documents as it stands on paper: the refusals by name, as `everyRefusal` lists them, have these numbers and return this.
+abbrev pub papersOf : List Refusal → List Paper
+papersOf [] = []
+papersOf (r ∷ rest) = refusalPaper r ∷ papersOf rest
+
+abbrev pub TheTable : Type 0
+TheTable =
+    (value : ℕ)
+    → papersOf (everyRefusal value)
+    ≡ alone 1
+    ∷ alone 2
+    ∷ alone 3
+    ∷ alone 4
+    ∷ alone 5
+    ∷ alone 6
+    ∷ record { number = 7; also = Returned.flags value }
+    ∷ alone 8
+    ∷ alone 9
+    ∷ record { number = 10; also = Returned.index value }
+    ∷ alone 11
+    ∷ alone 12
+    ∷ record { number = 13; also = Returned.offset value }
+    ∷ alone 14
+    ∷ alone 15
+    ∷ alone 16
+    ∷ alone 17
+    ∷ alone 18
+    ∷ alone 19
+    ∷ alone 20
+    ∷ alone 21
+    ∷ alone 22
+    ∷ alone 23
+    ∷ []
 
 -- A gateway gets a refusal by its number and its value.
 pub record Codes : Type 0 where
@@ -213,6 +190,6 @@ pub record Told : Type 0 where
 
 pub record OnPaper : Type 0 where
   pub rows : Rows
-  pub numbers : SameNumbers
+  pub table : TheTable
   pub codes : Codes
   pub told : Told

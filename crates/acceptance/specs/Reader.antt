@@ -12,19 +12,16 @@ use Rattle.observable.specs.Observation.{emptyObservation, windowMultiplier, ow
 use Rattle.observable.proofs.TcpObservation.empty as empty'
 use Rattle.observable.proofs.TcpObservation.window_multiplier as window-multiplier'
 use Rattle.observable.proofs.TcpObservation.own_timestamp_is_nonzero as own-timestamp'
-use Rattle.one_option.specs.Options.{asked}
+use Rattle.one_option.specs.Options.{stepOf}
 use Rattle.one_option.specs.See.{laterMss, laterScale, laterQuirks}
-use Rattle.one_option.proofs.asked_bytes as asked-bytes'
+use Rattle.one_option.proofs.option_step as option-step'
 use Rattle.one_option.proofs.later_mss as later-mss'
 use Rattle.one_option.proofs.later_scale as later-scale'
 use Rattle.one_option.proofs.later_quirks as later-quirks'
 use Rattle.syn_options.specs.Walk.{walkOf, parseOptionsRaw}
 use Rattle.syn_options.proofs.walk_options as walk-options'
 use Rattle.syn_options.proofs.parse_options_raw as parse-options-raw'
-use Rattle.ip.specs.declared.Refusal.{Refusal}
 use Rattle.ip.specs.Ip.{readIp}
-use Rattle.ip.specs.Numbers.{number}
-use Rattle.ip.proofs.refusal_number as refusal-number'
 use Rattle.ip.proofs.read_ip as read-ip'
 use Rattle.flow.specs.Reading.{readPacket}
 use Rattle.flow.proofs.read_packet as read-packet'
@@ -42,10 +39,10 @@ pub record Observable : Type 0 where
       (o, tt) (ownTimestampNonzero o)
 
 pub record OneOption : Type 0 where
-  pub asked-bytes
-      : (κs : Lfts 1) (kind : ℕ) (own : RefT (List ℕ))
-      → Answers asked-bytes'.signature κs (asked-bytes'.Reads.Pre κs) (asked-bytes'.Reads.Post κs)
-      (kind, (own, tt)) (asked kind (now own))
+  pub option-step
+      : (κs : Lfts 1) (options : RefT (List ℕ)) (at : ℕ)
+      → Answers option-step'.signature κs (option-step'.Reads.Pre κs) (option-step'.Reads.Post κs)
+      (options, (at, tt)) (stepOf (now options) at)
   pub later-mss
       : (κs : Lfts 1) (kind : ℕ) (own : RefT (List ℕ)) (m : Mss)
       → Answers later-mss'.signature κs (later-mss'.Reads.Pre κs) (later-mss'.Reads.Post κs)
@@ -71,10 +68,6 @@ pub record Options : Type 0 where
       (buf, tt) (parseOptionsRaw (now buf))
 
 pub record Ip : Type 0 where
-  pub refusal-number
-      : (refusal : Refusal)
-      → Answers refusal-number'.signature tt (refusal-number'.Reads.Pre tt) (refusal-number'.Reads.Post tt)
-      (refusal, tt) (number refusal)
   pub read-ip
       : (κs : Lfts 1) (packet : RefT (List ℕ))
       → Answers read-ip'.signature κs (read-ip'.Reads.Pre κs) (read-ip'.Reads.Post κs)

@@ -17,9 +17,10 @@ use Rattle.observable.specs.declared.TcpObservation.{TcpObservation}
 use Rattle.observable.specs.Observation.{emptyObservation}
 use Rattle.syn_options.specs.declared.OptionsAnswer.the-variants as optionsAnswer
 use Rattle.syn_options.specs.Walk.{startWalk, parsedOf, parseOptionsRaw, optionsRefusal}
-use Rattle.ip.specs.declared.Refusal.{Refusal}
-use Rattle.ip.specs.declared.Refusal.the-variants as refusal
-use Rattle.ip.specs.Numbers.{number}
+use Rattle.refusals.specs.declared.PacketRefusal.{PacketRefusal}
+use Rattle.refusals.specs.declared.PacketRefusal.the-variants as refusal
+use Rattle.refusals.specs.declared.ListRefusal.the-variants as why
+use Rattle.refusals.specs.Refusals.{packetNumber}
 use Rattle.flow.specs.declared.Answer.the-variants as answer
 use Rattle.flow.specs.declared.Reading.{Reading}
 use Rattle.flow.specs.Flags.{maskedType}
@@ -87,12 +88,12 @@ pub data FlagsByte (p : List ℕ) : ℕ → Type 0 where
   of6 : v4.version p ≡ 6 → FlagsByte p (tcp.control (part6 p))
 
 -- "Also returns": nothing, but for 7 the flags byte. Beside a refusal stands the one fixed empty observation, whatever the packet.
-pub data Refused (p : List ℕ) : Refusal → Type 0 where
-  nothing-more : {r : Refusal} → number r < 7 → Refused p r
+pub data Refused (p : List ℕ) : PacketRefusal → Type 0 where
+  nothing-more : {r : PacketRefusal} → packetNumber r < 7 → Refused p r
   flags-byte : {f : ℕ} → FlagsByte p f → Refused p (refusal.InvalidTcpFlags f)
 
 pub record Gives (p : List ℕ) (peer : Mss) : Type 0 where
-  pub why : Refusal
+  pub why : PacketRefusal
   pub reading : readPacket p peer ≡ record { answer = answer.Refused why; observation = emptyObservation }
   pub also : Refused p why
 
@@ -203,15 +204,15 @@ pub record Refusals : Type 0 where
   pub record-bad : (l : List ℕ) (i : ℕ) → (recordGood l i ≡ false) ↔ BadRecord l i
   -- a list 9, then 10, with the index of the first bad record
   pub list : (l : List ℕ) (n : ℕ) → (listRefusal (checkList l) ≡ n) ↔ First (ListRow l) (9 ∷ 10 ∷ []) n
-  pub list-gives : (l : List ℕ) (i : ℕ) → checkList l ≡ listAnswer.BadRecord i → FirstBad l i
+  pub list-gives : (l : List ℕ) (i : ℕ) → checkList l ≡ listAnswer.Refused (why.BadRecord i) → FirstBad l i
   -- "a search 11, then 9, then 10", with the same index
   pub search
       : (o : TcpObservation) (l : List ℕ) (n : ℕ)
       → (searchRefusal (searchList o l) ≡ n) ↔ First (SearchRow o l) (11 ∷ 9 ∷ 10 ∷ []) n
-  pub search-gives : (o : TcpObservation) (l : List ℕ) (i : ℕ) → searchList o l ≡ searchAnswer.BadRecord i → FirstBad l i
+  pub search-gives : (o : TcpObservation) (l : List ℕ) (i : ℕ) → searchList o l ≡ searchAnswer.List (why.BadRecord i) → FirstBad l i
   -- "A bundle meets 12, then 9, then 10, before any packet", with the same index; beside a refusal no packet is answered, and in a
   -- bundle that is not refused every packet is.
   pub bundle : (b : List ℕ) (n : ℕ) → (bundleRefusal (checkBundle b) ≡ n) ↔ First (BundleRow b) (12 ∷ 9 ∷ 10 ∷ []) n
-  pub bundle-gives : (b : List ℕ) (i : ℕ) → checkBundle b ≡ bundleCheck.BadRecord i → FirstBad (listOf b) i
+  pub bundle-gives : (b : List ℕ) (i : ℕ) → checkBundle b ≡ bundleCheck.List (why.BadRecord i) → FirstBad (listOf b) i
   pub bundle-refused : (b : List ℕ) → 0 < bundleRefusal (checkBundle b) → bundleAnswer b .answers ≡ []
   pub bundle-answered : (b : List ℕ) → checkBundle b ≡ bundleCheck.Good → length (bundleAnswer b .answers) ≡ packetCount b

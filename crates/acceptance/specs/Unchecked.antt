@@ -15,11 +15,13 @@ use Rattle.syn_options.specs.declared.OptionsAnswer.the-variants as options
 use Rattle.syn_options.specs.Walk.{walkOf, parsedOf, parseOptionsRaw}
 use Rattle.flow.specs.declared.Answer.the-variants as reading
 use Rattle.flow.specs.Reading.{readPacket}
+use Rattle.refusals.specs.declared.ListRefusal.the-variants as why
 use Rattle.siglist.specs.declared.ListAnswer.the-variants as list
 use Rattle.siglist.specs.List.{recordCount, recordGood, checkList}
 use Rattle.found.specs.declared.Found.the-variants as found
 use Rattle.search.specs.declared.SearchAnswer.the-variants as answer
-use Rattle.search.specs.Search.{numbersFrom, searchOver, searchAll, searchList}
+use Rattle.found.specs.Least.{numbersFrom}
+use Rattle.search.specs.Search.{searchOver, searchAll, searchList}
 use Rattle.packet_answer.specs.declared.PacketAnswer.the-variants as packet
 use Rattle.packet_answer.specs.Packet.{peerOf, answerOf}
 use Rattle.bundle.specs.declared.BundleCheck.the-variants as check
@@ -49,7 +51,7 @@ pub record SearchUnchecked : Type 0 where
   -- 10: the answer is that of the list without its bad records.
   pub bad-record : (o : TcpObservation) (l : List ℕ) → searchAll o l ≡ searchOver (goodRecords l) o l
   -- 9 and 11: none.
-  pub does-not-fit : (o : TcpObservation) (l : List ℕ) → checkList l ≡ list.DoesNotFit → searchAll o l ≡ found.None
+  pub does-not-fit : (o : TcpObservation) (l : List ℕ) → checkList l ≡ list.Refused why.DoesNotFit → searchAll o l ≡ found.None
   pub layout-too-long : (o : TcpObservation) (l : List ℕ) → 40 < o .olayout .count → searchAll o l ≡ found.None
 
 -- `answer_packet` and `termread_answer_checked`, against `termread_answer` (refusals 9 and 10 before a packet's own).
@@ -74,12 +76,12 @@ pub record PacketUnchecked : Type 0 where
   pub syn-unfit
       : (p : List ℕ) (peer : Mss) (l : List ℕ)
       → readPacket p peer .answer ≡ reading.Syn
-      → checkList l ≡ list.DoesNotFit
+      → checkList l ≡ list.Refused why.DoesNotFit
       → answerOf p peer l ≡ packet.Syn found.None
   pub syn-ack-unfit
       : (p : List ℕ) (peer : Mss) (l : List ℕ)
       → readPacket p peer .answer ≡ reading.SynAck
-      → checkList l ≡ list.DoesNotFit
+      → checkList l ≡ list.Refused why.DoesNotFit
       → answerOf p peer l ≡ packet.SynAck found.None
 
 -- `packet_at`, against `check_bundle` (refusals 12, 9 and 10).

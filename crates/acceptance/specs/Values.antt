@@ -18,7 +18,7 @@ use Rattle.flow.specs.declared.Answer.the-variants as answer
 use Rattle.flow.specs.Reading.{readPacket, refusalOf}
 use Rattle.matching.specs.declared.Hops.the-variants as hops
 use Rattle.distances.specs.declared.TtlFit.the-variants as ttlfit
-use Rattle.distances.specs.declared.WindowSize.the-variants as wsize
+use Rattle.sigrecord.specs.declared.WindowSize.the-variants as wsize
 use Rattle.distances.specs.DistanceGates.{windowMatches}
 use Rattle.distances.specs.Distances.{initialTtl, ttlFit}
 use Rattle.found.specs.declared.Found.the-variants as found

@@ -1,15 +1,15 @@
--- What lies between the header's end and the end of the IP length is alike exactly if it differs only in free items of a TCP part.
+-- What lies between two places of a packet is alike exactly if it differs only in free items of a TCP part.
 use mathlib.Core.Path.{_≡_}
 use mathlib.Core.List.{List}
 use Prim.Native.Nat.{ℕ, _+_, _-_, _<_, _≤_}
 use native.Mathlib.Omega.{arith}
-use native.Mathlib.Decide.{decLe, ℕ-discrete}
+use native.Mathlib.Decide.{decLe}
 use lib.ListN.{length}
 use Rattle.basis.specs.Bytes.{byteAt, part}
 use Rattle.alike.specs.Options.{Agree}
 use Rattle.alike.specs.Packets.{AlikeBody}
 use Rattle.alike.specs.Free.{Within, DifferOnly, FreeTcp}
-use Rattle.alike.proofs.Places.{part-alike, part-byte, part-within, part-differ}
+use Rattle.alike.proofs.Places.{agrees-at, part-alike, part-byte, part-within, part-differ}
 use Rattle.alike.proofs.TcpExact.{tcp-alike-by, tcp-differ}
 
 -- A free place of a TCP part, as a place of the packet.
@@ -39,8 +39,7 @@ module _ (p q : List ℕ) (h l : ℕ) (same : length p ≡ length q)
       in-part i (Inner.inner long x after before) = Within.lies x (omega arith) (omega arith)
 
   bodies-agree : (20 ≤ length (part h l p) → ⊥) → Agree h l p q
-  bodies-agree short i after before =
-      elim (ℕ-discrete (byteAt p i) (byteAt q i)) [ yes e ↦ e | no differ ↦ absurd (none (free i after before differ)) ]
+  bodies-agree short i after before = agrees-at p q i (λ differ. none (free i after before differ))
     where
       none : Inner p q h l i → ⊥
       none (Inner.inner long x a b) = short long

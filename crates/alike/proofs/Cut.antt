@@ -13,7 +13,7 @@ use lib.Seq.{take-nil, getD-take}
 use Rattle.basis.specs.Bytes.{byteAt, be32}
 use Rattle.one_option.specs.Options.{Opt, asked, optionsAfter, optionsOf}
 use Rattle.one_option.proofs.See.{opt}
-use Rattle.syn_options.proofs.Walk.{skipped}
+use Rattle.one_option.proofs.Options.{skipped, take-clipped}
 use Rattle.alike.specs.Free.{ZeroAlike}
 use Rattle.alike.proofs.Places.{be32-take, take-alike, take-byte}
 use Rattle.alike.proofs.Options.{LikeStamps, LikeRow}
@@ -30,17 +30,12 @@ cut-at-zero (o ∷ os) = refl
 
 -- ---- the options of the first bytes are the options cut
 
--- To skip or take more than there is is to skip or take what there is.
+-- To skip more than there is is to skip what there is.
 after-clipped : (k : ℕ) (s : List ℕ) → optionsAfter k s ≡ optionsAfter (min k (length s)) s
 unfolding optionsAfter
 after-clipped k [] = refl
 after-clipped zero (b ∷ s) = rw zero-min
 after-clipped (suc k) (b ∷ s) = rw suc-min-suc (after-clipped k s)
-
-take-clipped : (k : ℕ) (s : List ℕ) → take k s ≡ take (min k (length s)) s
-take-clipped zero s = rw zero-min
-take-clipped (suc k) [] = sym (take-nil (min (suc k) 0))
-take-clipped (suc k) (b ∷ s) = rw suc-min-suc (ap (_∷_ b) (take-clipped k s))
 
 -- Of two cuts either may come first.
 take-swap : (m n : ℕ) (s : List ℕ) → take m (take n s) ≡ take n (take m s)

@@ -3,16 +3,17 @@ use mathlib.Core.Path.{_≡_, refl, sym, _∙_, ap}
 use mathlib.Core.List.{List, [], _∷_}
 use Prim.Native.Nat.{ℕ, _/_}
 use native.Mathlib.Omega.{arith}
+use native.Mathlib.Decide.{decLe}
 use lib.ListN.{length}
-use Rattle.basis.specs.Bytes.{byteAt}
+use Rattle.basis.specs.Bytes.{byteAt, part}
 use Rattle.rfc.specs.Rfc791.{version}
 use Rattle.rfc.specs.Rfc9293.{options}
 use Rattle.one_option.specs.Options.{Opt, optionsOf}
-use Rattle.alike.specs.Free.{headerEnd4, lengthEnd4, headerEnd6, lengthEnd6}
+use Rattle.alike.specs.Free.{endBy}
 use Rattle.alike.specs.Options.{AlikeStamps, AlikeOption, AlikeRow}
 use Rattle.alike.specs.Tcp.{AlikeTcp}
 use Rattle.alike.specs.Ip.{AlikeIpv4, AlikeIpv6}
-use Rattle.alike.specs.Packets.{AlikeBody, Alike}
+use Rattle.alike.specs.Packets.{AlikeBody, IpLevel, AlikeBy, HeaderBy, document01, Alike}
 use Rattle.alike.proofs.Places.{part-alike}
 use Rattle.alike.proofs.Ip.{byte0, total-length-alike, payload-length-alike}
 
@@ -148,6 +149,13 @@ ipv6-trans {p} {q} {r} a b =
 
 -- ---- packets
 
+pub body-refl : (p : List ℕ) (from to : ℕ) → AlikeBody p p from to
+body-refl p from to =
+    elim (decLe 20 (length (part from to p))) [
+      | yes long ↦ AlikeBody.tcp long (tcp-refl (part from to p))
+      | no short ↦ AlikeBody.no-tcp (omega arith) (λ i l u. refl)
+    ]
+
 body-sym : (p q : List ℕ) (from to : ℕ) → length p ≡ length q → AlikeBody p q from to → AlikeBody q p from to
 body-sym p q from to same (AlikeBody.no-tcp short a) =
     let size = part-alike from to p q same in
@@ -170,40 +178,73 @@ body-trans p q r from to same (AlikeBody.tcp long a) (AlikeBody.no-tcp short b) 
     absurd (omega arith)
 body-trans p q r from to same (AlikeBody.tcp long a) (AlikeBody.tcp long' b) = AlikeBody.tcp long (tcp-trans a b)
 
--- The body of one packet has the ends of an alike one.
-module _ (p q x y : List ℕ) where
-  moved4 : AlikeIpv4 p q → AlikeBody x y (headerEnd4 q) (lengthEnd4 q) → AlikeBody x y (headerEnd4 p) (lengthEnd4 p)
-  moved4 a body = rw (byte0 p q a, total-length-alike p q a) body
+-- Of any level whose alike headers have the same ends.
+module _ (level : IpLevel) (same-header-end : (p q : List ℕ) → level .Header p q → level .headerEnd p ≡ level .headerEnd q)
+    (same-length-end : (p q : List ℕ) → level .Header p q → level .lengthEnd p ≡ level .lengthEnd q) where
+  -- The body of one packet has the ends of an alike one.
+  moved
+      : (p q x y : List ℕ)
+      → level .Header p q
+      → AlikeBody x y (level .headerEnd q) (level .lengthEnd q)
+      → AlikeBody x y (level .headerEnd p) (level .lengthEnd p)
+  moved p q x y a body = rw (same-header-end p q a, same-length-end p q a) body
 
-  moved6 : AlikeIpv6 p q → AlikeBody x y (headerEnd6 q) (lengthEnd6 q) → AlikeBody x y (headerEnd6 p) (lengthEnd6 p)
-  moved6 a body = rw (payload-length-alike p q a) body
+  by-sym : ((p q : List ℕ) → level .Header p q → level .Header q p) → (p q : List ℕ) → AlikeBy level p q → AlikeBy level q p
+  by-sym header-sym p q a =
+      let back = header-sym p q (a .header) in
+      record {
+        sameLength = sym (a .sameLength);
+        header = back;
+        body = moved q p q p back (body-sym p q _ _ (a .sameLength) (a .body));
+      }
+
+  by-trans
+      : ((p q r : List ℕ) → level .Header p q → level .Header q r → level .Header p r)
+      → (p q r : List ℕ)
+      → AlikeBy level p q
+      → AlikeBy level q r
+      → AlikeBy level p r
+  by-trans header-trans p q r a b =
+      record {
+        sameLength = a .sameLength ∙ b .sameLength;
+        header = header-trans p q r (a .header) (b .header);
+        body = body-trans p q r _ _ (a .sameLength) (a .body) (moved p q q r (a .header) (b .body));
+      }
 
 version-alike : (p q : List ℕ) (n : ℕ) → byteAt p 0 ≡ byteAt q 0 → version p ≡ n → version q ≡ n
 version-alike p q n e v = ap (λ (b : ℕ). b / 16) (sym e) ∙ v
 
+header-sym : (p q : List ℕ) → document01 .Header p q → document01 .Header q p
+header-sym p q (HeaderBy.same e) = HeaderBy.same (sym e)
+header-sym p q (HeaderBy.four v a) = HeaderBy.four (version-alike p q 4 (byte0 p q a) v) (ipv4-sym a)
+header-sym p q (HeaderBy.six v a) = HeaderBy.six (version-alike p q 6 (a .first) v) (ipv6-sym a)
+
+header-trans : (p q r : List ℕ) → document01 .Header p q → document01 .Header q r → document01 .Header p r
+header-trans p q r (HeaderBy.same e) b = rw e b
+header-trans p q r (HeaderBy.four v a) (HeaderBy.same e) = rw (← e) (HeaderBy.four v a)
+header-trans p q r (HeaderBy.four v a) (HeaderBy.four w b) = HeaderBy.four v (ipv4-trans a b)
+header-trans p q r (HeaderBy.four v a) (HeaderBy.six w b) = let v' = version-alike p q 4 (byte0 p q a) v in absurd (omega arith)
+header-trans p q r (HeaderBy.six v a) (HeaderBy.same e) = rw (← e) (HeaderBy.six v a)
+header-trans p q r (HeaderBy.six v a) (HeaderBy.six w b) = HeaderBy.six v (ipv6-trans a b)
+header-trans p q r (HeaderBy.six v a) (HeaderBy.four w b) = let v' = version-alike p q 6 (a .first) v in absurd (omega arith)
+
+same-header-end : (p q : List ℕ) → document01 .Header p q → document01 .headerEnd p ≡ document01 .headerEnd q
+unfolding endBy
+same-header-end p q (HeaderBy.same e) = rw e
+same-header-end p q (HeaderBy.four v a) = rw (← byte0 p q a, v)
+same-header-end p q (HeaderBy.six v a) = rw (← a .first, v)
+
+same-length-end : (p q : List ℕ) → document01 .Header p q → document01 .lengthEnd p ≡ document01 .lengthEnd q
+unfolding endBy
+same-length-end p q (HeaderBy.same e) = rw e
+same-length-end p q (HeaderBy.four v a) = rw (← byte0 p q a, v, total-length-alike p q a)
+same-length-end p q (HeaderBy.six v a) = rw (← a .first, v, payload-length-alike p q a)
+
 pub alike-refl : (p : List ℕ) → Alike p p
-alike-refl p = Alike.same refl
+alike-refl p = record { sameLength = refl; header = HeaderBy.same refl; body = body-refl p _ _ }
 
 pub alike-sym : (p q : List ℕ) → Alike p q → Alike q p
-alike-sym p q (Alike.same e) = Alike.same (sym e)
-alike-sym p q (Alike.v4 four a body) =
-    let four' = version-alike p q 4 (byte0 p q a) four in
-    Alike.v4 four' (ipv4-sym a) (moved4 q p q p (ipv4-sym a) (body-sym p q _ _ (a .sameLength) body))
-alike-sym p q (Alike.v6 six a body) =
-    let six' = version-alike p q 6 (a .first) six in
-    Alike.v6 six' (ipv6-sym a) (moved6 q p q p (ipv6-sym a) (body-sym p q _ _ (a .sameLength) body))
+alike-sym = by-sym document01 same-header-end same-length-end header-sym
 
 pub alike-trans : (p q r : List ℕ) → Alike p q → Alike q r → Alike p r
-alike-trans p q r (Alike.same e) b = rw e b
-alike-trans p q r (Alike.v4 four a x) (Alike.same e) = rw (← e) (Alike.v4 four a x)
-alike-trans p q r (Alike.v4 four a x) (Alike.v4 four' b y) =
-    Alike.v4 four (ipv4-trans a b) (body-trans p q r _ _ (a .sameLength) x (moved4 p q q r a y))
-alike-trans p q r (Alike.v4 four a x) (Alike.v6 six b y) =
-    let four' = version-alike p q 4 (byte0 p q a) four in
-    absurd (omega arith)
-alike-trans p q r (Alike.v6 six a x) (Alike.same e) = rw (← e) (Alike.v6 six a x)
-alike-trans p q r (Alike.v6 six a x) (Alike.v6 six' b y) =
-    Alike.v6 six (ipv6-trans a b) (body-trans p q r _ _ (a .sameLength) x (moved6 p q q r a y))
-alike-trans p q r (Alike.v6 six a x) (Alike.v4 four b y) =
-    let six' = version-alike p q 6 (a .first) six in
-    absurd (omega arith)
+alike-trans = by-trans document01 same-header-end same-length-end header-trans

@@ -1,251 +1,147 @@
--- Packets are alike exactly if they have one length and every place where they differ lies in a free item of document 01.
-use mathlib.Core.Path.{_≡_, sym, ap}
+-- Packets are alike exactly if they have one length and every place where they differ lies in a free item: of any IP level whose headers
+-- are so, and so of document 01's.
+use mathlib.Core.Path.{_≡_, sym}
 use mathlib.Core.List.{List}
 use mathlib.Core.Logic.{_↔_}
-use Prim.Native.Nat.{ℕ, _*_, _/_, _<_, _≤_}
+use Prim.Native.Nat.{ℕ, _<_, _≤_}
 use native.Mathlib.Omega.{arith}
-use native.Mathlib.Decide.{decLe, ℕ-discrete}
+use native.Mathlib.Decide.{ℕ-discrete}
+use borrow.Author.Tests.{ne-eqb}
 use lib.ListN.{length, set, length-set}
 use lib.Seq.{ext-getD, getD-set-other}
-use Rattle.basis.specs.Bytes.{byteAt, be16}
-use Rattle.rfc.specs.Rfc791 as v4
-use Rattle.rfc.specs.Rfc8200 as v6
-use Rattle.alike.specs.Ip.{AlikeIpv4, AlikeIpv6}
-use Rattle.alike.specs.Packets.{AlikeBody, Alike}
-use Rattle.alike.specs.Free.{ZeroAlike, headerEnd4, lengthEnd4, headerEnd6, lengthEnd6, Within, DifferOnly, Free}
-use Rattle.alike.proofs.Places.{agrees, past-both, be16-agree, zero-alike}
+use Rattle.basis.specs.Bytes.{byteAt}
+use Rattle.rfc.specs.Rfc791.{version}
+use Rattle.alike.specs.Free.{Within, DifferOnly, ItemBy, FreePacket, endBy, Free}
+use Rattle.alike.specs.Packets.{IpLevel, AlikeBy, FreeBy, ExactHeader, HeaderBy, levelBy, ipv4, ipv6, document01, Alike}
+use Rattle.alike.proofs.Places.{upTo, agrees-at, past-both}
 use Rattle.alike.proofs.BodyExact.{Inner, body-alike-by, body-differ}
+use Rattle.alike.proofs.HeaderExact.{exact4, exact6}
 
--- ---- the free places of each version
+-- ---- of any level
 
--- In an IPv4 packet: in the identification, elsewhere in the header, past both ends, or in a TCP part.
-data Free4 (p q : List ℕ) (i : ℕ) : Type 0 where
-  in-identification : ZeroAlike (v4.identification p) (v4.identification q) → 4 ≤ i → i < 6 → Free4 p q i
-  in-header : 10 ≤ i → i < headerEnd4 p → Free4 p q i
-  past-ends : headerEnd4 p ≤ i → lengthEnd4 p ≤ i → Free4 p q i
-  in-part : headerEnd4 p ≤ i → Inner p q (headerEnd4 p) (lengthEnd4 p) i → Free4 p q i
-
--- In an IPv6 packet: in the flow label, elsewhere in the header, past both ends, or in a TCP part.
-data Free6 (p q : List ℕ) (i : ℕ) : Type 0 where
-  in-label
-      : byteAt p 1 / 16 ≡ byteAt q 1 / 16
-      → ZeroAlike (v6.flowLabel p) (v6.flowLabel q)
-      → 1 ≤ i
-      → i < 4
-      → Free6 p q i
-  in-header : 8 ≤ i → i < headerEnd6 p → Free6 p q i
-  past-ends : headerEnd6 p ≤ i → lengthEnd6 p ≤ i → Free6 p q i
-  in-part : headerEnd6 p ≤ i → Inner p q (headerEnd6 p) (lengthEnd6 p) i → Free6 p q i
-
--- Of neither version nothing is free.
-data View (p q : List ℕ) (i : ℕ) : Type 0 where
-  four : v4.version p ≡ 4 → Free4 p q i → View p q i
-  six : v4.version p ≡ 6 → Free6 p q i → View p q i
-
-view : (p q : List ℕ) (i : ℕ) → Within (Free p q) i → View p q i
-view p q i (Within.lies (Free.identification4 v z) after before) = four v (Free4.in-identification z after before)
-view p q i (Within.lies (Free.checksum4 v) after before) = four v (Free4.in-header (omega arith) (omega arith))
-view p q i (Within.lies (Free.addresses4 v) after before) = four v (Free4.in-header (omega arith) (omega arith))
-view p q i (Within.lies (Free.options4 v) after before) = four v (Free4.in-header (omega arith) (omega arith))
-view p q i (Within.lies (Free.past4 v) after before) = four v (Free4.past-ends (omega arith) (omega arith))
-view p q i (Within.lies (Free.flowLabel6 v c z) after before) = six v (Free6.in-label c z after before)
-view p q i (Within.lies (Free.addresses6 v) after before) = six v (Free6.in-header (omega arith) (omega arith))
-view p q i (Within.lies (Free.past6 v) after before) = six v (Free6.past-ends (omega arith) (omega arith))
-view p q i (Within.lies (Free.in-tcp4 v long x) after before) =
-    four v (Free4.in-part (omega arith) (Inner.inner (omega arith) x after before))
-view p q i (Within.lies (Free.in-tcp6 v long x) after before) =
-    six v (Free6.in-part (omega arith) (Inner.inner (omega arith) x after before))
-
--- ---- from places to fields: version 4
-
-module _ (p q : List ℕ) (v : v4.version p ≡ 4) (d : DifferOnly (Free p q) p q) where
-  -- A byte before the checksum.
-  low4 : (i : ℕ) → i < 10 → (ZeroAlike (v4.identification p) (v4.identification q) → 4 ≤ i → i < 6 → ⊥) → byteAt p i ≡ byteAt q i
-  low4 i h id = agrees d i (λ x. clash (view p q i x))
+module _ (level : IpLevel) (header : ExactHeader level) (p q : List ℕ) where
+  differ-only : AlikeBy level p q → DifferOnly (FreeBy level p q) p q
+  differ-only a = record { sameLength = a .sameLength; free = place }
     where
-      clash : View p q i → ⊥
-      clash (four w (Free4.in-identification z a b)) = id z a b
-      clash (four w (Free4.in-header a b)) = omega arith
-      clash (four w (Free4.past-ends a b)) = omega arith
-      clash (four w (Free4.in-part a x)) = omega arith
-      clash (six w x) = omega arith
+      in-header : {i : ℕ} → Within (level .Item p q) i → Within (FreeBy level p q) i
+      in-header (Within.lies x after before) = Within.lies (FreePacket.header x) after before
 
-  header4 : AlikeIpv4 p q
-  header4 =
+      in-part : {i : ℕ} → Inner p q (level .headerEnd p) (level .lengthEnd p) i → Within (FreeBy level p q) i
+      in-part (Inner.inner long x after before) = Within.lies (FreePacket.in-tcp (omega arith) x) after before
+
+      place : (i : ℕ) → (byteAt p i ≡ byteAt q i → ⊥) → Within (FreeBy level p q) i
+      place i differ =
+          upTo (level .headerEnd p) i (λ inside.
+          in-header (header .exactly p q (a .sameLength) .0 (a .header) i inside differ)) (λ after.
+          upTo (level .lengthEnd p) i (λ before.
+          in-part (body-differ p q (level .headerEnd p) (level .lengthEnd p) (a .body) i after before differ)) (λ past.
+          upTo (length p) i (λ within. Within.lies FreePacket.past (omega arith) (omega arith)) (λ outside.
+          absurd (differ (past-both i p q (a .sameLength) outside)))))
+
+  alike-by : DifferOnly (FreeBy level p q) p q → AlikeBy level p q
+  alike-by d =
       record {
         sameLength = d .sameLength;
-        first = λ i l u. low4 i (omega arith) (λ z a b. omega arith);
-        identification = zero-alike (v4.identification p) (v4.identification q) (λ other.
-            be16-agree 4 p q (λ i l u. low4 i (omega arith) (λ z a b. other z)));
-        second = λ i l u. low4 i (omega arith) (λ z a b. omega arith);
+        header = header .exactly p q (d .sameLength) .1 (λ i inside differ. in-header i inside (d .free i differ));
+        body = body-alike-by p q (level .headerEnd p) (level .lengthEnd p) (d .sameLength) (λ i after before differ.
+            in-part i after before (d .free i differ));
       }
-
-  inner4 : (i : ℕ) → headerEnd4 p ≤ i → i < lengthEnd4 p → View p q i → Inner p q (headerEnd4 p) (lengthEnd4 p) i
-  inner4 i h l (four w (Free4.in-identification z a b)) = absurd (omega arith)
-  inner4 i h l (four w (Free4.in-header a b)) = absurd (omega arith)
-  inner4 i h l (four w (Free4.past-ends a b)) = absurd (omega arith)
-  inner4 i h l (four w (Free4.in-part a x)) = x
-  inner4 i h l (six w x) = absurd (omega arith)
-
-  alike4 : Alike p q
-  alike4 =
-      Alike.v4 v header4
-      (body-alike-by p q (headerEnd4 p) (lengthEnd4 p) (d .sameLength)
-      (λ i after before differ. inner4 i after before (view p q i (d .free i differ))))
-
--- ---- version 6
-
-module _ (p q : List ℕ) (v : v4.version p ≡ 6) (d : DifferOnly (Free p q) p q) where
-  -- A byte before the addresses.
-  low6
-      : (i : ℕ)
-      → i < 8
-      → (byteAt p 1 / 16 ≡ byteAt q 1 / 16 → ZeroAlike (v6.flowLabel p) (v6.flowLabel q) → 1 ≤ i → i < 4 → ⊥)
-      → byteAt p i ≡ byteAt q i
-  low6 i h label = agrees d i (λ x. clash (view p q i x))
     where
-      clash : View p q i → ⊥
-      clash (four w x) = omega arith
-      clash (six w (Free6.in-label c z a b)) = label c z a b
-      clash (six w (Free6.in-header a b)) = omega arith
-      clash (six w (Free6.past-ends a b)) = omega arith
-      clash (six w (Free6.in-part a x)) = omega arith
+      in-header : (i : ℕ) → i < level .headerEnd p → Within (FreeBy level p q) i → Within (level .Item p q) i
+      in-header i inside (Within.lies (FreePacket.header x) a b) = Within.lies x a b
+      in-header i inside (Within.lies FreePacket.past a b) = absurd (omega arith)
+      in-header i inside (Within.lies (FreePacket.in-tcp long x) a b) = absurd (omega arith)
 
-  class : byteAt p 1 / 16 ≡ byteAt q 1 / 16
-  class = elim (ℕ-discrete (byteAt p 1 / 16) (byteAt q 1 / 16)) [ yes e ↦ e | no other ↦ by other ]
-    where
-      by : (byteAt p 1 / 16 ≡ byteAt q 1 / 16 → ⊥) → byteAt p 1 / 16 ≡ byteAt q 1 / 16
-      by other = ap (λ (b : ℕ). b / 16) (low6 1 (omega arith) (λ c z a b. other c))
+      in-part
+          : (i : ℕ)
+          → level .headerEnd p ≤ i
+          → i < level .lengthEnd p
+          → Within (FreeBy level p q) i
+          → Inner p q (level .headerEnd p) (level .lengthEnd p) i
+      in-part i after before (Within.lies (FreePacket.header x) a b) = let in-it = header .within p q x in absurd (omega arith)
+      in-part i after before (Within.lies FreePacket.past a b) = absurd (omega arith)
+      in-part i after before (Within.lies (FreePacket.in-tcp long x) a b) = Inner.inner (omega arith) x a b
 
-  label : ZeroAlike (v6.flowLabel p) (v6.flowLabel q)
-  label = zero-alike (v6.flowLabel p) (v6.flowLabel q) same-label
-    where
-      same-label : (ZeroAlike (v6.flowLabel p) (v6.flowLabel q) → ⊥) → v6.flowLabel p ≡ v6.flowLabel q
-      same-label other =
-          let one : byteAt p 1 ≡ byteAt q 1 = low6 1 (omega arith) (λ c z a b. other z) in
-          let two : be16 p 2 ≡ be16 q 2 = be16-agree 2 p q (λ i l u. low6 i (omega arith) (λ c z a b. other z)) in
-          rw (one, two)
+  pub exact-by : AlikeBy level p q ↔ DifferOnly (FreeBy level p q) p q
+  exact-by = (differ-only, alike-by)
 
-  header6 : AlikeIpv6 p q
-  header6 =
-      record {
-        sameLength = d .sameLength;
-        first = low6 0 (omega arith) (λ c z a b. omega arith);
-        second = class;
-        flowLabel = label;
-        third = λ i l u. low6 i (omega arith) (λ c z a b. omega arith);
-      }
+-- ---- of two levels, by the version
 
-  inner6 : (i : ℕ) → headerEnd6 p ≤ i → i < lengthEnd6 p → View p q i → Inner p q (headerEnd6 p) (lengthEnd6 p) i
-  inner6 i h l (four w x) = absurd (omega arith)
-  inner6 i h l (six w (Free6.in-label c z a b)) = absurd (omega arith)
-  inner6 i h l (six w (Free6.in-header a b)) = absurd (omega arith)
-  inner6 i h l (six w (Free6.past-ends a b)) = absurd (omega arith)
-  inner6 i h l (six w (Free6.in-part a x)) = x
+module _ (level4 level6 : IpLevel) (header4 : ExactHeader level4) (header6 : ExactHeader level6) where
+  -- Where a header ends, by the version.
+  module _ (p : List ℕ) where
+    end4 : version p ≡ 4 → levelBy level4 level6 .headerEnd p ≡ level4 .headerEnd p
+    unfolding endBy
+    end4 v = rw v
 
-  alike6 : Alike p q
-  alike6 =
-      Alike.v6 v header6
-      (body-alike-by p q (headerEnd6 p) (lengthEnd6 p) (d .sameLength)
-      (λ i after before differ. inner6 i after before (view p q i (d .free i differ))))
+    end6 : version p ≡ 6 → levelBy level4 level6 .headerEnd p ≡ level6 .headerEnd p
+    unfolding endBy
+    end6 v = rw v
 
--- Packets of one length that differ only in free bytes, however many items at once, are alike.
-alike-by : (p q : List ℕ) → DifferOnly (Free p q) p q → Alike p q
-alike-by p q d =
-    elim (ℕ-discrete (v4.version p) 4) [
-      | yes v ↦ alike4 p q v d
-      | no not4 ↦ elim (ℕ-discrete (v4.version p) 6) [
-        | yes v ↦ alike6 p q v d
-        | no not6 ↦ Alike.same (ext-getD 0 p q (d .sameLength) (λ i h. agrees d i (λ x. clash not4 not6 i (view p q i x))))
-      ]
-    ]
-  where
-    clash : (v4.version p ≡ 4 → ⊥) → (v4.version p ≡ 6 → ⊥) → (i : ℕ) → View p q i → ⊥
-    clash not4 not6 i (four v x) = not4 v
-    clash not4 not6 i (six v x) = not6 v
+    end0 : (version p ≡ 4 → ⊥) → (version p ≡ 6 → ⊥) → levelBy level4 level6 .headerEnd p ≡ length p
+    unfolding endBy
+    end0 not4 not6 = rw (ne-eqb (version p) 4 not4, ne-eqb (version p) 6 not6)
 
--- ---- from fields to places
+  module _ (p q : List ℕ) where
+    abbrev Items : ℕ → ℕ → Type 0
+    Items = levelBy level4 level6 .Item p q
 
-module _ (p q : List ℕ) (same : length p ≡ length q) (i : ℕ) (differ : byteAt p i ≡ byteAt q i → ⊥) where
-  -- A place where two packets differ is within them.
-  inside : i < length p
-  inside = elim (decLe (length p) i) [ yes past ↦ absurd (differ (past-both i p q same past)) | no h ↦ omega arith ]
+    within-by : {from to : ℕ} → Items from to → to ≤ levelBy level4 level6 .headerEnd p
+    within-by (ItemBy.four v x) = rw (end4 p v) (header4 .within p q x)
+    within-by (ItemBy.six v x) = rw (end6 p v) (header6 .within p q x)
 
-  place4
-      : v4.version p ≡ 4
-      → AlikeIpv4 p q
-      → AlikeBody p q (headerEnd4 p) (lengthEnd4 p)
-      → Within (Free p q) i
-  place4 v a body =
-      let here = inside in
-      elim (decLe i 3) [
-        | yes h ↦ absurd (differ (a .first i (omega arith) (omega arith)))
-        | no h3 ↦ elim (decLe i 5) [
-          | yes h ↦ Within.lies (Free.identification4 v (a .identification)) (omega arith) (omega arith)
-          | no h5 ↦ elim (decLe i 9) [
-            | yes h ↦ absurd (differ (a .second i (omega arith) (omega arith)))
-            | no h9 ↦ elim (decLe i 11) [
-              | yes h ↦ Within.lies (Free.checksum4 v) (omega arith) (omega arith)
-              | no h11 ↦ elim (decLe i 19) [
-                | yes h ↦ Within.lies (Free.addresses4 v) (omega arith) (omega arith)
-                | no h19 ↦ elim (decLe (4 * v4.ihl p) i) [
-                  | no options ↦ Within.lies (Free.options4 v) (omega arith) (omega arith)
-                  | yes h ↦ elim (decLe (lengthEnd4 p) i) [
-                    | yes past ↦ Within.lies (Free.past4 v) (omega arith) (omega arith)
-                    | no within ↦ outer (body-differ p q (headerEnd4 p) (lengthEnd4 p) body i (omega arith) (omega arith) differ)
-                  ]
-                ]
-              ]
-            ]
+    lift4 : {i : ℕ} → version p ≡ 4 → Within (level4 .Item p q) i → Within Items i
+    lift4 v (Within.lies x a b) = Within.lies (ItemBy.four v x) a b
+
+    lift6 : {i : ℕ} → version p ≡ 6 → Within (level6 .Item p q) i → Within Items i
+    lift6 v (Within.lies x a b) = Within.lies (ItemBy.six v x) a b
+
+    only4 : {i : ℕ} → version p ≡ 4 → Within Items i → Within (level4 .Item p q) i
+    only4 v (Within.lies (ItemBy.four w x) a b) = Within.lies x a b
+    only4 v (Within.lies (ItemBy.six w x) a b) = absurd (omega arith)
+
+    only6 : {i : ℕ} → version p ≡ 6 → Within Items i → Within (level6 .Item p q) i
+    only6 v (Within.lies (ItemBy.four w x) a b) = absurd (omega arith)
+    only6 v (Within.lies (ItemBy.six w x) a b) = Within.lies x a b
+
+    none : {i : ℕ} → (version p ≡ 4 → ⊥) → (version p ≡ 6 → ⊥) → Within Items i → ⊥
+    none not4 not6 (Within.lies (ItemBy.four v x) a b) = not4 v
+    none not4 not6 (Within.lies (ItemBy.six v x) a b) = not6 v
+
+    abbrev Places : Type 0
+    Places = (i : ℕ) → i < levelBy level4 level6 .headerEnd p → (byteAt p i ≡ byteAt q i → ⊥) → Within Items i
+
+    places : length p ≡ length q → levelBy level4 level6 .Header p q → Places
+    places same (HeaderBy.same e) i inside differ = absurd (differ (rw e))
+    places same (HeaderBy.four v a) i inside differ = lift4 v (header4 .exactly p q same .0 a i (rw (end4 p v) at inside) differ)
+    places same (HeaderBy.six v a) i inside differ = lift6 v (header6 .exactly p q same .0 a i (rw (end6 p v) at inside) differ)
+
+    fields : length p ≡ length q → Places → levelBy level4 level6 .Header p q
+    fields same free =
+        elim (ℕ-discrete (version p) 4) [
+          | yes v ↦ HeaderBy.four v (header4 .exactly p q same .1 (λ i inside differ. only4 v (free i (rw (end4 p v) inside) differ)))
+          | no not4 ↦ elim (ℕ-discrete (version p) 6) [
+            | yes v ↦ HeaderBy.six v (header6 .exactly p q same .1 (λ i inside differ. only6 v (free i (rw (end6 p v) inside) differ)))
+            | no not6 ↦ HeaderBy.same (ext-getD 0 p q same (λ i inside.
+                agrees-at p q i (λ differ. none not4 not6 (free i (rw (end0 p not4 not6) inside) differ))))
           ]
         ]
-      ]
-    where
-      outer : Inner p q (headerEnd4 p) (lengthEnd4 p) i → Within (Free p q) i
-      outer (Inner.inner long x after before) = Within.lies (Free.in-tcp4 v (omega arith) x) after before
 
-  place6
-      : v4.version p ≡ 6
-      → AlikeIpv6 p q
-      → AlikeBody p q (headerEnd6 p) (lengthEnd6 p)
-      → Within (Free p q) i
-  place6 v a body =
-      let here = inside in
-      elim (decLe i 0) [
-        | yes h ↦ (let e : i ≡ 0 = omega arith in absurd (differ (rw e (a .first))))
-        | no h0 ↦ elim (decLe i 3) [
-          | yes h ↦ Within.lies (Free.flowLabel6 v (a .second) (a .flowLabel)) (omega arith) (omega arith)
-          | no h3 ↦ elim (decLe i 7) [
-            | yes h ↦ absurd (differ (a .third i (omega arith) (omega arith)))
-            | no h7 ↦ elim (decLe i 39) [
-              | yes h ↦ Within.lies (Free.addresses6 v) (omega arith) (omega arith)
-              | no h39 ↦ elim (decLe (lengthEnd6 p) i) [
-                | yes past ↦ Within.lies (Free.past6 v) (omega arith) (omega arith)
-                | no within ↦ outer (body-differ p q (headerEnd6 p) (lengthEnd6 p) body i (omega arith) (omega arith) differ)
-              ]
-            ]
-          ]
-        ]
-      ]
-    where
-      outer : Inner p q (headerEnd6 p) (lengthEnd6 p) i → Within (Free p q) i
-      outer (Inner.inner long x after before) = Within.lies (Free.in-tcp6 v (omega arith) x) after before
+  exact-by-version : ExactHeader (levelBy level4 level6)
+  exact-by-version = record { within = within-by; exactly = λ p q same. (places p q same, fields p q same) }
 
-differ-only : (p q : List ℕ) → Alike p q → DifferOnly (Free p q) p q
-differ-only p q (Alike.same e) = record { sameLength = ap length e; free = λ i differ. absurd (differ (rw e)) }
-differ-only p q (Alike.v4 v a body) =
-    record { sameLength = a .sameLength; free = λ i differ. place4 p q (a .sameLength) i differ v a body }
-differ-only p q (Alike.v6 v a body) =
-    record { sameLength = a .sameLength; free = λ i differ. place6 p q (a .sameLength) i differ v a body }
+-- ---- of document 01
 
--- ---- both ways
+pub exact-header : ExactHeader document01
+exact-header = exact-by-version ipv4 ipv6 exact4 exact6
 
 pub exact : (p q : List ℕ) → Alike p q ↔ DifferOnly (Free p q) p q
-exact p q = (differ-only p q, alike-by p q)
+exact = exact-by document01 exact-header
 
 -- One byte of a free item changed.
 pub free-byte : (p : List ℕ) (i v : ℕ) {from to : ℕ} → Free p (set p i v) from to → from ≤ i → i < to → Alike p (set p i v)
-free-byte p i v {from} {to} x after before = alike-by p (set p i v) (record { sameLength = sym (length-set p i v); free = only })
+free-byte p i v {from} {to} x after before =
+    alike-by document01 exact-header p (set p i v) (record { sameLength = sym (length-set p i v); free = only })
   where
     only : (j : ℕ) → (byteAt p j ≡ byteAt (set p i v) j → ⊥) → Within (Free p (set p i v)) j
     only j differ =

@@ -3,12 +3,12 @@ pub mod BodyExact
 pub mod Cut
 pub mod Equivalence
 pub mod Exact
+pub mod HeaderExact
 pub mod Ip
 pub mod Options
 pub mod OptionsAlike
 pub mod OptionsDiffer
 pub mod Packets
-pub mod Part
 pub mod Places
 pub mod Tcp
 pub mod TcpExact

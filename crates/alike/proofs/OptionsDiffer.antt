@@ -7,11 +7,11 @@ use native.Mathlib.Omega.{arith}
 use native.Mathlib.Decide.{decLe}
 use lib.ListN.{length, take, drop, length-take, length-drop}
 use lib.Seq.{getD-take, getD-drop}
-use Rattle.basis.specs.Bytes.{byteAt}
+use Rattle.basis.specs.Bytes.{byteAt, be32}
 use Rattle.one_option.specs.Options.{Opt, asked, optionOf, optionsAfter}
-use Rattle.syn_options.proofs.Walk.{skipped}
+use Rattle.one_option.proofs.Options.{skipped}
 use Rattle.alike.specs.Options.{AlikeStamps, AlikeOption, AlikeRow, AlikeOptions}
-use Rattle.alike.specs.Free.{Within, DifferOnly, WalkReaches, FreeStamp}
+use Rattle.alike.specs.Free.{ZeroAlike, Within, DifferOnly, WalkReaches, Half, FreeStamp}
 use Rattle.alike.proofs.Places.{past-both, be32-take, drop-alike}
 use Rattle.alike.proofs.OptionsAlike.{asked-stamps, be32-behind, byte-on, be32-on, options-alike-by}
 
@@ -87,12 +87,12 @@ module _ (b c : ℕ) (s t : List ℕ) (size : length s ≡ length t) (first : Ca
         | no pos ↦ elim (decLe i 4) [
           | yes four ↦ elim (decLe (length (take (asked b s) s)) 4) [
             | yes cut ↦ absurd (differ (a .ownCut (omega arith) i (omega arith) (omega arith)))
-            | no whole ↦ own-free (omega arith) (omega arith) (omega arith)
+            | no whole ↦ half-free Half.own (omega arith) (a .ownStamp (omega arith)) (omega arith) (omega arith)
           ]
           | no over ↦ elim (decLe i 8) [
             | yes eight ↦ elim (decLe (length (take (asked b s) s)) 8) [
               | yes cut ↦ absurd (differ (a .peerCut (omega arith) i (omega arith) (omega arith)))
-              | no whole ↦ peer-free (omega arith) (omega arith) (omega arith)
+              | no whole ↦ half-free Half.peer (omega arith) (a .peerStamp (omega arith)) (omega arith) (omega arith)
             ]
             | no past ↦ absurd (differ (a .beyond i (omega arith) (omega (arith, length-take (asked b s) s))))
           ]
@@ -102,28 +102,24 @@ module _ (b c : ℕ) (s t : List ℕ) (size : length s ≡ length t) (first : Ca
       ask : asked b s ≡ max (byteAt s 0) 2 - 1
       ask = asked-stamps b s e
 
-      own-free : 4 < length (take (asked b s) s) → 1 ≤ i → i < 5 → Within (FreeStamp (b ∷ s) (c ∷ t)) (suc i)
-      own-free whole l u =
+      half-free
+          : {k : ℕ}
+          → Half (suc k)
+          → k + 4 ≤ length (take (asked b s) s)
+          → ZeroAlike (be32 (take (asked b s) s) k) (be32 (take (asked c t) t) k)
+          → k ≤ i
+          → i < k + 4
+          → Within (FreeStamp (b ∷ s) (c ∷ t)) (suc i)
+      half-free {k} half whole z l u =
           let x = length-take (asked b s) s in
           let y = length-take (asked c t) t in
           let many = as-many in
           let says = ask in
+          let place : 0 + suc k ≡ suc k = omega arith in
           Within.lies
-          (FreeStamp.own {at = 0} WalkReaches.first e (omega arith) (omega arith)
-          (rw (be32-behind b 1 s, be32-behind c 1 t)
-          (rw (be32-take (asked b s) 1 s (omega arith), be32-take (asked c t) 1 t (omega arith)) at (a .ownStamp (omega arith)))))
-          (omega arith) (omega arith)
-
-      peer-free : 8 < length (take (asked b s) s) → 5 ≤ i → i < 9 → Within (FreeStamp (b ∷ s) (c ∷ t)) (suc i)
-      peer-free whole l u =
-          let x = length-take (asked b s) s in
-          let y = length-take (asked c t) t in
-          let many = as-many in
-          let says = ask in
-          Within.lies
-          (FreeStamp.peer {at = 0} WalkReaches.first e (omega arith) (omega arith)
-          (rw (be32-behind b 5 s, be32-behind c 5 t)
-          (rw (be32-take (asked b s) 5 s (omega arith), be32-take (asked c t) 5 t (omega arith)) at (a .peerStamp (omega arith)))))
+          (FreeStamp.half {at = 0} half WalkReaches.first e (omega arith) (omega arith)
+          (rw (place, be32-behind b k s, be32-behind c k t)
+          (rw (be32-take (asked b s) k s (omega arith), be32-take (asked c t) k t (omega arith)) at z)))
           (omega arith) (omega arith)
 
   -- The own bytes differ only in free halves.
@@ -147,23 +143,14 @@ module _ (b c : ℕ) (s t : List ℕ) (size : length s ≡ length t) (first : Ca
       : (j : ℕ)
       → Within (FreeStamp (drop (asked b s) s) (drop (asked b s) t)) j
       → Within (FreeStamp (b ∷ s) (c ∷ t)) (suc (asked b s + j))
-  before j (Within.lies (FreeStamp.own {at} r k w l z) after before') =
+  before j (Within.lies (FreeStamp.half {at} {k = from} half r k w l z) after before') =
       let x = length-drop (asked b s) s in
       Within.lies
-      (FreeStamp.own {at = suc (asked b s + at)} (WalkReaches.next r)
+      (FreeStamp.half {at = suc (asked b s + at)} half (WalkReaches.next r)
       (sym (getD-drop (asked b s) s at 0) ∙ k)
       (rw (byte-on b (asked b s) at 1 s) at w)
       (omega arith)
-      (rw (be32-on b (asked b s) at 2 s, be32-on c (asked b s) at 2 t) at z))
-      (omega arith) (omega arith)
-  before j (Within.lies (FreeStamp.peer {at} r k w l z) after before') =
-      let x = length-drop (asked b s) s in
-      Within.lies
-      (FreeStamp.peer {at = suc (asked b s + at)} (WalkReaches.next r)
-      (sym (getD-drop (asked b s) s at 0) ∙ k)
-      (rw (byte-on b (asked b s) at 1 s) at w)
-      (omega arith)
-      (rw (be32-on b (asked b s) at 6 s, be32-on c (asked b s) at 6 t) at z))
+      (rw (be32-on b (asked b s) at from s, be32-on c (asked b s) at from t) at z))
       (omega arith) (omega arith)
 
   -- What follows the own bytes of both, if it is there, is what lies behind as many bytes.

@@ -8,12 +8,20 @@ use native.Mathlib.Nat.{add-assoc}
 use native.Mathlib.Decide.{decLe, ℕ-discrete}
 use lib.Dec.{eqb}
 use lib.ListN.{length, take, drop, length-take, length-drop, List·getD-eq-default}
-use lib.Seq.{getD-take, getD-drop, ext-getD}
+use lib.Seq.{take-all, getD-take, getD-drop, ext-getD}
 use Rattle.basis.specs.Bytes.{byteAt, be16, be32, part}
 use Rattle.alike.specs.Options.{Agree}
 use Rattle.alike.specs.Free.{ZeroAlike, Within, DifferOnly}
 
 -- ---- bytes
+
+-- A place lies before another, or not.
+pub upTo : {A : Type 0} (n i : ℕ) → (i < n → A) → (n ≤ i → A) → A
+upTo n i before after = elim (decLe n i) [ yes h ↦ after h | no h ↦ before (omega arith) ]
+
+-- Strings that cannot differ at a place agree there.
+pub agrees-at : (p q : List ℕ) (i : ℕ) → ((byteAt p i ≡ byteAt q i → ⊥) → ⊥) → byteAt p i ≡ byteAt q i
+agrees-at p q i none = elim (ℕ-discrete (byteAt p i) (byteAt q i)) [ yes e ↦ e | no differ ↦ absurd (none differ) ]
 
 -- Strings that differ only in items agree at a place of none.
 pub agrees
@@ -22,8 +30,7 @@ pub agrees
     → (i : ℕ)
     → (Within Item i → ⊥)
     → byteAt p i ≡ byteAt q i
-agrees {Item} {p} {q} d i none =
-    elim (ℕ-discrete (byteAt p i) (byteAt q i)) [ yes e ↦ e | no differ ↦ absurd (none (d .free i differ)) ]
+agrees {Item} {p} {q} d i none = agrees-at p q i (λ differ. none (d .free i differ))
 
 -- Past both ends both read as 0.
 pub past-both : (i : ℕ) (p q : List ℕ) → length p ≡ length q → length p ≤ i → byteAt p i ≡ byteAt q i
@@ -132,3 +139,15 @@ module _ (from to : ℕ) (p q : List ℕ) (same : length p ≡ length q) (i : �
 
   pub part-differ : byteAt p (from + i) ≡ byteAt q (from + i) → ⊥
   part-differ e = differ (part-byte from to i p part-within ∙ e ∙ sym (part-byte from to i q part-within))
+
+-- A part that ends where the string does is one that ends past it.
+pub clipped : (from to : ℕ) (s : List ℕ) → part from (min to (length s)) s ≡ part from to s
+clipped from to s = elim (decLe to (length s)) [ yes h ↦ inside h | no h ↦ past h ]
+  where
+    inside : to ≤ length s → part from (min to (length s)) s ≡ part from to s
+    inside h = let e : min to (length s) ≡ to = omega arith in rw e
+
+    past : (to ≤ length s → ⊥) → part from (min to (length s)) s ≡ part from to s
+    past h =
+        let size = length-drop from s in
+        rw (take-all (min to (length s) - from) (drop from s) (omega arith), take-all (to - from) (drop from s) (omega arith))

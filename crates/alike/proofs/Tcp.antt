@@ -13,6 +13,7 @@ use Rattle.syn_options.specs.Walk.{walkOf}
 use Rattle.ip.specs.declared.IpFacts.{IpFacts}
 use Rattle.flow.specs.Tcp.{headerQuirks, quirksOfHeaders, payloadClass, observationOf, observationFrom, knownPeer, readTcp}
 use Rattle.alike.specs.Tcp.{AlikeTcp}
+use Rattle.alike.specs.Stages.{KeepsTcp}
 use Rattle.alike.proofs.Places.{be16-agree}
 use Rattle.alike.proofs.Walks.{walk-alike}
 
@@ -38,5 +39,5 @@ module _ (f : IpFacts) (t u : List ℕ) (peer : Mss) (a : AlikeTcp t u) where
   read-tcp-alike = rw (a .control 13 (omega arith) (omega arith), observed-alike true mss.Absent, observed-alike false (knownPeer peer))
 
 -- Two alike TCP parts give one reading, for every byte string, whatever its bytes.
-pub tcp-alike : (f : IpFacts) (t u : List ℕ) (peer : Mss) → AlikeTcp t u → readTcp f t peer ≡ readTcp f u peer
+pub tcp-alike : KeepsTcp readTcp
 tcp-alike = read-tcp-alike

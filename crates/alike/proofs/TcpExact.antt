@@ -4,14 +4,14 @@ use mathlib.Core.List.{List}
 use mathlib.Core.Logic.{_↔_}
 use Prim.Native.Nat.{ℕ, _+_, _*_, _-_, _/_, _<_, _≤_}
 use native.Mathlib.Omega.{arith}
-use native.Mathlib.Decide.{decLe, ℕ-discrete}
+use native.Mathlib.Decide.{ℕ-discrete}
 use lib.ListN.{length}
 use Rattle.basis.specs.Bytes.{byteAt, part}
 use Rattle.rfc.specs.Rfc9293.{sequence, acknowledgment, dataOffset, urgentPointer, optionsEnd, options}
 use Rattle.alike.specs.Options.{AlikeOptions}
 use Rattle.alike.specs.Tcp.{AlikeTcp}
 use Rattle.alike.specs.Free.{ZeroAlike, Within, DifferOnly, FreeStamp, FreeTcp}
-use Rattle.alike.proofs.Places.{agrees, past-both, be16-agree, be32-agree, zero-alike, part-alike, part-byte, part-within, part-differ}
+use Rattle.alike.proofs.Places.{upTo, agrees, past-both, be16-agree, be32-agree, zero-alike, part-alike, part-byte, part-within, part-differ}
 use Rattle.alike.proofs.OptionsAlike.{options-alike-by}
 use Rattle.alike.proofs.OptionsDiffer.{options-differ}
 
@@ -122,41 +122,23 @@ module _ (t u : List ℕ) (a : AlikeTcp t u) where
 
   late-place : (i : ℕ) → 20 ≤ i → (byteAt t i ≡ byteAt u i → ⊥) → Within (FreeTcp t u) i
   late-place i late differ =
-      elim (decLe (length t) i) [
-        | yes past ↦ absurd (differ (past-both i t u (a .sameLength) past))
-        | no inside ↦ elim (decLe (4 * dataOffset t) i) [
-          | yes after ↦ Within.lies FreeTcp.payload (omega arith) (omega arith)
-          | no within ↦ (let e : 20 + (i - 20) ≡ i = omega arith in rw e at (option-place (i - 20) (omega arith) (rw e differ)))
-        ]
-      ]
+      upTo (length t) i (λ inside.
+      upTo (4 * dataOffset t) i (λ within.
+      let e : 20 + (i - 20) ≡ i = omega arith in rw e at (option-place (i - 20) (omega arith) (rw e differ))) (λ after.
+      Within.lies FreeTcp.payload (omega arith) (omega arith))) (λ past.
+      absurd (differ (past-both i t u (a .sameLength) past)))
 
   place : (i : ℕ) → (byteAt t i ≡ byteAt u i → ⊥) → Within (FreeTcp t u) i
   place i differ =
-      elim (decLe i 3) [
-        | yes h ↦ Within.lies FreeTcp.ports (omega arith) (omega arith)
-        | no h3 ↦ elim (decLe i 7) [
-          | yes h ↦ Within.lies (FreeTcp.sequence (a .sequence)) (omega arith) (omega arith)
-          | no h7 ↦ elim (decLe i 11) [
-            | yes h ↦ Within.lies (FreeTcp.acknowledgment (a .acknowledgment)) (omega arith) (omega arith)
-            | no h11 ↦ elim (decLe i 12) [
-              | yes h ↦ Within.lies (FreeTcp.below-offset (a .dataOffset)) (omega arith) (omega arith)
-              | no h12 ↦ elim (decLe i 13) [
-                | yes h ↦ absurd (differ (a .control i (omega arith) (omega arith)))
-                | no h13 ↦ elim (decLe i 15) [
-                  | yes h ↦ absurd (differ (a .window i (omega arith) (omega arith)))
-                  | no h15 ↦ elim (decLe i 17) [
-                    | yes h ↦ Within.lies FreeTcp.checksum (omega arith) (omega arith)
-                    | no h17 ↦ elim (decLe i 19) [
-                      | yes h ↦ Within.lies (FreeTcp.urgentPointer (a .urgentPointer)) (omega arith) (omega arith)
-                      | no h19 ↦ late-place i (omega arith) differ
-                    ]
-                  ]
-                ]
-              ]
-            ]
-          ]
-        ]
-      ]
+      upTo 4 i (λ h. Within.lies FreeTcp.ports (omega arith) (omega arith)) (λ after.
+      upTo 8 i (λ h. Within.lies (FreeTcp.sequence (a .sequence)) (omega arith) (omega arith)) (λ after.
+      upTo 12 i (λ h. Within.lies (FreeTcp.acknowledgment (a .acknowledgment)) (omega arith) (omega arith)) (λ after.
+      upTo 13 i (λ h. Within.lies (FreeTcp.below-offset (a .dataOffset)) (omega arith) (omega arith)) (λ after.
+      upTo 14 i (λ h. absurd (differ (a .control i (omega arith) (omega arith)))) (λ after.
+      upTo 16 i (λ h. absurd (differ (a .window i (omega arith) (omega arith)))) (λ after.
+      upTo 18 i (λ h. Within.lies FreeTcp.checksum (omega arith) (omega arith)) (λ after.
+      upTo 20 i (λ h. Within.lies (FreeTcp.urgentPointer (a .urgentPointer)) (omega arith) (omega arith)) (λ after.
+      late-place i after differ))))))))
 
   pub tcp-differ : DifferOnly (FreeTcp t u) t u
   tcp-differ = record { sameLength = a .sameLength; free = place }

@@ -1,6 +1,7 @@
 -- The free bytes of document 01 ("Free bytes of demand 3"), item by item, each with the places where it lies: from the first number up
 -- to the second, which is not among them. `p` and `q` are the two packets.
 use mathlib.Core.Path.{_≡_}
+use mathlib.Core.Bool.{cond}
 use mathlib.Core.List.{List, _∷_}
 use Prim.Native.Nat.{ℕ, suc, _+_, _*_, _/_, _<_, _≤_, max}
 use lib.Dec.{eqb}
@@ -26,19 +27,6 @@ pub record DifferOnly (Item : ℕ → ℕ → Type 0) (p q : List ℕ) : Type 0 
 abbrev pub ZeroAlike : ℕ → ℕ → Type 0
 ZeroAlike m n = eqb m 0 ≡ eqb n 0
 
--- Where the header ends, "counted as 20 bytes where its length says fewer", and where the IP length ends: bytes past both are free.
-abbrev pub headerEnd4 : List ℕ → ℕ
-headerEnd4 p = max 20 (4 * v4.ihl p)
-
-abbrev pub headerEnd6 : List ℕ → ℕ
-headerEnd6 p = 40
-
-abbrev pub lengthEnd4 : List ℕ → ℕ
-lengthEnd4 p = v4.totalLength p
-
-abbrev pub lengthEnd6 : List ℕ → ℕ
-lengthEnd6 p = 40 + v6.payloadLength p
-
 -- The walk reaches an option at this place of the string (in a string of more than forty bytes, which no packet has, the places past them
 -- count too).
 pub data WalkReaches : ℕ → List ℕ → Type 0 where
@@ -47,25 +35,24 @@ pub data WalkReaches : ℕ → List ℕ → Type 0 where
 
 -- ---- the items
 
+-- Where a half of a timestamps option begins: behind the kind and the length byte the own timestamp, behind that the peer's (RFC 7323,
+-- section 3.2).
+pub data Half : ℕ → Type 0 where
+  own : Half 2
+  peer : Half 6
+
 -- "either four-byte half, wholly present, of a timestamps option that the walk reaches", which stays zero or stays nonzero:
 -- the option's length byte and the string both have room for it.
 pub data FreeStamp (s t : List ℕ) : ℕ → ℕ → Type 0 where
-  own
-      : {at : ℕ}
+  half
+      : {at k : ℕ}
+      → Half k
       → WalkReaches at s
       → byteAt s at ≡ 8
-      → 6 ≤ byteAt s (at + 1)
-      → at + 6 ≤ length s
-      → ZeroAlike (be32 s (at + 2)) (be32 t (at + 2))
-      → FreeStamp s t (at + 2) (at + 6)
-  peer
-      : {at : ℕ}
-      → WalkReaches at s
-      → byteAt s at ≡ 8
-      → 10 ≤ byteAt s (at + 1)
-      → at + 10 ≤ length s
-      → ZeroAlike (be32 s (at + 6)) (be32 t (at + 6))
-      → FreeStamp s t (at + 6) (at + 10)
+      → k + 4 ≤ byteAt s (at + 1)
+      → at + (k + 4) ≤ length s
+      → ZeroAlike (be32 s (at + k)) (be32 t (at + k))
+      → FreeStamp s t (at + k) (at + (k + 4))
 
 -- In a TCP part: "both ports; the four bits below the data offset; TCP checksum; payload contents", and "where each stays zero or stays
 -- nonzero: .. sequence, acknowledgement, urgent pointer".
@@ -79,32 +66,55 @@ pub data FreeTcp (t u : List ℕ) : ℕ → ℕ → Type 0 where
   stamp : {from to : ℕ} → FreeStamp (tcp.options t) (tcp.options u) from to → FreeTcp t u (20 + from) (20 + to)
   payload : FreeTcp t u (max 20 (4 * tcp.dataOffset t)) (length t)
 
--- In a packet: "Addresses; IPv4 header checksum; contents of IPv4 options; bytes past both the IP header .. and the IP length", and, where
--- each stays zero or stays nonzero, "identification, flow label".
-pub data Free (p q : List ℕ) : ℕ → ℕ → Type 0 where
-  identification4 : v4.version p ≡ 4 → ZeroAlike (v4.identification p) (v4.identification q) → Free p q 4 6
-  checksum4 : v4.version p ≡ 4 → Free p q 10 12
-  addresses4 : v4.version p ≡ 4 → Free p q 12 20
-  options4 : v4.version p ≡ 4 → Free p q 20 (4 * v4.ihl p)
-  past4 : v4.version p ≡ 4 → Free p q (max (headerEnd4 p) (lengthEnd4 p)) (length p)
-  flowLabel6
-      : v4.version p ≡ 6
-      → byteAt p 1 / 16 ≡ byteAt q 1 / 16
-      → ZeroAlike (v6.flowLabel p) (v6.flowLabel q)
-      → Free p q 1 4
-  addresses6 : v4.version p ≡ 6 → Free p q 8 40
-  past6 : v4.version p ≡ 6 → Free p q (max (headerEnd6 p) (lengthEnd6 p)) (length p)
-  -- "If no TCP part of 20 bytes exists, only the IP-level ones apply": the part lies between the header's end and the end of the IP
-  -- length, whatever the protocol says and whether the packet is refused or not.
-  in-tcp4
+-- In an IPv4 header: "Addresses; IPv4 header checksum; contents of IPv4 options", and, where it stays zero or stays nonzero,
+-- "identification".
+pub data FreeIpv4 (p q : List ℕ) : ℕ → ℕ → Type 0 where
+  identification : ZeroAlike (v4.identification p) (v4.identification q) → FreeIpv4 p q 4 6
+  checksum : FreeIpv4 p q 10 12
+  addresses : FreeIpv4 p q 12 20
+  options : FreeIpv4 p q 20 (4 * v4.ihl p)
+
+-- In an IPv6 header: "Addresses", and, where it stays zero or stays nonzero, "flow label".
+pub data FreeIpv6 (p q : List ℕ) : ℕ → ℕ → Type 0 where
+  flowLabel : byteAt p 1 / 16 ≡ byteAt q 1 / 16 → ZeroAlike (v6.flowLabel p) (v6.flowLabel q) → FreeIpv6 p q 1 4
+  addresses : FreeIpv6 p q 8 40
+
+-- The items of a header by the packet's version; of neither version nothing is free.
+pub data ItemBy (Item4 Item6 : ℕ → ℕ → Type 0) (p : List ℕ) : ℕ → ℕ → Type 0 where
+  four : {from to : ℕ} → v4.version p ≡ 4 → Item4 from to → ItemBy Item4 Item6 p from to
+  six : {from to : ℕ} → v4.version p ≡ 6 → Item6 from to → ItemBy Item4 Item6 p from to
+
+-- In a packet whose IP header ends at one place and whose IP length ends at another: the items of the header; "bytes past both the IP
+-- header .. and the IP length"; and those of the TCP part, which lies between the two, whatever the protocol says and whether the packet
+-- is refused or not. "If no TCP part of 20 bytes exists, only the IP-level ones apply".
+pub data FreePacket (Item : ℕ → ℕ → Type 0) (header-end length-end : ℕ) (p q : List ℕ) : ℕ → ℕ → Type 0 where
+  header : {from to : ℕ} → Item from to → FreePacket Item header-end length-end p q from to
+  past : FreePacket Item header-end length-end p q (max header-end length-end) (length p)
+  in-tcp
       : {from to : ℕ}
-      → v4.version p ≡ 4
-      → 20 ≤ length (part (headerEnd4 p) (lengthEnd4 p) p)
-      → FreeTcp (part (headerEnd4 p) (lengthEnd4 p) p) (part (headerEnd4 p) (lengthEnd4 p) q) from to
-      → Free p q (headerEnd4 p + from) (headerEnd4 p + to)
-  in-tcp6
-      : {from to : ℕ}
-      → v4.version p ≡ 6
-      → 20 ≤ length (part (headerEnd6 p) (lengthEnd6 p) p)
-      → FreeTcp (part (headerEnd6 p) (lengthEnd6 p) p) (part (headerEnd6 p) (lengthEnd6 p) q) from to
-      → Free p q (headerEnd6 p + from) (headerEnd6 p + to)
+      → 20 ≤ length (part header-end length-end p)
+      → FreeTcp (part header-end length-end p) (part header-end length-end q) from to
+      → FreePacket Item header-end length-end p q (header-end + from) (header-end + to)
+
+-- ---- where they lie
+
+-- Where the header ends, "counted as 20 bytes where its length says fewer", and where the IP length ends.
+abbrev pub headerEnd4 : List ℕ → ℕ
+headerEnd4 p = max 20 (4 * v4.ihl p)
+
+abbrev pub lengthEnd4 : List ℕ → ℕ
+lengthEnd4 p = v4.totalLength p
+
+abbrev pub headerEnd6 : List ℕ → ℕ
+headerEnd6 p = 40
+
+abbrev pub lengthEnd6 : List ℕ → ℕ
+lengthEnd6 p = 40 + v6.payloadLength p
+
+-- By the packet's version; a packet of neither is all header.
+unfoldable pub endBy : (List ℕ → ℕ) → (List ℕ → ℕ) → List ℕ → ℕ
+endBy end4 end6 p = cond (eqb (v4.version p) 4) (end4 p) (cond (eqb (v4.version p) 6) (end6 p) (length p))
+
+-- The list of document 01.
+abbrev pub Free : List ℕ → List ℕ → ℕ → ℕ → Type 0
+Free p q = FreePacket (ItemBy (FreeIpv4 p q) (FreeIpv6 p q) p) (endBy headerEnd4 headerEnd6 p) (endBy lengthEnd4 lengthEnd6 p) p q

@@ -10,6 +10,8 @@ use lib.Dec.{leb}
 use lib.ListN.{length}
 use borrow.Author.Tests.{leb-true, leb-false, le-leb}
 use Rattle.basis.proofs.Tests.{and-left, and-right}
+use Rattle.refusals.specs.declared.Refusal.the-variants as refusal
+use Rattle.refusals.specs.Refusals.{number}
 use Rattle.siglist.specs.List.{checkList, listRefusal}
 use Rattle.siglist.specs.declared.ListAnswer.{ListAnswer}
 use Rattle.siglist.specs.declared.ListAnswer.the-variants as list
@@ -119,21 +121,20 @@ fit-not-unfit b fits (Unfit.a-packet p) =
 refusal-of-list : (a : ListAnswer) → bundleRefusal (ofList a) ≡ listRefusal a
 unfolding bundleRefusal listRefusal
 refusal-of-list list.Good = refl
-refusal-of-list list.DoesNotFit = refl
-refusal-of-list (list.BadRecord i) = refl
-
-twelve : bundleRefusal check.DoesNotFit ≡ 12
-unfolding bundleRefusal
-twelve = refl
+refusal-of-list (list.Refused r) = refl
 
 -- "A bundle meets 12, then 9, then 10".
-pub bundle-order : (b : List ℕ) → bundleRefusal (checkBundle b) ≡ cond (bundleFits b) (listRefusal (checkList (listOf b))) 12
-unfolding checkBundle
+pub bundle-order
+    : (b : List ℕ) → bundleRefusal (checkBundle b) ≡ cond (bundleFits b) (listRefusal (checkList (listOf b))) (number refusal.BundleDoesNotFit)
+unfolding checkBundle bundleRefusal
 bundle-order b = by-fit (bundleFits b)
   where
-    by-fit : (t : Bool) → bundleRefusal (cond t (ofList (checkList (listOf b))) check.DoesNotFit) ≡ cond t (listRefusal (checkList (listOf b))) 12
+    by-fit
+        : (t : Bool)
+        → bundleRefusal (cond t (ofList (checkList (listOf b))) check.DoesNotFit)
+        ≡ cond t (listRefusal (checkList (listOf b))) (number refusal.BundleDoesNotFit)
     by-fit true = refusal-of-list (checkList (listOf b))
-    by-fit false = twelve
+    by-fit false = refl
 
 -- ---- all packets of a bundle that fits are answered
 

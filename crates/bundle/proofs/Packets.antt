@@ -15,7 +15,7 @@ use Rattle.packet_answer.specs.declared.PacketAnswer.{PacketAnswer}
 use Rattle.bundle.specs.declared.PacketAt.{PacketAt}
 use Rattle.bundle.specs.declared.PacketAt.the-variants as there
 use Rattle.bundle.specs.Answers.{answerAt, packetLies, packetAt, startOf}
-use Rattle.bundle.specs.Bundle.{listLength, listOffset, packetEnd, packetFits, packetsFit, packetsOffset, packetCount, listLies, bundleFits, checkBundle, bundleRefusal, ofList, listOf}
+use Rattle.bundle.specs.Bundle.{listLength, listOffset, packetEnd, packetFits, packetsFit, packetsOffset, packetCount, listLies, bundleFits, checkBundle, ofList, listOf}
 
 module _ (b : List ℕ) (at : ℕ) (fits : packetFits b at ≡ true) where
   pub head-within : at + 4 ≤ length b
@@ -76,27 +76,14 @@ module _ (b : List ℕ) (fits : bundleFits b ≡ true) where
   pub list-within : (8 ≤ length b) × (listOffset b + listLength b ≤ length b)
   list-within = lies-within b fits-lies
 
--- ---- a check by its number
-
-pub passed : (c : BundleCheck) → bundleRefusal c ≡ 0 → c ≡ check.Good
-unfolding bundleRefusal
-passed check.Good e = refl
-passed check.DoesNotFit e = absurd (omega arith)
-passed check.ListDoesNotFit e = absurd (omega arith)
-passed (check.BadRecord i) e = absurd (omega arith)
-
-refused-number : (b : List ℕ) → checkBundle b ≡ check.Good → bundleFits b ≡ false → _≡_ {A = ℕ} 12 0
-unfolding checkBundle bundleRefusal
-refused-number b good e =
-    sym (ap (λ (t : Bool). bundleRefusal (cond t (ofList (checkList (listOf b))) check.DoesNotFit)) e) ∙ ap bundleRefusal good
-
--- A bundle that passes its check fits: a refusal has another number.
+-- A bundle that passes its check fits.
 pub good-fits : (b : List ℕ) → checkBundle b ≡ check.Good → bundleFits b ≡ true
-good-fits b good = by-fit (bundleFits b) refl
+unfolding checkBundle
+good-fits b = by-fit (bundleFits b)
   where
-    by-fit : (t : Bool) → bundleFits b ≡ t → t ≡ true
+    by-fit : (t : Bool) → cond {A = BundleCheck} t (ofList (checkList (listOf b))) check.DoesNotFit ≡ check.Good → t ≡ true
     by-fit true e = refl
-    by-fit false e = absurd (let z : _≡_ {A = ℕ} 12 0 = refused-number b good e in omega arith)
+    by-fit false e = let z : _≡_ {A = ℕ} 0 1 = cc in absurd (omega arith)
 
 pub start-first : (b : List ℕ) → startOf b 0 ≡ packetsOffset b
 unfolding startOf

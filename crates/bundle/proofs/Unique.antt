@@ -7,9 +7,8 @@ use Rattle.basis.specs.Unique.{ExactlyOne}
 use Rattle.basis.proofs.Unique.{equation}
 use Rattle.bundle.specs.declared.BundleCheck.{BundleCheck}
 use Rattle.bundle.specs.declared.PacketAt.{PacketAt}
-use Rattle.bundle.specs.Bundle.{checkBundle, bundleRefusal}
+use Rattle.bundle.specs.Bundle.{checkBundle}
 use Rattle.bundle.specs.Answers.{packetAt}
-use Rattle.bundle.proofs.bundle_refusal.Reads as bundle-refusal'
 use Rattle.bundle.proofs.check_bundle.Reads as check-bundle'
 use Rattle.bundle.proofs.packet_at.Reads as packet-at'
 
@@ -19,6 +18,3 @@ module _ (κs : Lfts 1) (bundle : RefT (List ℕ)) where
 
   pub packet-at-one : (at : ℕ) → ExactlyOne PacketAt (λ (r : PacketAt). packet-at'.Post κs (bundle, (at, tt)) r (bundle, (at, tt)))
   packet-at-one at = equation (packetAt (now bundle) at)
-
-pub bundle-refusal-one : (c : BundleCheck) → ExactlyOne ℕ (λ (r : ℕ). bundle-refusal'.Post tt (c, tt) r (c, tt))
-bundle-refusal-one c = equation (bundleRefusal c)

@@ -40,8 +40,7 @@ pub record BundleAnswer : Type 0 where
 abbrev pub afterBundleCheck : BundleCheck → List ℕ → BundleAnswer
 afterBundleCheck check.Good b = record { check = check.Good; answers = answersFrom b (packetsOffset b) (packetCount b) }
 afterBundleCheck check.DoesNotFit b = record { check = check.DoesNotFit; answers = [] }
-afterBundleCheck check.ListDoesNotFit b = record { check = check.ListDoesNotFit; answers = [] }
-afterBundleCheck (check.BadRecord i) b = record { check = check.BadRecord i; answers = [] }
+afterBundleCheck (check.List r) b = record { check = check.List r; answers = [] }
 
 unfoldable pub bundleAnswer : List ℕ → BundleAnswer
 bundleAnswer b = afterBundleCheck (checkBundle b) b

@@ -7,6 +7,8 @@ use lib.ListN.{length}
 use Rattle.basis.specs.Bytes.{be16, part}
 use Rattle.tcp.specs.declared.Mss.{Mss}
 use Rattle.packet_answer.specs.Packet.{peerOf}
+use Rattle.refusals.specs.declared.Refusal.the-variants as refusal
+use Rattle.refusals.specs.Refusals.{Verdict, listRefused, numberOf}
 use Rattle.siglist.specs.declared.ListAnswer.{ListAnswer}
 use Rattle.siglist.specs.declared.ListAnswer.the-variants as list
 use Rattle.siglist.specs.List.{areaFits, checkList}
@@ -65,16 +67,17 @@ bundleFits b = leb (length b) 65535 && listLies b && packetsFit b (packetsOffset
 
 abbrev pub ofList : ListAnswer → BundleCheck
 ofList list.Good = check.Good
-ofList list.DoesNotFit = check.ListDoesNotFit
-ofList (list.BadRecord i) = check.BadRecord i
+ofList (list.Refused r) = check.List r
 
 -- "A bundle meets 12, then 9, then 10, before any packet."
 unfoldable pub checkBundle : List ℕ → BundleCheck
 checkBundle b = cond (bundleFits b) (ofList (checkList (listOf b))) check.DoesNotFit
 
--- The number of a bundle's refusal; 0 if it is none. Refusal 10 gives the index of the first bad record.
+-- Which refusal of the table the answer is, if any, and its number; 0 if it is none.
+abbrev pub bundleVerdict : BundleCheck → Verdict
+bundleVerdict check.Good = Verdict.accepted
+bundleVerdict check.DoesNotFit = Verdict.refused refusal.BundleDoesNotFit
+bundleVerdict (check.List r) = listRefused r
+
 unfoldable pub bundleRefusal : BundleCheck → ℕ
-bundleRefusal check.Good = 0
-bundleRefusal check.DoesNotFit = 12
-bundleRefusal check.ListDoesNotFit = 9
-bundleRefusal (check.BadRecord i) = 10
+bundleRefusal c = numberOf (bundleVerdict c)

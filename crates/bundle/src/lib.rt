@@ -5,21 +5,21 @@ ghost use Prim.Native.Nat.{_+_, _≤_, _<_};
 ghost use lib.ListN.{length};
 ghost use Rattle.basis.specs.Bytes.{be16};
 ghost use Rattle.siglist.specs.List.{areaFits, checkList};
-ghost use Rattle.bundle.specs.Bundle.{packetCount, listLength, listOffset, listOf, packetEnd, packetFits, packetsFit, listLies, bundleFits, checkBundle, bundleRefusal};
+ghost use Rattle.bundle.specs.Bundle.{packetCount, listLength, listOffset, listOf, packetEnd, packetFits, packetsFit, listLies, bundleFits, checkBundle};
 ghost use Rattle.bundle.specs.Answers.{answerAt, packetAt};
 use numbers::be16;
 use packet_answer::PacketAnswer;
 use packet_answer::answer_packet;
 use packet_answer::peer_of;
+use refusals::ListRefusal;
 use siglist::ListAnswer;
 use siglist::check_list;
 
-// A bundle is well formed, or refused: 12, 9, or 10 with the index of its list's first bad record.
+// A bundle is well formed, or it or its list is refused.
 pub enum BundleCheck {
     Good,
     DoesNotFit,
-    ListDoesNotFit,
-    BadRecord(usize),
+    List(ListRefusal),
 }
 
 // What is at a place of a bundle: no packet, or the answer of the one that starts there, and where it ends.
@@ -122,20 +122,7 @@ pub fn check_bundle(bundle: &[u8]) -> BundleCheck
     }
     match check_list_of(bundle) {
         ListAnswer::Good => BundleCheck::Good,
-        ListAnswer::DoesNotFit => BundleCheck::ListDoesNotFit,
-        ListAnswer::BadRecord(i) => BundleCheck::BadRecord(i),
-    }
-}
-
-// The number of a bundle's refusal in document 01's table; 0 if it is none.
-pub fn bundle_refusal(check: BundleCheck) -> u16
-    ensures { λ r. ⌜ r ≡ bundleRefusal check ⌝ }
-{
-    match check {
-        BundleCheck::Good => 0,
-        BundleCheck::DoesNotFit => 12,
-        BundleCheck::ListDoesNotFit => 9,
-        BundleCheck::BadRecord(_) => 10,
+        ListAnswer::Refused(refusal) => BundleCheck::List(refusal),
     }
 }
 

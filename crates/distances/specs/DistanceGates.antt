@@ -8,12 +8,12 @@ use Rattle.tcp.specs.declared.PayloadSize.{PayloadSize}
 use Rattle.tcp.specs.declared.PayloadSize.the-variants as payload
 use Rattle.window_size.specs.declared.Multiplier.{Multiplier}
 use Rattle.window_size.specs.declared.Multiplier.the-variants as multiplier
-use Rattle.distances.specs.declared.SigVersion.{SigVersion}
-use Rattle.distances.specs.declared.SigVersion.the-variants as sigversion
-use Rattle.distances.specs.declared.SigPayload.{SigPayload}
-use Rattle.distances.specs.declared.SigPayload.the-variants as sigpayload
-use Rattle.distances.specs.declared.WindowSize.{WindowSize}
-use Rattle.distances.specs.declared.WindowSize.the-variants as wsize
+use Rattle.sigrecord.specs.declared.SigVersion.{SigVersion}
+use Rattle.sigrecord.specs.declared.SigVersion.the-variants as sigversion
+use Rattle.sigrecord.specs.declared.SigPayload.{SigPayload}
+use Rattle.sigrecord.specs.declared.SigPayload.the-variants as sigpayload
+use Rattle.sigrecord.specs.declared.WindowSize.{WindowSize}
+use Rattle.sigrecord.specs.declared.WindowSize.the-variants as wsize
 
 -- A signature of any version passes; else the versions are the same.
 unfoldable pub versionMatches : IpVersion → SigVersion → Bool

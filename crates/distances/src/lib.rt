@@ -1,45 +1,32 @@
-// distances.rs: how far an observation is from a signature, by TTL and window. Its gates of version and payload read a record's codes
-// and stand in `sigrecord`.
+// distances.rs: how far an observation is from a signature, by version, TTL, window and payload.
 ghost use mathlib.Core.Path.{_≡_};
-ghost use Rattle.distances.specs.DistanceGates.{multipleMatches, windowMatches};
+ghost use Rattle.sigrecord.specs.Record.{versionOf, payloadOf};
+ghost use Rattle.distances.specs.DistanceGates.{versionMatches, multipleMatches, windowMatches, payloadMatches};
 ghost use Rattle.distances.specs.Distances.{initialTtl, isBad, ttlFit, reportedHops};
+use sigrecord::WindowSize;
+use tcp::IpVersion;
+use tcp::PayloadSize;
 use ttl::MAX_DIST;
 use ttl::Ttl;
 use ttl::guess_distance;
 use ttl::observed_ttl;
 use window_size::Multiplier;
 
-// The IP version that a signature declares.
-pub enum SigVersion {
-    Any,
-    V4,
-    V6,
-}
-
-// The payload that a signature declares.
-pub enum SigPayload {
-    Zero,
-    NonZero,
-    Any,
-}
-
-// The window that a signature declares.
-pub enum WindowSize {
-    Any,
-    Value(u16),
-    // A multiple of this modulus.
-    Mod(u16),
-    // So many times the MSS.
-    Mss(u8),
-    // So many times the MTU.
-    Mtu(u8),
-}
-
 // The hops against a signature's initial TTL: `Option<TtlFit>`.
 pub enum TtlFit {
     Rejected,
     InRange(u8),
     OutOfRange(u8),
+}
+
+// The gate of the version, read off a record's code: one that is not listed means any, as the record's meaning has it.
+pub fn ip_version_matches(observed: IpVersion, code: u8) -> bool
+    ensures { λ r. ⌜ r ≡ versionMatches observed (versionOf code) ⌝ }
+{
+    match observed {
+        IpVersion::V4 => code != 6,
+        IpVersion::V6 => code != 4,
+    }
 }
 
 // A signature's initial TTL: with a distance, both halves summed.
@@ -140,5 +127,15 @@ pub fn window_size_matches(observed: u16, signature: WindowSize, multiplier: Mul
         }
         WindowSize::Mss(multiple) => multiple_matches(multiplier, multiple, false),
         WindowSize::Mtu(multiple) => multiple_matches(multiplier, multiple, true),
+    }
+}
+
+// The gate of the payload, read off a record's code, as that of the version.
+pub fn payload_size_matches(observed: PayloadSize, code: u8) -> bool
+    ensures { λ r. ⌜ r ≡ payloadMatches observed (payloadOf code) ⌝ }
+{
+    match observed {
+        PayloadSize::Zero => code != 1,
+        PayloadSize::NonZero => code != 0,
     }
 }

@@ -14,12 +14,12 @@ use Rattle.ip.specs.declared.IpFacts.{IpFacts}
 use Rattle.ip.specs.declared.IpRead.{IpRead}
 use Rattle.ip.specs.declared.IpRead.the-variants as ip
 use Rattle.flow.specs.declared.Reading.{Reading}
-use Rattle.ip.specs.declared.Refusal.{Refusal}
-use Rattle.ip.specs.declared.Refusal.the-variants as refusal
+use Rattle.refusals.specs.declared.PacketRefusal.{PacketRefusal}
+use Rattle.refusals.specs.declared.PacketRefusal.the-variants as refusal
 use Rattle.flow.specs.Flags.{flagsInvalid, isSynType, isSynAckType}
 use Rattle.ip.specs.Ip.{ipv4Facts, readIpv4, ipv6Facts, readIpv6, readIp}
 use Rattle.flow.specs.Tcp.{readTcp}
-use Rattle.ip.specs.Numbers.{number}
+use Rattle.refusals.specs.Refusals.{packetNumber}
 use Rattle.flow.specs.Reading.{afterIp, readPacket, refusalOf}
 
 -- ---- the table's rows, as tests
@@ -30,21 +30,20 @@ ofVersion4 p = eqb (v4.version p) 4
 abbrev ofVersion6 : List ℕ → Bool
 ofVersion6 p = eqb (v4.version p) 6
 
--- The TCP part by its places, of either version.
-abbrev partOf : List ℕ → List ℕ
-partOf p = cond (ofVersion4 p) (part (v4.dataStart p) (v4.dataEnd p) p) (v6.payload p)
-
--- Rows 1 to 7, which acceptance/specs/Refusals.antt states as facts.
-unfoldable pub rows : List ℕ → List Bool
-rows p =
-    (eqb (length p) 0 || not (ofVersion4 p || ofVersion6 p))
-    ∷ cond (ofVersion4 p) (ltb (length p) 20) (ltb (length p) 40)
-    ∷ (ofVersion4 p && ltb (v4.ihl p) 5)
-    ∷ not (eqb (cond (ofVersion4 p) (v4.protocol p) (v6.nextHeader p)) 6)
-    ∷ (ofVersion4 p && (ltb 0 (v4.fragmentOffset p) || eqb (v4.moreFragments p) 1))
-    ∷ ltb (length (partOf p)) 20
-    ∷ flagsInvalid (control (partOf p))
+-- Rows 1 to 7, which acceptance/specs/Refusals.antt states as facts: of an empty packet or not, of version 4 or not, of version 6 or not.
+abbrev rowsBy : Bool → Bool → Bool → List ℕ → List Bool
+rowsBy none four six p =
+    (none || not (four || six))
+    ∷ cond four (ltb (length p) 20) (ltb (length p) 40)
+    ∷ (four && ltb (v4.ihl p) 5)
+    ∷ not (eqb (cond four (v4.protocol p) (v6.nextHeader p)) 6)
+    ∷ (four && (ltb 0 (v4.fragmentOffset p) || eqb (v4.moreFragments p) 1))
+    ∷ ltb (length (cond four (part (v4.dataStart p) (v4.dataEnd p) p) (v6.payload p))) 20
+    ∷ flagsInvalid (control (cond four (part (v4.dataStart p) (v4.dataEnd p) p) (v6.payload p)))
     ∷ []
+
+unfoldable pub rows : List ℕ → List Bool
+rows p = rowsBy (eqb (length p) 0) (ofVersion4 p) (ofVersion6 p) p
 
 -- The number of the first row that holds, counted from one given; 0 if none does.
 unfoldable pub firstRow : ℕ → List Bool → ℕ
@@ -68,7 +67,7 @@ no-refusal false false = refl
 
 -- The TCP stage refuses by the flags alone.
 pub by-flags : (f : IpFacts) (t : List ℕ) (peer : Mss) → refusalOf (readTcp f t peer .answer) ≡ cond (flagsInvalid (control t)) 7 0
-unfolding readTcp refusalOf number
+unfolding readTcp refusalOf
 by-flags f t peer =
     either (flagsInvalid (control t)) _ _ 7 (cond (isSynType (control t)) 0 (cond (isSynAckType (control t)) 0 0)) refl
     (either (isSynType (control t)) _ _ 0 (cond (isSynAckType (control t)) 0 0) refl
@@ -77,26 +76,28 @@ by-flags f t peer =
 
 -- What the IP stage gives leads to a refusal of this number.
 record Numbered (p : List ℕ) (peer : Mss) (r : IpRead) (n : ℕ) : Type 0 where
-  says : refusalOf (afterIp r p peer .answer) ≡ n
+  says : refusalOf (afterIp readTcp r p peer .answer) ≡ n
 
 over : {p : List ℕ} {peer : Mss} (t : Bool) {a b : IpRead} {m n : ℕ} → Numbered p peer a m → Numbered p peer b n → Numbered p peer (cond t a b) (cond t m n)
 over true x y = x
 over false x y = y
 
 module _ (p : List ℕ) (peer : Mss) where
-  refused : (r : Refusal) → Numbered p peer (ip.Refused r) (number r)
+  refused : (r : PacketRefusal) → Numbered p peer (ip.Refused r) (packetNumber r)
   unfolding refusalOf
   refused r = record { says = refl }
 
-  of-v4
-      : Numbered p peer (readIpv4 p)
-      (cond (ltb (length p) 20) 2
+  abbrev number4 : ℕ
+  number4 =
+      cond (ltb (length p) 20) 2
       (cond (ltb (v4.ihl p) 5) 3
       (cond (not (eqb (v4.protocol p) 6)) 4
       (cond (ltb 0 (v4.fragmentOffset p) || eqb (v4.moreFragments p) 1) 5
       (cond (ltb (length (part (v4.dataStart p) (v4.dataEnd p) p)) 20) 6
-      (cond (flagsInvalid (control (part (v4.dataStart p) (v4.dataEnd p) p))) 7 0))))))
-  unfolding readIpv4 number ipv4Facts
+      (cond (flagsInvalid (control (part (v4.dataStart p) (v4.dataEnd p) p))) 7 0)))))
+
+  of-v4 : Numbered p peer (readIpv4 p) number4
+  unfolding readIpv4 ipv4Facts
   of-v4 =
       over (ltb (length p) 20) (refused refusal.TooShort)
       (over (ltb (v4.ihl p) 5) (refused refusal.HeaderLength)
@@ -105,51 +106,33 @@ module _ (p : List ℕ) (peer : Mss) where
       (over (ltb (length (part (v4.dataStart p) (v4.dataEnd p) p)) 20) (refused refusal.TcpTooShort)
       (record { says = by-flags (ipv4Facts p (v4.dataStart p) (v4.dataEnd p)) (part (v4.dataStart p) (v4.dataEnd p) p) peer })))))
 
-  of-v6
-      : Numbered p peer (readIpv6 p)
-      (cond (ltb (length p) 40) 2
+  abbrev number6 : ℕ
+  number6 =
+      cond (ltb (length p) 40) 2
       (cond (not (eqb (v6.nextHeader p) 6)) 4
       (cond (ltb (length (v6.payload p)) 20) 6
-      (cond (flagsInvalid (control (v6.payload p))) 7 0))))
-  unfolding readIpv6 number ipv6Facts
+      (cond (flagsInvalid (control (v6.payload p))) 7 0)))
+
+  of-v6 : Numbered p peer (readIpv6 p) number6
+  unfolding readIpv6 ipv6Facts
   of-v6 =
       over (ltb (length p) 40) (refused refusal.TooShort)
       (over (not (eqb (v6.nextHeader p) 6)) (refused refusal.UnsupportedProtocol)
       (over (ltb (length (v6.payload p)) 20) (refused refusal.TcpTooShort)
       (record { says = by-flags (ipv6Facts p (v6.payloadEnd p)) (v6.payload p) peer })))
 
+  by-version
+      : (none four six : Bool) → _≡_ {A = ℕ} (cond none 1 (cond four number4 (cond six number6 1))) (firstRow 1 (rowsBy none four six p))
+  unfolding firstRow
+  by-version true four six = refl
+  by-version false true six = refl
+  by-version false false true = refl
+  by-version false false false = refl
+
   -- "in order of test": the number of a packet's refusal is that of the first row that holds, 0 where none does.
   pub by-first-row : refusalOf (readPacket p peer .answer) ≡ firstRow 1 (rows p)
-  unfolding readPacket readIp rows firstRow number
+  unfolding readPacket readIp rows
   by-first-row =
-      over (eqb (length p) 0) (refused refusal.Version) (over (ofVersion4 p) of-v4 (over (ofVersion6 p) of-v6 (refused refusal.Version))) .says
+      over (eqb (length p) 0) (refused refusal.Version)
+      (over (ofVersion4 p) of-v4 (over (ofVersion6 p) of-v6 (refused refusal.Version))) .says
       ∙ by-version (eqb (length p) 0) (ofVersion4 p) (ofVersion6 p)
-    where
-      by-version
-          : (none four six : Bool)
-          → _≡_ {A = ℕ}
-          (cond none 1
-          (cond four
-          (cond (ltb (length p) 20) 2
-          (cond (ltb (v4.ihl p) 5) 3
-          (cond (not (eqb (v4.protocol p) 6)) 4
-          (cond (ltb 0 (v4.fragmentOffset p) || eqb (v4.moreFragments p) 1) 5
-          (cond (ltb (length (part (v4.dataStart p) (v4.dataEnd p) p)) 20) 6
-          (cond (flagsInvalid (control (part (v4.dataStart p) (v4.dataEnd p) p))) 7 0))))))
-          (cond six
-          (cond (ltb (length p) 40) 2
-          (cond (not (eqb (v6.nextHeader p) 6)) 4
-          (cond (ltb (length (v6.payload p)) 20) 6
-          (cond (flagsInvalid (control (v6.payload p))) 7 0))))
-          1)))
-          (cond (none || not (four || six)) 1
-          (cond (cond four (ltb (length p) 20) (ltb (length p) 40)) 2
-          (cond (four && ltb (v4.ihl p) 5) 3
-          (cond (not (eqb (cond four (v4.protocol p) (v6.nextHeader p)) 6)) 4
-          (cond (four && (ltb 0 (v4.fragmentOffset p) || eqb (v4.moreFragments p) 1)) 5
-          (cond (ltb (length (cond four (part (v4.dataStart p) (v4.dataEnd p) p) (v6.payload p))) 20) 6
-          (cond (flagsInvalid (control (cond four (part (v4.dataStart p) (v4.dataEnd p) p) (v6.payload p)))) 7 0)))))))
-      by-version true four six = refl
-      by-version false true six = refl
-      by-version false false true = refl
-      by-version false false false = refl

@@ -1,48 +1,77 @@
--- "only a SYN+ACK's observation takes [the peer's MSS]; a SYN's has none": no other reading depends on it.
-use mathlib.Core.Path.{_≡_, refl}
+-- Reading with a peer is reading without, with the peer put in; and what follows of the readings that take none.
+use mathlib.Core.Path.{_≡_, refl, sym, _∙_, ap}
 use mathlib.Core.Bool.{Bool, true, false, cond}
 use mathlib.Core.List.{List}
 use Prim.Native.Nat.{ℕ}
 use Rattle.rfc.specs.Rfc9293.{control}
 use Rattle.tcp.specs.declared.Mss.{Mss}
+use Rattle.tcp.specs.declared.Mss.the-variants as mss
+use Rattle.observable.specs.Observation.{emptyObservation}
+use Rattle.flow.specs.declared.Answer.{Answer}
 use Rattle.flow.specs.declared.Answer.the-variants as answer
-use Rattle.ip.specs.declared.IpFacts.{IpFacts}
 use Rattle.ip.specs.declared.IpRead.{IpRead}
 use Rattle.ip.specs.declared.IpRead.the-variants as ip
+use Rattle.ip.specs.Ip.{IpStage, readIp}
 use Rattle.flow.specs.declared.Reading.{Reading}
 use Rattle.flow.specs.Flags.{flagsInvalid, isSynType, isSynAckType}
-use Rattle.ip.specs.Ip.{readIp}
-use Rattle.flow.specs.Tcp.{observationFrom, knownPeer, readTcp}
-use Rattle.flow.specs.Reading.{tcpPart, afterIp, readPacket}
+use Rattle.flow.specs.Tcp.{observationOf, observationFrom, readTcp}
+use Rattle.flow.specs.Reading.{TcpStage, tcpPart, afterIp, readBy, readPacket}
+use Rattle.flow.specs.Peer.{peerBeside, putPeer, withPeer, TakesPeer}
 
--- Of four readings by three tests, only the third may differ, and it is a SYN+ACK.
-third-differs
-    : (bad syn ack : Bool) (a b c d e : Reading)
-    → d .answer ≡ answer.SynAck
-    → ((cond {A = Reading} bad a (cond syn b (cond ack d c))) .answer ≡ answer.SynAck → ⊥)
-    → cond bad a (cond syn b (cond ack d c)) ≡ cond bad a (cond syn b (cond ack e c))
-third-differs true syn ack a b c d e is other = refl
-third-differs false true ack a b c d e is other = refl
-third-differs false false true a b c d e is other = absurd (other is)
-third-differs false false false a b c d e is other = refl
+-- Whichever way the three tests of the TCP stage go.
+by-tests
+    : (peer : Mss) (bad syn ack : Bool) (a b c d e : Reading)
+    → a ≡ withPeer peer a
+    → b ≡ withPeer peer b
+    → c ≡ withPeer peer d
+    → e ≡ withPeer peer e
+    → cond bad a (cond syn b (cond ack c e)) ≡ withPeer peer (cond bad a (cond syn b (cond ack d e)))
+by-tests peer true syn ack a b c d e w x y z = w
+by-tests peer false true ack a b c d e w x y z = x
+by-tests peer false false true a b c d e w x y z = y
+by-tests peer false false false a b c d e w x y z = z
 
-module _ (peer peer′ : Mss) where
-  tcp-stage
-      : (f : IpFacts) (t : List ℕ) → (readTcp f t peer .answer ≡ answer.SynAck → ⊥) → readTcp f t peer ≡ readTcp f t peer′
-  unfolding readTcp
-  tcp-stage f t other =
-      third-differs (flagsInvalid (control t)) (isSynType (control t)) (isSynAckType (control t)) _ _ _
-      (record { answer = answer.SynAck; observation = observationFrom f t false (knownPeer peer) })
-      (record { answer = answer.SynAck; observation = observationFrom f t false (knownPeer peer′) })
-      refl other
+pub takes-peer : TakesPeer readTcp
+unfolding readTcp withPeer peerBeside observationFrom observationOf emptyObservation
+takes-peer f t peer =
+    by-tests peer (flagsInvalid (control t)) (isSynType (control t)) (isSynAckType (control t)) _ _ _ _ _ refl refl refl refl
 
-  both-stages
-      : (r : IpRead) (p : List ℕ) → (afterIp r p peer .answer ≡ answer.SynAck → ⊥) → afterIp r p peer ≡ afterIp r p peer′
-  both-stages (ip.Refused r) p other = refl
-  both-stages (ip.Facts f) p other = tcp-stage f (tcpPart f p) other
+module _ (stage : IpStage) (tcp : TcpStage) (takes : TakesPeer tcp) where
+  after-ip : (r : IpRead) (p : List ℕ) (peer : Mss) → afterIp tcp r p peer ≡ withPeer peer (afterIp tcp r p mss.Absent)
+  unfolding withPeer peerBeside emptyObservation
+  after-ip (ip.Refused r) p peer = refl
+  after-ip (ip.Facts f) p peer = takes f (tcpPart f p) peer
+
+  -- For any two stages.
+  pub by-stages : (p : List ℕ) (peer : Mss) → readBy stage tcp p peer ≡ withPeer peer (readBy stage tcp p mss.Absent)
+  by-stages p peer = after-ip (stage p) p peer
+
+pub with-peer : (p : List ℕ) (peer : Mss) → readPacket p peer ≡ withPeer peer (readPacket p mss.Absent)
+unfolding readPacket
+with-peer = by-stages readIp readTcp takes-peer
+
+module _ (p : List ℕ) (peer : Mss) where
+  same-answer : readPacket p peer .answer ≡ readPacket p mss.Absent .answer
+  unfolding withPeer
+  same-answer = ap (λ (r : Reading). r .answer) (with-peer p peer)
+
+  -- What stands in the observation is what the answer takes.
+  pub peer-beside : readPacket p peer .observation .«peer_mss» ≡ peerBeside (readPacket p peer .answer) peer
+  unfolding withPeer
+  peer-beside = rw same-answer (ap (λ (r : Reading). r .observation .«peer_mss») (with-peer p peer))
 
   -- A reading that is no SYN+ACK is the same whatever the peer's MSS.
-  pub peer-only-synack
-      : (p : List ℕ) → (readPacket p peer .answer ≡ answer.SynAck → ⊥) → readPacket p peer ≡ readPacket p peer′
-  unfolding readPacket
-  peer-only-synack p other = both-stages (readIp p) p other
+  pub peer-only-synack : (other : Mss) → (readPacket p peer .answer ≡ answer.SynAck → ⊥) → readPacket p peer ≡ readPacket p other
+  unfolding withPeer peerBeside
+  peer-only-synack other no-synack =
+      let without = readPacket p mss.Absent in
+      with-peer p peer
+      ∙ ap (λ (m : Mss). record { answer = without .answer; observation = putPeer m (without .observation) })
+      (none (without .answer) (λ e. no-synack (same-answer ∙ e)))
+      ∙ sym (with-peer p other)
+    where
+      none : (a : Answer) → (a ≡ answer.SynAck → ⊥) → peerBeside a peer ≡ peerBeside a other
+      none answer.Syn h = refl
+      none answer.SynAck h = absurd (h refl)
+      none answer.Nothing h = refl
+      none (answer.Refused r) h = refl

@@ -1,3 +1,4 @@
 pub mod Flags
+pub mod Peer
 pub mod Reading
 pub mod Tcp

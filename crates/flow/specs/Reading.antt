@@ -3,32 +3,43 @@ use Prim.Native.Nat.{ℕ}
 use mathlib.Core.List.{List}
 use Rattle.basis.specs.Bytes.{part}
 use Rattle.tcp.specs.declared.Mss.{Mss}
-use Rattle.observable.specs.Observation.{emptyObservation}
 use Rattle.flow.specs.declared.Answer.{Answer}
 use Rattle.flow.specs.declared.Answer.the-variants as answer
 use Rattle.ip.specs.declared.IpFacts.{IpFacts}
 use Rattle.ip.specs.declared.IpRead.{IpRead}
 use Rattle.ip.specs.declared.IpRead.the-variants as ip
 use Rattle.flow.specs.declared.Reading.{Reading}
-use Rattle.ip.specs.Ip.{readIp}
-use Rattle.ip.specs.Numbers.{number}
-use Rattle.flow.specs.Tcp.{readTcp}
+use Rattle.ip.specs.Ip.{IpStage, readIp}
+use Rattle.refusals.specs.Refusals.{Verdict, packetRefused, numberOf}
+use Rattle.flow.specs.Tcp.{refusing, readTcp}
+
+-- A reader has two stages, chosen apart: an IP stage, and a TCP stage, which sees the IP stage's facts, the TCP part and the peer's MSS,
+-- and nothing else of the packet.
+abbrev pub TcpStage : Type 0
+TcpStage = IpFacts → List ℕ → Mss → Reading
 
 -- The TCP part: "the part that begins after the IP header".
 abbrev pub tcpPart : IpFacts → List ℕ → List ℕ
 tcpPart f p = part (f .start) (f .end) p
 
--- The TCP stage sees the IP facts and the TCP part, and nothing else of the packet. A refusal gives nothing beside.
-abbrev pub afterIp : IpRead → List ℕ → Mss → Reading
-afterIp (ip.Refused r) p peer = record { answer = answer.Refused r; observation = emptyObservation }
-afterIp (ip.Facts f) p peer = readTcp f (tcpPart f p) peer
+abbrev pub afterIp : TcpStage → IpRead → List ℕ → Mss → Reading
+afterIp tcp (ip.Refused r) p peer = refusing r
+afterIp tcp (ip.Facts f) p peer = tcp f (tcpPart f p) peer
 
+-- The reader of two stages.
+abbrev pub readBy : IpStage → TcpStage → List ℕ → Mss → Reading
+readBy stage tcp p peer = afterIp tcp (stage p) p peer
+
+-- Document 01's reader.
 unfoldable pub readPacket : List ℕ → Mss → Reading
-readPacket p peer = afterIp (readIp p) p peer
+readPacket p peer = readBy readIp readTcp p peer
 
--- The number of an answer's refusal; 0 if it is none.
+-- Which refusal of the table the answer is, if any, and its number; 0 if it is none.
+abbrev pub answerVerdict : Answer → Verdict
+answerVerdict answer.Syn = Verdict.accepted
+answerVerdict answer.SynAck = Verdict.accepted
+answerVerdict answer.Nothing = Verdict.accepted
+answerVerdict (answer.Refused r) = packetRefused r
+
 unfoldable pub refusalOf : Answer → ℕ
-refusalOf answer.Syn = 0
-refusalOf answer.SynAck = 0
-refusalOf answer.Nothing = 0
-refusalOf (answer.Refused r) = number r
+refusalOf a = numberOf (answerVerdict a)

@@ -18,7 +18,8 @@ use Rattle.syn_options.specs.Walk.{walkOf}
 use Rattle.ip.specs.declared.IpFacts.{IpFacts}
 use Rattle.flow.specs.declared.Answer.the-variants as answer
 use Rattle.flow.specs.declared.Reading.{Reading}
-use Rattle.ip.specs.declared.Refusal.the-variants as refusal
+use Rattle.refusals.specs.declared.PacketRefusal.{PacketRefusal}
+use Rattle.refusals.specs.declared.PacketRefusal.the-variants as refusal
 use Rattle.flow.specs.Flags.{isSet, flagsInvalid, isSynType, isSynAckType}
 
 -- The quirks of a TCP header (document 01, module 6; flow.rs), added to those of the IP header, by its flags, sequence number,
@@ -70,11 +71,15 @@ unfoldable pub knownPeer : Mss → Mss
 knownPeer mss.Absent = mss.Absent
 knownPeer (mss.Present n) = cond (eqb n 0) mss.Absent (mss.Present n)
 
+-- A refusal gives nothing beside (document 01, "Refusal numbers": no row returns an observation).
+abbrev pub refusing : PacketRefusal → Reading
+refusing r = record { answer = answer.Refused r; observation = emptyObservation }
+
 -- "only a SYN+ACK's observation takes [the peer's MSS]; a SYN's has none"
 unfoldable pub readTcp : IpFacts → List ℕ → Mss → Reading
 readTcp f t peer =
     cond (flagsInvalid (tcp.control t))
-    (record { answer = answer.Refused (refusal.InvalidTcpFlags (tcp.control t)); observation = emptyObservation })
+    (refusing (refusal.InvalidTcpFlags (tcp.control t)))
     (cond (isSynType (tcp.control t))
     (record { answer = answer.Syn; observation = observationFrom f t true mss.Absent })
     (cond (isSynAckType (tcp.control t))

@@ -7,10 +7,10 @@ ghost use lib.Dec.{eqb};
 ghost use lib.ListN.{length};
 ghost use Rattle.flow.specs.Flags.{maskedType, flagsInvalid};
 ghost use Rattle.flow.specs.Reading.{readPacket};
-ghost use Rattle.flow.specs.Tcp.{headerQuirks, quirksOfHeaders, payloadClass, observationOf, observationFrom, knownPeer, readTcp};
+ghost use Rattle.flow.specs.Tcp.{headerQuirks, quirksOfHeaders, payloadClass, observationOf, observationFrom};
+ghost use Rattle.flow.specs.Tcp.{knownPeer, refusing, readTcp};
 use ip::IpFacts;
 use ip::IpRead;
-use ip::Refusal;
 use ip::read_ip;
 use numbers::be16;
 use numbers::be32;
@@ -20,6 +20,7 @@ use numbers::wide;
 use observable::TcpObservation;
 use quirks::Quirk;
 use quirks::QuirkSet;
+use refusals::PacketRefusal;
 use syn_options::Walked;
 use syn_options::walk_options;
 use tcp::Mss;
@@ -30,7 +31,7 @@ pub enum Answer {
     SynAck,
     // Valid flags that are neither SYN nor SYN+ACK.
     Nothing,
-    Refused(Refusal),
+    Refused(PacketRefusal),
 }
 
 // The answer, and the observation of a SYN or SYN+ACK; beside any other answer the empty observation.
@@ -214,16 +215,24 @@ fn peer_taken(syn: bool, peer_mss: Mss) -> Mss
     known_peer(peer_mss)
 }
 
+// A refusal gives nothing beside.
+fn refuse(refusal: PacketRefusal) -> Reading
+    ensures { λ r. ⌜ r ≡ refusing refusal ⌝ }
+{
+    Reading {
+        answer: Answer::Refused(refusal),
+        observation: TcpObservation::empty(),
+    }
+}
+
+// The TCP stage.
 fn visit_tcp(facts: IpFacts, tcp: &[u8], peer_mss: Mss) -> Reading
     requires { ⌜ 20 ≤ length (now tcp) ⌝ }
     ensures { λ r. ⌜ r ≡ readTcp facts (now (tcp .entry)) «peer_mss» ⌝ }
 {
     let flags = tcp[13];
     if !is_valid(flags) {
-        return Reading {
-            answer: Answer::Refused(Refusal::InvalidTcpFlags(flags)),
-            observation: TcpObservation::empty(),
-        };
+        return refuse(PacketRefusal::InvalidTcpFlags(flags));
     }
     let masked = tcp_type(flags);
     if !is_opening(masked) {
@@ -239,15 +248,12 @@ fn visit_tcp(facts: IpFacts, tcp: &[u8], peer_mss: Mss) -> Reading
     }
 }
 
-// From a lent packet and the peer's MSS to an observation, nothing, or a refusal.
+// From a lent packet and the peer's MSS to an observation, nothing, or a refusal: the IP stage, then the TCP stage on its part.
 pub fn read_packet(packet: &[u8], peer_mss: Mss) -> Reading
     ensures { λ r. ⌜ r ≡ readPacket (now (packet .entry)) «peer_mss» ⌝ }
 {
     match read_ip(packet) {
-        IpRead::Refused(refusal) => Reading {
-            answer: Answer::Refused(refusal),
-            observation: TcpObservation::empty(),
-        },
+        IpRead::Refused(refusal) => refuse(refusal),
         IpRead::Facts(facts) => {
             let start = facts.start;
             let end = facts.end;

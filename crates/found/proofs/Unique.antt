@@ -5,18 +5,25 @@ use Rattle.basis.specs.Unique.{ExactlyOne}
 use Rattle.basis.proofs.Unique.{equation}
 use Rattle.matching.specs.declared.SignatureFit.{SignatureFit}
 use Rattle.found.specs.declared.Found.{Found}
-use Rattle.found.specs.Keep.{isNone, keep, isExact}
-use Rattle.found.proofs.is_exact.Reads as is-exact'
+use Rattle.found.specs.Least.{prefer}
+use Rattle.found.specs.Rank.{foundOf, rankOf, isNone}
 use Rattle.found.proofs.is_none.Reads as is-none'
-use Rattle.found.proofs.keep_fit.Reads as keep-fit'
-
-pub is-exact-one : (found : Found) → ExactlyOne Bool (λ (r : Bool). is-exact'.Post tt (found, tt) r (found, tt))
-is-exact-one found = equation (isExact found)
+use Rattle.found.proofs.found_of.Reads as found-of'
+use Rattle.found.proofs.rank_of.Reads as rank-of'
+use Rattle.found.proofs.prefer_found.Reads as prefer-found'
 
 pub is-none-one : (fit : SignatureFit) → ExactlyOne Bool (λ (r : Bool). is-none'.Post tt (fit, tt) r (fit, tt))
 is-none-one fit = equation (isNone fit)
 
-pub keep-fit-one
-    : (held : Found) (label : ℕ) (fit : SignatureFit)
-    → ExactlyOne Found (λ (r : Found). keep-fit'.Post tt (held, (label, (fit, tt))) r (held, (label, (fit, tt))))
-keep-fit-one held label fit = equation (keep held label fit)
+pub found-of-one
+    : (label : ℕ) (fit : SignatureFit)
+    → ExactlyOne Found (λ (r : Found). found-of'.Post tt (label, (fit, tt)) r (label, (fit, tt)))
+found-of-one label fit = equation (foundOf label fit)
+
+pub rank-of-one : (found : Found) → ExactlyOne ℕ (λ (r : ℕ). rank-of'.Post tt (found, tt) r (found, tt))
+rank-of-one found = equation (rankOf found)
+
+pub prefer-found-one
+    : (held other : Found)
+    → ExactlyOne Found (λ (r : Found). prefer-found'.Post tt (held, (other, tt)) r (held, (other, tt)))
+prefer-found-one held other = equation (prefer rankOf held other)

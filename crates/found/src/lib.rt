@@ -1,6 +1,7 @@
-// What a search holds from record to record (document 01, "The signature list"): added by the port.
+// What a search finds, its rank, and the first of least rank (document 01, "The signature list"): added by the port.
 ghost use mathlib.Core.Path.{_≡_};
-ghost use Rattle.found.specs.Keep.{isNone, keep, isExact};
+ghost use Rattle.found.specs.Least.{prefer};
+ghost use Rattle.found.specs.Rank.{foundOf, rankOf, isNone};
 use matching::FuzzyReason;
 use matching::SignatureFit;
 
@@ -9,16 +10,6 @@ pub enum Found {
     None,
     Exact(u16),
     Fuzzy(u16, FuzzyReason),
-}
-
-pub fn is_exact(found: Found) -> bool
-    ensures { λ r. ⌜ r ≡ isExact found ⌝ }
-{
-    match found {
-        Found::None => false,
-        Found::Exact(_) => true,
-        Found::Fuzzy(_, _) => false,
-    }
 }
 
 pub fn is_none(fit: SignatureFit) -> bool
@@ -31,21 +22,34 @@ pub fn is_none(fit: SignatureFit) -> bool
     }
 }
 
-// What is held after one record more.
-pub fn keep_fit(held: Found, label: u16, fit: SignatureFit) -> Found
-    ensures { λ r. ⌜ r ≡ keep held label fit ⌝ }
+// What is found in one record.
+pub fn found_of(label: u16, fit: SignatureFit) -> Found
+    ensures { λ r. ⌜ r ≡ foundOf label fit ⌝ }
 {
     match fit {
-        SignatureFit::None => held,
-        SignatureFit::Exact => match held {
-            Found::None => Found::Exact(label),
-            Found::Exact(kept) => Found::Exact(kept),
-            Found::Fuzzy(_, _) => Found::Exact(label),
-        },
-        SignatureFit::Fuzzy(reason) => match held {
-            Found::None => Found::Fuzzy(label, reason),
-            Found::Exact(kept) => Found::Exact(kept),
-            Found::Fuzzy(kept, why) => Found::Fuzzy(kept, why),
-        },
+        SignatureFit::None => Found::None,
+        SignatureFit::Exact => Found::Exact(label),
+        SignatureFit::Fuzzy(reason) => Found::Fuzzy(label, reason),
     }
+}
+
+// The less the better; what does not fit has no rank, and comes last.
+pub fn rank_of(found: Found) -> u8
+    ensures { λ r. ⌜ r ≡ rankOf found ⌝ }
+{
+    match found {
+        Found::None => 255,
+        Found::Exact(_) => 0,
+        Found::Fuzzy(_, _) => 1,
+    }
+}
+
+// The earlier of two, unless the later has strictly less rank.
+pub fn prefer_found(held: Found, other: Found) -> Found
+    ensures { λ r. ⌜ r ≡ prefer rankOf held other ⌝ }
+{
+    if rank_of(other) < rank_of(held) {
+        return other;
+    }
+    held
 }

@@ -1,7 +1,7 @@
 -- Every number of a gateway's answer fits its bytes, so no two different answers of a gateway share a code.
 use mathlib.Core.Path.{_≡_, refl}
 use mathlib.Core.Bool.{Bool, true, false, _&&_}
-use mathlib.Core.List.{List, [], _∷_}
+use mathlib.Core.List.{List}
 use Prim.Native.Nat.{ℕ, _+_, _<_}
 use native.Mathlib.Omega.{arith}
 use lib.Dec.{ltb}
@@ -14,15 +14,15 @@ use Rattle.matching.specs.declared.Features.{Features}
 use Rattle.matching.specs.declared.SignatureFit.{SignatureFit}
 use Rattle.matching.specs.declared.SignatureFit.the-variants as fit
 use Rattle.matching.specs.Fit.{featuresOf, fitOf}
+use Rattle.refusals.specs.Refusals.{listValue}
 use Rattle.siglist.specs.declared.ListAnswer.{ListAnswer}
 use Rattle.siglist.specs.declared.ListAnswer.the-variants as list
 use Rattle.sigrecord.specs.Record.{signatureOf, entryCount, labelOf}
 use Rattle.siglist.specs.List.{recordCount, listFits, recordStart, recordAt, entriesOf, recordGood, checkList}
 use Rattle.siglist.proofs.FirstBad.{Checked, does-not-fit, first-bad-named}
-use Rattle.found.specs.declared.Found.{Found}
-use Rattle.found.specs.declared.Found.the-variants as found
-use Rattle.found.specs.Keep.{keep}
-use Rattle.search.specs.Search.{fitAt, searchFrom, numbersFrom, searchOver, searchAll}
+use Rattle.found.specs.Least.{Place, nowhere, at}
+use Rattle.found.specs.Rank.{foundOf}
+use Rattle.search.specs.Search.{fitAt, candidateAt, foundAt, searchRow, searchOver, searchAll}
 use Rattle.packet_answer.specs.Packet.{peerOf, judged, answerOf}
 use Rattle.gateway.specs.Code.{fieldsOf, codeOf, afterList, gatewayAnswer}
 use Rattle.gateway.specs.Decode.{AllBytes}
@@ -33,21 +33,12 @@ use Rattle.gateway.proofs.Tolerated.{FitSmall, or-none, fit-small}
 
 -- ---- the search
 
--- One record more: what is held is what was held before, or the record's label with its reason.
-keep-fits
-    : (held : Found) (label : ℕ) (x : SignatureFit)
-    → label < 65536
-    → FoundFits held
-    → FitSmall x
-    → FoundFits (keep held label x)
-unfolding keep
-keep-fits (found.Exact kept) label x hl hf hx = hf
-keep-fits found.None label fit.None hl hf hx = tt
-keep-fits found.None label fit.Exact hl hf hx = hl
-keep-fits found.None label (fit.Fuzzy r) hl hf hx = (hl, hx .0, hx .1, hx .2)
-keep-fits (found.Fuzzy kept why) label fit.None hl hf hx = hf
-keep-fits (found.Fuzzy kept why) label fit.Exact hl hf hx = hl
-keep-fits (found.Fuzzy kept why) label (fit.Fuzzy r) hl hf hx = hf
+-- What is found in one record fits.
+found-one : (label : ℕ) (x : SignatureFit) → label < 65536 → FitSmall x → FoundFits (foundOf label x)
+unfolding foundOf
+found-one label fit.None hl hx = tt
+found-one label fit.Exact hl hx = hl
+found-one label (fit.Fuzzy r) hl hx = (hl, hx .0, hx .1, hx .2)
 
 module _ (l : List ℕ) (lent : AllBytes l) where
   -- A record of a byte string is one.
@@ -62,25 +53,17 @@ module _ (l : List ℕ) (lent : AllBytes l) where
       (fitOf f kinds bytes (signatureOf (recordAt l i)) (entryCount (recordAt l i)) (entriesOf l (recordAt l i)))
       (fit-small f kinds bytes (recordAt l i) (entryCount (recordAt l i)) (entriesOf l (recordAt l i)) (record-bytes i))
 
-  -- What a search holds fits, if it did before.
-  search-fits
-      : (held : Found) (f : Features) (kinds bytes is : List ℕ) → FoundFits held → FoundFits (searchFrom held f kinds bytes l is)
-  unfolding searchFrom
-  search-fits held f kinds bytes [] h = h
-  search-fits held f kinds bytes (i ∷ is) h =
-      search-fits (keep held (labelOf (recordAt l i)) (fitAt f kinds bytes l i)) f kinds bytes is
-      (keep-fits held (labelOf (recordAt l i)) (fitAt f kinds bytes l i)
-      (two-bytes (recordAt l i) 22 (record-bytes i))
-      h
-      (record-small f kinds bytes i))
+  -- What is read at any place fits, and so what the plain search finds.
+  read-fits : (f : Features) (kinds bytes : List ℕ) (p : Place) → FoundFits (foundAt f kinds bytes l p)
+  unfolding foundAt candidateAt
+  read-fits f kinds bytes nowhere = tt
+  read-fits f kinds bytes (at i) =
+      found-one (labelOf (recordAt l i)) (fitAt f kinds bytes l i) (two-bytes (recordAt l i) 22 (record-bytes i))
+      (record-small f kinds bytes i)
 
-  -- What the plain search finds fits.
   found-fits : (r : Reading) → FoundFits (searchAll (r .observation) l)
-  unfolding searchAll searchOver
-  found-fits r =
-      search-fits found.None (featuresOf (r .observation)) (r .observation .olayout .kinds) (r .observation .olayout .bytes)
-      (numbersFrom 0 (recordCount l))
-      tt
+  unfolding searchAll searchOver searchRow
+  found-fits r = read-fits (featuresOf (r .observation)) (r .observation .olayout .kinds) (r .observation .olayout .bytes) _
 
 -- ---- the answer
 
@@ -99,8 +82,7 @@ packet-fits p peer l hp hl = judged-fits (readPacket p peer .answer) (readPacket
 -- The index of a bad record fits two bytes.
 abbrev ListFits : ListAnswer → Type 0
 ListFits list.Good = Unit {0}
-ListFits list.DoesNotFit = Unit {0}
-ListFits (list.BadRecord i) = i < 65536
+ListFits (list.Refused r) = listValue r < 65536
 
 -- The first bad record is one of the list's, and these are counted by two bytes.
 checked-fits : {a : ListAnswer} (l : List ℕ) (n : ℕ) → n < 65536 → Checked l 0 n a → ListFits a
@@ -113,7 +95,7 @@ list-fits l h = by-test (listFits l) refl
   where
     by-test : (t : Bool) → listFits l ≡ t → ListFits (checkList l)
     by-test true e = checked-fits l (recordCount l) (two-bytes l 0 h) (first-bad-named l e)
-    by-test false e = rw (does-not-fit l e) tt
+    by-test false e = rw (does-not-fit l e) (omega arith)
 
 -- The answer after the list is checked.
 after-list
@@ -123,8 +105,7 @@ after-list
     → ListFits a
     → AnswerFits (afterList a p peer l)
 after-list list.Good p peer l hp hl fits = packet-fits p peer l hp hl
-after-list list.DoesNotFit p peer l hp hl fits = tt
-after-list (list.BadRecord i) p peer l hp hl fits = fits
+after-list (list.Refused r) p peer l hp hl fits = fits
 
 -- ---- the laws
 

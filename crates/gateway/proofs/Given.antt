@@ -1,22 +1,19 @@
 -- The numbers that a packet's refusal gives fit their bytes: the flags of refusal 7 are a byte of the packet.
-use mathlib.Core.Bool.{Bool, true, false, cond, not, _||_}
+use mathlib.Core.Bool.{Bool, true, false, cond}
 use mathlib.Core.List.{List, [], _∷_}
 use Prim.Native.Nat.{ℕ, zero, suc, _+_, _*_, _-_, _<_}
 use native.Mathlib.Omega.{arith}
-use lib.Dec.{eqb, ltb}
-use lib.ListN.{length, take, drop}
+use lib.ListN.{take, drop}
 use lib.Seq.{getD-drop}
 use Rattle.basis.specs.Bytes.{byteAt, be16, part}
-use Rattle.rfc.specs.Rfc791 as v4
-use Rattle.rfc.specs.Rfc8200 as v6
 use Rattle.rfc.specs.Rfc9293.{control}
 use Rattle.tcp.specs.declared.Mss.{Mss}
 use Rattle.ip.specs.declared.IpFacts.{IpFacts}
 use Rattle.ip.specs.declared.IpRead.{IpRead}
-use Rattle.ip.specs.declared.IpRead.the-variants as ip
-use Rattle.ip.specs.declared.Refusal.{Refusal}
-use Rattle.ip.specs.declared.Refusal.the-variants as refusal
-use Rattle.ip.specs.Ip.{readIpv4, readIpv6, readIp}
+use Rattle.refusals.specs.declared.PacketRefusal.{PacketRefusal}
+use Rattle.refusals.specs.declared.PacketRefusal.the-variants as refusal
+use Rattle.refusals.specs.Refusals.{packetNumber, packetValue}
+use Rattle.ip.proofs.Ip.{Given, given}
 use Rattle.flow.specs.declared.Answer.{Answer}
 use Rattle.flow.specs.declared.Answer.the-variants as reading
 use Rattle.flow.specs.declared.Reading.{Reading}
@@ -24,7 +21,6 @@ use Rattle.flow.specs.Flags.{flagsInvalid, isSynType, isSynAckType}
 use Rattle.flow.specs.Tcp.{readTcp}
 use Rattle.flow.specs.Reading.{tcpPart, afterIp, readPacket}
 use Rattle.gateway.specs.Decode.{AllBytes}
-use Rattle.gateway.proofs.Room.{RefusalFits}
 
 -- ---- byte strings
 
@@ -52,40 +48,17 @@ two-bytes s i h = pair (byteAt s i) (byteAt s (i + 1)) (h i) (h (i + 1))
 
 -- ---- the IP stage
 
--- A refusal of the IP stage fits.
-data IpFits : IpRead → Type 0 where
-  refused : (r : Refusal) → RefusalFits r → IpFits (ip.Refused r)
-  facts : {f : IpFacts} → IpFits (ip.Facts f)
-
--- Whichever way a test goes.
-over : (t : Bool) {x y : IpRead} → IpFits x → IpFits y → IpFits (cond t x y)
-over true hx hy = hx
-over false hx hy = hy
-
 -- No refusal of the IP stage gives a number beside its own.
-ipv4-fits : (p : List ℕ) → IpFits (readIpv4 p)
-unfolding readIpv4
-ipv4-fits p =
-    over (ltb (length p) 20) (refused refusal.TooShort tt)
-    (over (ltb (v4.ihl p) 5) (refused refusal.HeaderLength tt)
-    (over (not (eqb (v4.protocol p) 6)) (refused refusal.UnsupportedProtocol tt)
-    (over (ltb 0 (v4.fragmentOffset p) || eqb (v4.moreFragments p) 1) (refused refusal.Fragment tt)
-    (over (ltb (length (part (v4.dataStart p) (v4.dataEnd p) p)) 20) (refused refusal.TcpTooShort tt) facts))))
-
-ipv6-fits : (p : List ℕ) → IpFits (readIpv6 p)
-unfolding readIpv6
-ipv6-fits p =
-    over (ltb (length p) 40) (refused refusal.TooShort tt)
-    (over (not (eqb (v6.nextHeader p) 6)) (refused refusal.UnsupportedProtocol tt)
-    (over (ltb (length (v6.payload p)) 20) (refused refusal.TcpTooShort tt) facts))
-
--- Nor has one of either version.
-ip-fits : (p : List ℕ) → IpFits (readIp p)
-unfolding readIp
-ip-fits p =
-    over (eqb (length p) 0) (refused refusal.Version tt)
-    (over (eqb (v4.version p) 4) (ipv4-fits p)
-    (over (eqb (v4.version p) 6) (ipv6-fits p) (refused refusal.Version tt)))
+small-fits : (r : PacketRefusal) → packetNumber r < 7 → packetValue r < 256
+small-fits refusal.Version small = omega arith
+small-fits refusal.TooShort small = omega arith
+small-fits refusal.HeaderLength small = omega arith
+small-fits refusal.UnsupportedProtocol small = omega arith
+small-fits refusal.Fragment small = omega arith
+small-fits refusal.TcpTooShort small = omega arith
+small-fits (refusal.InvalidTcpFlags flags) small = absurd (omega arith)
+small-fits refusal.DataOffset small = omega arith
+small-fits refusal.ExtensionHeaders small = omega arith
 
 -- ---- the TCP stage
 
@@ -94,7 +67,7 @@ abbrev pub RefusedFits : Answer → Type 0
 RefusedFits reading.Syn = Unit {0}
 RefusedFits reading.SynAck = Unit {0}
 RefusedFits reading.Nothing = Unit {0}
-RefusedFits (reading.Refused r) = RefusalFits r
+RefusedFits (reading.Refused r) = packetValue r < 256
 
 -- A reading's refusal, if it is one, fits.
 record ReadingFits (r : Reading) : Type 0 where
@@ -114,11 +87,15 @@ tcp-fits f t peer h =
     (either (isSynAckType (control t)) (record { reads = tt }) (record { reads = tt })))
 
 -- The TCP part is a part of the packet.
-after-ip : {r : IpRead} (p : List ℕ) (peer : Mss) → AllBytes p → IpFits r → ReadingFits (afterIp r p peer)
-after-ip p peer h (refused r fits) = record { reads = fits }
-after-ip p peer h (facts {f = f}) = tcp-fits f (tcpPart f p) peer (part-bytes (f .start) (f .end) p h)
+of-part : (f : IpFacts) (p : List ℕ) (peer : Mss) → AllBytes p → ReadingFits (readTcp f (tcpPart f p) peer)
+of-part f p peer h = tcp-fits f (tcpPart f p) peer (part-bytes (f .start) (f .end) p h)
+
+after-ip : {n : ℕ} {r : IpRead} (p : List ℕ) (peer : Mss) → AllBytes p → Given p n r → ReadingFits (afterIp readTcp r p peer)
+after-ip p peer h (Given.refused {r = r} small) = record { reads = small-fits r small }
+after-ip p peer h (Given.four long words) = of-part _ p peer h
+after-ip p peer h (Given.six long) = of-part _ p peer h
 
 -- The refusal of a packet fits.
 pub reading-fits : (p : List ℕ) (peer : Mss) → AllBytes p → RefusedFits (readPacket p peer .answer)
 unfolding readPacket
-reading-fits p peer h = after-ip p peer h (ip-fits p) .reads
+reading-fits p peer h = after-ip p peer h (given p) .reads

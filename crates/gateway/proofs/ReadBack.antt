@@ -5,9 +5,9 @@ use native.Mathlib.Omega.{arith}
 use native.Mathlib.Nat.{mod-eq-of-lt}
 use mathlib.Core.Bool.{cond}
 use lib.Dec.{eqb}
-use Rattle.ip.specs.declared.Refusal.{Refusal}
-use Rattle.ip.specs.declared.Refusal.the-variants as refusal
-use Rattle.ip.specs.Numbers.{number}
+use Rattle.refusals.specs.declared.Refusal.the-variants as refusal
+use Rattle.refusals.specs.Refusals.{packetNumber, listNumber, packetValue, listValue}
+use Rattle.refusals.proofs.Back.{back, numbered}
 use Rattle.matching.specs.declared.Hops.{Hops}
 use Rattle.matching.specs.declared.Hops.the-variants as hops
 use Rattle.found.specs.declared.Found.{Found}
@@ -16,9 +16,9 @@ use Rattle.packet_answer.specs.declared.PacketAnswer.the-variants as packet
 use Rattle.gateway.specs.declared.GatewayAnswer.{GatewayAnswer}
 use Rattle.gateway.specs.declared.GatewayAnswer.the-variants as gateway
 use Rattle.gateway.specs.declared.Fields.{Fields}
-use Rattle.gateway.specs.Code.{plain, hopsOf, farOf, foundFields, givenBy, packetFields, fieldsOf, codeOf}
-use Rattle.gateway.specs.Decode.{fieldsFrom, foundFrom, answerFrom}
-use Rattle.gateway.proofs.Room.{HopsFit, FoundFits, RefusalFits, AnswerFits}
+use Rattle.gateway.specs.Code.{plain, hopsOf, farOf, foundFields, packetFields, fieldsOf, codeOf}
+use Rattle.gateway.specs.Decode.{fieldsFrom, foundFrom, refusedAs, answerFrom}
+use Rattle.gateway.proofs.Room.{HopsFit, FoundFits, AnswerFits}
 
 -- ---- the bytes of a number
 
@@ -86,24 +86,15 @@ found-fit kind (found.Fuzzy label reason) k h =
       hops = hops-small (reason .hops) (h .3);
     }
 
-refusal-fit : (r : Refusal) → RefusalFits r → Fit (plain 5 (number r) (givenBy r))
-unfolding number givenBy
-refusal-fit refusal.Version h = plain-fit 5 1 0 (omega arith) (omega arith) (omega arith)
-refusal-fit refusal.TooShort h = plain-fit 5 2 0 (omega arith) (omega arith) (omega arith)
-refusal-fit refusal.HeaderLength h = plain-fit 5 3 0 (omega arith) (omega arith) (omega arith)
-refusal-fit refusal.UnsupportedProtocol h = plain-fit 5 4 0 (omega arith) (omega arith) (omega arith)
-refusal-fit refusal.Fragment h = plain-fit 5 5 0 (omega arith) (omega arith) (omega arith)
-refusal-fit refusal.TcpTooShort h = plain-fit 5 6 0 (omega arith) (omega arith) (omega arith)
-refusal-fit (refusal.InvalidTcpFlags flags) h = plain-fit 5 7 flags (omega arith) (omega arith) (omega arith)
-
 fields-fit : (a : GatewayAnswer) → AnswerFits a → Fit (fieldsOf a)
 unfolding fieldsOf packetFields
 fields-fit (gateway.Packet (packet.Syn f)) h = found-fit 1 f (omega arith) h
 fields-fit (gateway.Packet (packet.SynAck f)) h = found-fit 2 f (omega arith) h
 fields-fit (gateway.Packet packet.Nothing) h = plain-fit 4 0 0 (omega arith) (omega arith) (omega arith)
-fields-fit (gateway.Packet (packet.Refused r)) h = refusal-fit r h
-fields-fit gateway.ListDoesNotFit h = plain-fit 5 9 0 (omega arith) (omega arith) (omega arith)
-fields-fit (gateway.BadRecord i) h = plain-fit 5 10 (i % 65536) (omega arith) (omega arith) (omega arith)
+fields-fit (gateway.Packet (packet.Refused r)) h =
+    plain-fit 5 (packetNumber r) (packetValue r) (omega arith) (numbered (refusal.Packet r) .1) (omega arith)
+fields-fit (gateway.List r) h =
+    plain-fit 5 (listNumber r) (listValue r % 65536) (omega arith) (numbered (refusal.List r) .1) (omega arith)
 
 hops-back : (h : Hops) → cond (eqb (farOf h) 0) hops.InRange (hops.OutOfRange (hopsOf h)) ≡ h
 hops-back hops.InRange = refl
@@ -116,16 +107,6 @@ found-back kind (found.Exact label) h = refl
 found-back kind (found.Fuzzy label reason) h =
     rw (hops-back (reason .hops), mod-eq-of-lt (h .1), mod-eq-of-lt (h .2))
 
-refusal-back : (r : Refusal) → answerFrom (plain 5 (number r) (givenBy r)) ≡ gateway.Packet (packet.Refused r)
-unfolding number givenBy
-refusal-back refusal.Version = refl
-refusal-back refusal.TooShort = refl
-refusal-back refusal.HeaderLength = refl
-refusal-back refusal.UnsupportedProtocol = refl
-refusal-back refusal.Fragment = refl
-refusal-back refusal.TcpTooShort = refl
-refusal-back (refusal.InvalidTcpFlags flags) = refl
-
 answer-back : (a : GatewayAnswer) → AnswerFits a → answerFrom (fieldsOf a) ≡ a
 unfolding fieldsOf packetFields foundFields
 answer-back (gateway.Packet (packet.Syn found.None)) h = refl
@@ -137,9 +118,8 @@ answer-back (gateway.Packet (packet.SynAck (found.Exact label))) h = refl
 answer-back (gateway.Packet (packet.SynAck (found.Fuzzy label reason))) h =
     ap (λ (g : Found). gateway.Packet (packet.SynAck g)) (found-back 2 (found.Fuzzy label reason) h)
 answer-back (gateway.Packet packet.Nothing) h = refl
-answer-back (gateway.Packet (packet.Refused r)) h = refusal-back r
-answer-back gateway.ListDoesNotFit h = refl
-answer-back (gateway.BadRecord i) h = ap gateway.BadRecord (mod-eq-of-lt h)
+answer-back (gateway.Packet (packet.Refused r)) h = ap refusedAs (back (refusal.Packet r))
+answer-back (gateway.List r) h = rw (mod-eq-of-lt h) (ap refusedAs (back (refusal.List r)))
 
 -- ---- the laws
 

@@ -1,8 +1,7 @@
 -- The numbers of an answer fit the bytes that a code has for them.
 use Prim.Native.Nat.{_<_}
 use Rattle.quirks.specs.Quirks.{bitsOf}
-use Rattle.ip.specs.declared.Refusal.{Refusal}
-use Rattle.ip.specs.declared.Refusal.the-variants as refusal
+use Rattle.refusals.specs.Refusals.{packetValue, listValue}
 use Rattle.matching.specs.declared.Hops.{Hops}
 use Rattle.matching.specs.declared.Hops.the-variants as hops
 use Rattle.found.specs.declared.Found.{Found}
@@ -22,22 +21,12 @@ FoundFits (found.Exact label) = label < 65536
 FoundFits (found.Fuzzy label reason) =
     (label < 65536) × (bitsOf (reason .added) < 256) × (bitsOf (reason .missing) < 256) × HopsFit (reason .hops)
 
-abbrev pub RefusalFits : Refusal → Type 0
-RefusalFits refusal.Version = Unit {0}
-RefusalFits refusal.TooShort = Unit {0}
-RefusalFits refusal.HeaderLength = Unit {0}
-RefusalFits refusal.UnsupportedProtocol = Unit {0}
-RefusalFits refusal.Fragment = Unit {0}
-RefusalFits refusal.TcpTooShort = Unit {0}
-RefusalFits (refusal.InvalidTcpFlags flags) = flags < 256
-
 abbrev pub PacketFits : PacketAnswer → Type 0
 PacketFits (packet.Syn f) = FoundFits f
 PacketFits (packet.SynAck f) = FoundFits f
 PacketFits packet.Nothing = Unit {0}
-PacketFits (packet.Refused r) = RefusalFits r
+PacketFits (packet.Refused r) = packetValue r < 256
 
 abbrev pub AnswerFits : GatewayAnswer → Type 0
 AnswerFits (gateway.Packet a) = PacketFits a
-AnswerFits gateway.ListDoesNotFit = Unit {0}
-AnswerFits (gateway.BadRecord i) = i < 65536
+AnswerFits (gateway.List r) = listValue r < 65536

@@ -3,9 +3,7 @@ use Prim.Native.Nat.{ℕ, _+_, _*_, _%_}
 use mathlib.Core.List.{List}
 use Rattle.quirks.specs.Quirks.{bitsOf}
 use Rattle.tcp.specs.declared.Mss.{Mss}
-use Rattle.ip.specs.declared.Refusal.{Refusal}
-use Rattle.ip.specs.declared.Refusal.the-variants as refusal
-use Rattle.ip.specs.Numbers.{number}
+use Rattle.refusals.specs.Refusals.{packetNumber, listNumber, packetValue, listValue, Verdict, listRefused}
 use Rattle.matching.specs.declared.Hops.{Hops}
 use Rattle.matching.specs.declared.Hops.the-variants as hops
 use Rattle.siglist.specs.declared.ListAnswer.{ListAnswer}
@@ -15,7 +13,7 @@ use Rattle.found.specs.declared.Found.{Found}
 use Rattle.found.specs.declared.Found.the-variants as found
 use Rattle.packet_answer.specs.declared.PacketAnswer.{PacketAnswer}
 use Rattle.packet_answer.specs.declared.PacketAnswer.the-variants as packet
-use Rattle.packet_answer.specs.Packet.{peerOf, answerOf}
+use Rattle.packet_answer.specs.Packet.{peerOf, answerOf, packetVerdict}
 use Rattle.gateway.specs.declared.GatewayAnswer.{GatewayAnswer}
 use Rattle.gateway.specs.declared.GatewayAnswer.the-variants as gateway
 use Rattle.gateway.specs.declared.Fields.{Fields}
@@ -51,27 +49,16 @@ foundFields kind (found.Fuzzy label reason) =
       far = farOf (reason .hops);
     }
 
--- What a refusal gives beside its number: the flags byte of refusal 7.
-unfoldable pub givenBy : Refusal → ℕ
-givenBy refusal.Version = 0
-givenBy refusal.TooShort = 0
-givenBy refusal.HeaderLength = 0
-givenBy refusal.UnsupportedProtocol = 0
-givenBy refusal.Fragment = 0
-givenBy refusal.TcpTooShort = 0
-givenBy (refusal.InvalidTcpFlags flags) = flags
-
 unfoldable pub packetFields : PacketAnswer → Fields
 packetFields (packet.Syn f) = foundFields 1 f
 packetFields (packet.SynAck f) = foundFields 2 f
 packetFields packet.Nothing = plain 4 0 0
-packetFields (packet.Refused r) = plain 5 (number r) (givenBy r)
+packetFields (packet.Refused r) = plain 5 (packetNumber r) (packetValue r)
 
--- The answer of a packet, or why its list is refused: 9, or 10 with the index of the first bad record.
+-- The answer of a packet, or why its list is refused.
 unfoldable pub fieldsOf : GatewayAnswer → Fields
 fieldsOf (gateway.Packet a) = packetFields a
-fieldsOf gateway.ListDoesNotFit = plain 5 9 0
-fieldsOf (gateway.BadRecord i) = plain 5 10 (i % 65536)
+fieldsOf (gateway.List r) = plain 5 (listNumber r) (listValue r % 65536)
 
 -- ---- the number
 
@@ -86,8 +73,7 @@ codeOf f =
 -- A list that is not checked yet is refused before its packet is read, as a bundle's is.
 abbrev pub afterList : ListAnswer → List ℕ → Mss → List ℕ → GatewayAnswer
 afterList list.Good p peer l = gateway.Packet (answerOf p peer l)
-afterList list.DoesNotFit p peer l = gateway.ListDoesNotFit
-afterList (list.BadRecord i) p peer l = gateway.BadRecord i
+afterList (list.Refused r) p peer l = gateway.List r
 
 unfoldable pub gatewayAnswer : List ℕ → ℕ → List ℕ → GatewayAnswer
 gatewayAnswer p peer l = afterList (checkList l) p (peerOf peer) l
@@ -95,5 +81,9 @@ gatewayAnswer p peer l = afterList (checkList l) p (peerOf peer) l
 -- Of a list: 0 if it is well formed, or the code of its refusal.
 unfoldable pub listCode : ListAnswer → ℕ
 listCode list.Good = 0
-listCode list.DoesNotFit = codeOf (fieldsOf gateway.ListDoesNotFit)
-listCode (list.BadRecord i) = codeOf (fieldsOf (gateway.BadRecord i))
+listCode (list.Refused r) = codeOf (fieldsOf (gateway.List r))
+
+-- Which refusal of the table the answer is, if any.
+abbrev pub gatewayVerdict : GatewayAnswer → Verdict
+gatewayVerdict (gateway.Packet a) = packetVerdict a
+gatewayVerdict (gateway.List r) = listRefused r

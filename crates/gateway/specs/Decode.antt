@@ -5,8 +5,9 @@ use mathlib.Core.List.{List}
 use lib.Dec.{eqb}
 use Rattle.basis.specs.Bytes.{byteAt}
 use Rattle.quirks.specs.Quirks.{setOf}
-use Rattle.ip.specs.declared.Refusal.{Refusal}
-use Rattle.ip.specs.declared.Refusal.the-variants as refusal
+use Rattle.refusals.specs.declared.ListRefusal.the-variants as list
+use Rattle.refusals.specs.declared.Refusal.{Refusal}
+use Rattle.refusals.specs.Refusals.{refusalFrom, byKind}
 use Rattle.matching.specs.declared.FuzzyReason.{FuzzyReason}
 use Rattle.matching.specs.declared.Hops.the-variants as hops
 use Rattle.found.specs.declared.Found.{Found}
@@ -42,25 +43,13 @@ foundFrom f =
     cond (eqb (f .outcome) 1) (found.Exact (f .value))
     (cond (eqb (f .outcome) 2) (found.Fuzzy (f .value) (reasonFrom f)) found.None)
 
-abbrev pub refusalFrom : ℕ → ℕ → Refusal
-refusalFrom number given =
-    cond (eqb number 1) refusal.Version
-    (cond (eqb number 2) refusal.TooShort
-    (cond (eqb number 3) refusal.HeaderLength
-    (cond (eqb number 4) refusal.UnsupportedProtocol
-    (cond (eqb number 5) refusal.Fragment
-    (cond (eqb number 6) refusal.TcpTooShort
-    (refusal.InvalidTcpFlags given))))))
-
-abbrev pub refusedFrom : Fields → GatewayAnswer
-refusedFrom f =
-    cond (eqb (f .kind) 9) gateway.ListDoesNotFit
-    (cond (eqb (f .kind) 10) (gateway.BadRecord (f .value))
-    (gateway.Packet (packet.Refused (refusalFrom (f .kind) (f .value)))))
+-- A refusal of a packet or a list. No code of a gateway has another; it would be read as a list's, since an answer it is not.
+abbrev pub refusedAs : Refusal → GatewayAnswer
+refusedAs r = byKind (λ why. gateway.Packet (packet.Refused why)) gateway.List (gateway.List list.DoesNotFit) r
 
 abbrev pub answerFrom : Fields → GatewayAnswer
 answerFrom f =
-    cond (eqb (f .outcome) 5) (refusedFrom f)
+    cond (eqb (f .outcome) 5) (refusedAs (refusalFrom (f .kind) (f .value)))
     (cond (eqb (f .outcome) 4) (gateway.Packet packet.Nothing)
     (gateway.Packet (cond (eqb (f .kind) 1) (packet.Syn (foundFrom f)) (packet.SynAck (foundFrom f)))))
 

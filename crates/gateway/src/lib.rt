@@ -3,22 +3,24 @@ ghost use mathlib.Core.Path.{_≡_};
 ghost use Prim.Native.Nat.{_%_};
 ghost use Rattle.siglist.specs.List.{checkList};
 ghost use Rattle.packet_answer.specs.Packet.{peerOf, answerOf};
-ghost use Rattle.gateway.specs.Code.{plain, hopsOf, farOf, foundFields, givenBy, packetFields, fieldsOf, codeOf, gatewayAnswer, listCode};
+ghost use Rattle.gateway.specs.Code.{plain, hopsOf, farOf, foundFields, packetFields, fieldsOf, codeOf, gatewayAnswer, listCode};
 use found::Found;
-use ip::Refusal;
-use ip::refusal_number;
 use matching::Hops;
 use packet_answer::PacketAnswer;
 use packet_answer::answer_packet;
 use packet_answer::peer_of;
+use refusals::ListRefusal;
+use refusals::Refusal;
+use refusals::list_value;
+use refusals::packet_value;
+use refusals::refusal_number;
 use siglist::ListAnswer;
 use siglist::check_list;
 
 // The answer of a packet, or why its list is refused.
 pub enum GatewayAnswer {
     Packet(PacketAnswer),
-    ListDoesNotFit,
-    BadRecord(usize),
+    List(ListRefusal),
 }
 
 // The parts of a code, from the lowest byte on.
@@ -95,21 +97,6 @@ fn found_fields(kind: u8, found: Found) -> Fields
     }
 }
 
-// What a refusal gives beside its number.
-fn given_by(refusal: Refusal) -> u16
-    ensures { λ r. ⌜ r ≡ givenBy refusal ⌝ }
-{
-    match refusal {
-        Refusal::Version => 0,
-        Refusal::TooShort => 0,
-        Refusal::HeaderLength => 0,
-        Refusal::UnsupportedProtocol => 0,
-        Refusal::Fragment => 0,
-        Refusal::TcpTooShort => 0,
-        Refusal::InvalidTcpFlags(flags) => flags as u16,
-    }
-}
-
 fn packet_fields(answer: PacketAnswer) -> Fields
     ensures { λ r. ⌜ r ≡ packetFields answer ⌝ }
 {
@@ -117,7 +104,11 @@ fn packet_fields(answer: PacketAnswer) -> Fields
         PacketAnswer::Syn(found) => found_fields(1, found),
         PacketAnswer::SynAck(found) => found_fields(2, found),
         PacketAnswer::Nothing => plain(4, 0, 0),
-        PacketAnswer::Refused(refusal) => plain(5, refusal_number(refusal), given_by(refusal)),
+        PacketAnswer::Refused(refusal) => plain(
+            5,
+            refusal_number(Refusal::Packet(refusal)),
+            packet_value(refusal) as u16,
+        ),
     }
 }
 
@@ -126,8 +117,11 @@ fn fields_of(answer: GatewayAnswer) -> Fields
 {
     match answer {
         GatewayAnswer::Packet(packet) => packet_fields(packet),
-        GatewayAnswer::ListDoesNotFit => plain(5, 9, 0),
-        GatewayAnswer::BadRecord(i) => plain(5, 10, (i % 65536) as u16),
+        GatewayAnswer::List(refusal) => plain(
+            5,
+            refusal_number(Refusal::List(refusal)),
+            (list_value(refusal) % 65536) as u16,
+        ),
     }
 }
 
@@ -153,8 +147,7 @@ pub extern "C" fn termread_check_list(list: &[u8]) -> u64
 {
     match check_list(list) {
         ListAnswer::Good => 0,
-        ListAnswer::DoesNotFit => code_of(fields_of(GatewayAnswer::ListDoesNotFit)),
-        ListAnswer::BadRecord(i) => code_of(fields_of(GatewayAnswer::BadRecord(i))),
+        ListAnswer::Refused(refusal) => code_of(fields_of(GatewayAnswer::List(refusal))),
     }
 }
 
@@ -171,8 +164,7 @@ fn gateway_answer(packet: &[u8], peer: u16, list: &[u8]) -> GatewayAnswer
 {
     match check_list(list) {
         ListAnswer::Good => GatewayAnswer::Packet(answer_packet(packet, peer_of(peer), list)),
-        ListAnswer::DoesNotFit => GatewayAnswer::ListDoesNotFit,
-        ListAnswer::BadRecord(i) => GatewayAnswer::BadRecord(i),
+        ListAnswer::Refused(refusal) => GatewayAnswer::List(refusal),
     }
 }
 

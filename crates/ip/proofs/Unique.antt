@@ -6,14 +6,8 @@ use denote.Ref.{RefT, now}
 use Rattle.basis.specs.Unique.{ExactlyOne}
 use Rattle.basis.proofs.Unique.{equation}
 use Rattle.ip.specs.declared.IpRead.{IpRead}
-use Rattle.ip.specs.declared.Refusal.{Refusal}
 use Rattle.ip.specs.Ip.{readIp}
-use Rattle.ip.specs.Numbers.{number}
-use Rattle.ip.proofs.refusal_number.Reads as refusal-number'
 use Rattle.ip.proofs.read_ip.Reads as read-ip'
-
-pub refusal-number-one : (refusal : Refusal) → ExactlyOne ℕ (λ (r : ℕ). refusal-number'.Post tt (refusal, tt) r (refusal, tt))
-refusal-number-one refusal = equation (number refusal)
 
 module _ (κs : Lfts 1) (packet : RefT (List ℕ)) where
   pub read-ip-one : ExactlyOne IpRead (λ (r : IpRead). read-ip'.Post κs (packet, tt) r (packet, tt))

@@ -17,7 +17,8 @@ use Rattle.ip_options.specs.IpOptions.{ipv4OptionLength, ipv6ExtensionLength}
 use Rattle.ip.specs.declared.IpFacts.{IpFacts}
 use Rattle.ip.specs.declared.IpRead.{IpRead}
 use Rattle.ip.specs.declared.IpRead.the-variants as ip
-use Rattle.ip.specs.declared.Refusal.the-variants as refusal
+use Rattle.refusals.specs.declared.PacketRefusal.the-variants as refusal
+use Rattle.refusals.specs.Refusals.{Verdict, packetRefused}
 
 -- ---- IPv4
 
@@ -86,10 +87,22 @@ readIpv6 p =
 
 -- ---- either
 
--- Refusal 1: "packet empty, or top nibble of byte 0 not 4 or 6".
-unfoldable pub readIp : List ℕ → IpRead
-readIp p =
+-- An IP stage gives the facts of a packet's IP header and the place of its TCP part, or a refusal.
+abbrev pub IpStage : Type 0
+IpStage = List ℕ → IpRead
+
+-- Refusal 1: "packet empty, or top nibble of byte 0 not 4 or 6"; else the stage of the packet's version.
+abbrev pub byVersion : IpStage → IpStage → IpStage
+byVersion four six p =
     cond (eqb (length p) 0) (ip.Refused refusal.Version)
-    (cond (eqb (v4.version p) 4) (readIpv4 p)
-    (cond (eqb (v4.version p) 6) (readIpv6 p)
+    (cond (eqb (v4.version p) 4) (four p)
+    (cond (eqb (v4.version p) 6) (six p)
     (ip.Refused refusal.Version)))
+
+unfoldable pub readIp : List ℕ → IpRead
+readIp p = byVersion readIpv4 readIpv6 p
+
+-- Which refusal of the table the answer is, if any.
+abbrev pub ipVerdict : IpRead → Verdict
+ipVerdict (ip.Refused r) = packetRefused r
+ipVerdict (ip.Facts f) = Verdict.accepted

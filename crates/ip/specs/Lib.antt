@@ -1,2 +1,1 @@
 pub mod Ip
-pub mod Numbers

@@ -5,7 +5,6 @@ ghost use Prim.Native.Nat.{_+_, _*_, _/_, _%_, _≤_};
 ghost use lib.Dec.{eqb, ltb};
 ghost use lib.ListN.{length};
 ghost use Rattle.ip.specs.Ip.{ipv4Quirks, ipv4Facts, readIpv4, ipv6Quirks, ipv6Facts, readIpv6, readIp};
-ghost use Rattle.ip.specs.Numbers.{number};
 use ip_options::calculate_ipv4_length;
 use ip_options::calculate_ipv6_length;
 use numbers::be16;
@@ -14,25 +13,10 @@ use numbers::least;
 use numbers::wide;
 use quirks::Quirk;
 use quirks::QuirkSet;
+use refusals::PacketRefusal;
 use tcp::IpVersion;
 use ttl::Ttl;
 use ttl::calculate_ttl;
-
-// Why a packet is refused; `refusal_number` gives document 01's number.
-pub enum Refusal {
-    // Empty, or neither IPv4 nor IPv6.
-    Version,
-    // Under 20 bytes (IPv4) or 40 (IPv6).
-    TooShort,
-    // An IPv4 header length under five words.
-    HeaderLength,
-    UnsupportedProtocol,
-    Fragment,
-    // A TCP part under 20 bytes.
-    TcpTooShort,
-    // With the flags byte.
-    InvalidTcpFlags(u8),
-}
 
 // What the IP header says, and where the TCP part lies.
 pub struct IpFacts {
@@ -47,7 +31,7 @@ pub struct IpFacts {
 }
 
 pub enum IpRead {
-    Refused(Refusal),
+    Refused(PacketRefusal),
     Facts(IpFacts),
 }
 
@@ -60,20 +44,6 @@ const IPV4_HEADER: usize = 20;
 const IPV6_HEADER: usize = 40;
 
 const TCP_HEADER: usize = 20;
-
-pub fn refusal_number(refusal: Refusal) -> u8
-    ensures { λ r. ⌜ r ≡ number refusal ⌝ }
-{
-    match refusal {
-        Refusal::Version => 1,
-        Refusal::TooShort => 2,
-        Refusal::HeaderLength => 3,
-        Refusal::UnsupportedProtocol => 4,
-        Refusal::Fragment => 5,
-        Refusal::TcpTooShort => 6,
-        Refusal::InvalidTcpFlags(_) => 7,
-    }
-}
 
 // ---- the IP stage
 
@@ -120,23 +90,23 @@ fn process_tcp_ipv4(packet: &[u8]) -> IpRead
     ensures { λ r. ⌜ r ≡ readIpv4 (now (packet .entry)) ⌝ }
 {
     if packet.len() < IPV4_HEADER {
-        return IpRead::Refused(Refusal::TooShort);
+        return IpRead::Refused(PacketRefusal::TooShort);
     }
     let ihl = packet[0] % 16;
     if ihl < 5 {
-        return IpRead::Refused(Refusal::HeaderLength);
+        return IpRead::Refused(PacketRefusal::HeaderLength);
     }
     let protocol = packet[9];
     if protocol != TCP {
-        return IpRead::Refused(Refusal::UnsupportedProtocol);
+        return IpRead::Refused(PacketRefusal::UnsupportedProtocol);
     }
     if is_fragment(packet[6], packet[7]) {
-        return IpRead::Refused(Refusal::Fragment);
+        return IpRead::Refused(PacketRefusal::Fragment);
     }
     let start = 4 * wide(ihl) as usize;
     let end = least(be16(packet[2], packet[3]) as usize, packet.len());
     if end < start + TCP_HEADER {
-        return IpRead::Refused(Refusal::TcpTooShort);
+        return IpRead::Refused(PacketRefusal::TcpTooShort);
     }
     IpRead::Facts(ipv4_facts(packet, start, end))
 }
@@ -173,18 +143,18 @@ fn process_tcp_ipv6(packet: &[u8]) -> IpRead
     ensures { λ r. ⌜ r ≡ readIpv6 (now (packet .entry)) ⌝ }
 {
     if packet.len() < IPV6_HEADER {
-        return IpRead::Refused(Refusal::TooShort);
+        return IpRead::Refused(PacketRefusal::TooShort);
     }
     let next_header = packet[6];
     if next_header != TCP {
-        return IpRead::Refused(Refusal::UnsupportedProtocol);
+        return IpRead::Refused(PacketRefusal::UnsupportedProtocol);
     }
     let end = least(
         IPV6_HEADER + be16(packet[4], packet[5]) as usize,
         packet.len(),
     );
     if end < IPV6_HEADER + TCP_HEADER {
-        return IpRead::Refused(Refusal::TcpTooShort);
+        return IpRead::Refused(PacketRefusal::TcpTooShort);
     }
     IpRead::Facts(ipv6_facts(packet, end))
 }
@@ -194,7 +164,7 @@ pub fn read_ip(packet: &[u8]) -> IpRead
     ensures { λ r. ⌜ r ≡ readIp (now (packet .entry)) ⌝ }
 {
     if packet.len() == 0 {
-        return IpRead::Refused(Refusal::Version);
+        return IpRead::Refused(PacketRefusal::Version);
     }
     let version = packet[0] / 16;
     if version == 4 {
@@ -203,5 +173,5 @@ pub fn read_ip(packet: &[u8]) -> IpRead
     if version == 6 {
         return process_tcp_ipv6(packet);
     }
-    IpRead::Refused(Refusal::Version)
+    IpRead::Refused(PacketRefusal::Version)
 }

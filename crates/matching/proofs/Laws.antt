@@ -9,12 +9,12 @@ use Rattle.matching.specs.declared.Features.{Features}
 use Rattle.matching.specs.declared.Hops.the-variants as hops
 use Rattle.matching.specs.declared.QuirksFit.{QuirksFit}
 use Rattle.matching.specs.declared.QuirksFit.the-variants as quirksfit
-use Rattle.matching.specs.declared.Signature.{Signature}
+use Rattle.sigrecord.specs.declared.Signature.{Signature}
 use Rattle.matching.specs.declared.SignatureFit.the-variants as answer
 use Rattle.matching.specs.declared.Tolerated.{Tolerated}
 use Rattle.distances.specs.declared.TtlFit.{TtlFit}
 use Rattle.distances.specs.declared.TtlFit.the-variants as ttlfit
-use Rattle.gates.specs.Gates.{layoutMatches}
+use Rattle.matching.specs.Gates.{layoutMatches}
 use Rattle.distances.specs.Distances.{ttlFit}
 use Rattle.matching.specs.Tolerance.{maskedQuirks, quirksFit, judgeInRange, judge}
 use Rattle.matching.specs.Fit.{scalarGates, toleranceOf, fitOf}

@@ -2,15 +2,17 @@
 use Prim.Native.Nat.{ℕ}
 use mathlib.Core.Bool.{Bool, cond, _&&_}
 use mathlib.Core.List.{List}
+use lib.Dec.{eqb}
 use Rattle.observable.specs.declared.TcpObservation.{TcpObservation}
 use Rattle.observable.specs.Observation.{windowMultiplier}
 use Rattle.ttl.specs.Ttl.{byteOf}
 use Rattle.matching.specs.declared.Features.{Features}
-use Rattle.matching.specs.declared.Signature.{Signature}
+use Rattle.sigrecord.specs.declared.Signature.{Signature}
+use Rattle.sigrecord.specs.Record.{signatureOf, entryCount}
 use Rattle.matching.specs.declared.SignatureFit.{SignatureFit}
 use Rattle.matching.specs.declared.SignatureFit.the-variants as answer
 use Rattle.distances.specs.DistanceGates.{versionMatches, windowMatches, payloadMatches}
-use Rattle.gates.specs.Gates.{olenMatches, mssMatches, scaleMatches, layoutMatches}
+use Rattle.matching.specs.Gates.{olenMatches, mssMatches, scaleMatches, layoutMatches}
 use Rattle.distances.specs.Distances.{ttlFit}
 use Rattle.matching.specs.Tolerance.{maskedQuirks, quirksFit, judge}
 
@@ -39,6 +41,10 @@ scalarGates f s =
     && windowMatches (f .wsize) (s .wsize) (f .multiplier)
     && scaleMatches (f .wscale) (s .wscale)
     && payloadMatches (f .pclass) (s .pclass)
+
+-- A record passes the gates: the six, and the count of its layout's entries, which the layout gate asks first.
+unfoldable pub passes : Features → List ℕ → Bool
+passes f r = eqb (f .count) (entryCount r) && scalarGates f (signatureOf r)
 
 -- The TTL and the quirks, judged together.
 unfoldable pub toleranceOf : Features → Signature → SignatureFit

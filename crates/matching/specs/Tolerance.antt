@@ -5,8 +5,8 @@ use Rattle.quirks.specs.Quirks.{isEmpty, difference}
 use Rattle.quirks.specs.Named.{fuzzyDeletable, fuzzyAddable, maskWhenObsV4, maskWhenObsV6}
 use Rattle.tcp.specs.declared.IpVersion.{IpVersion}
 use Rattle.tcp.specs.declared.IpVersion.the-variants as version
-use Rattle.distances.specs.declared.SigVersion.{SigVersion}
-use Rattle.distances.specs.declared.SigVersion.the-variants as sigversion
+use Rattle.sigrecord.specs.declared.SigVersion.{SigVersion}
+use Rattle.sigrecord.specs.declared.SigVersion.the-variants as sigversion
 use Rattle.distances.specs.declared.TtlFit.{TtlFit}
 use Rattle.distances.specs.declared.TtlFit.the-variants as ttlfit
 use Rattle.matching.specs.declared.Tolerated.{Tolerated}

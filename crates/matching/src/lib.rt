@@ -1,14 +1,30 @@
-// matching.rs: how an observation fits a signature. Its gates are in `gates` and `distances`; `search` tests them on a record's bytes.
+// matching.rs: how an observation fits a signature. Its gates of version, window and payload are in `distances`.
 ghost use mathlib.Core.Path.{_≡_};
+ghost use mathlib.Core.Bool.{_&&_};
+ghost use Rattle.sigrecord.specs.Layout.{entriesGood};
+ghost use Rattle.sigrecord.specs.Record.{signatureOf};
+ghost use Rattle.matching.specs.Gates.{olenMatches, mssMatches, scaleMatches, layoutMatches};
 ghost use Rattle.matching.specs.Tolerance.{maskedQuirks, quirksFit, judgeInRange, judge};
-ghost use Rattle.matching.specs.Fit.{featuresOf, toleranceOf};
-use distances::SigPayload;
-use distances::SigVersion;
+ghost use Rattle.matching.specs.Fit.{featuresOf, passes, toleranceOf};
 use distances::TtlFit;
-use distances::WindowSize;
+use distances::ip_version_matches;
+use distances::payload_size_matches;
 use distances::ttl_fit;
+use gates::entries_match;
+use gates::window_gate;
+use numbers::byte_at;
 use observable::TcpObservation;
 use quirks::QuirkSet;
+use sigrecord::OPTION_LENGTH;
+use sigrecord::PAYLOAD;
+use sigrecord::SigVersion;
+use sigrecord::VERSION;
+use sigrecord::entry_count;
+use sigrecord::mss_of;
+use sigrecord::quirks_of;
+use sigrecord::scale_of;
+use sigrecord::ttl_of;
+use sigrecord::version_of;
 use tcp::IpVersion;
 use tcp::Mss;
 use tcp::PayloadSize;
@@ -17,17 +33,7 @@ use ttl::Ttl;
 use ttl::observed_ttl;
 use window_size::Multiplier;
 
-// A signature, its layout apart, which stays where it lies in the list.
-pub struct Signature {
-    pub version: SigVersion,
-    pub ittl: Ttl,
-    pub olen: u8,
-    pub mss: Mss,
-    pub wsize: WindowSize,
-    pub wscale: Wscale,
-    pub pclass: SigPayload,
-    pub quirks: QuirkSet,
-}
+mod gates;
 
 // What a fit looks at in an observation, the entries of the layout apart.
 pub struct Features {
@@ -74,6 +80,96 @@ pub enum SignatureFit {
     None,
     Exact,
     Fuzzy(FuzzyReason),
+}
+
+// ---- the gates
+
+// The option length is a gate; no signature leaves it open.
+pub fn olen_matches(observed: u8, signature: u8) -> bool
+    ensures { λ r. ⌜ r ≡ olenMatches observed signature ⌝ }
+{
+    observed == signature
+}
+
+// A declared MSS is a gate; none declared lets any pass.
+pub fn mss_matches(observed: Mss, signature: Mss) -> bool
+    ensures { λ r. ⌜ r ≡ mssMatches observed signature ⌝ }
+{
+    match signature {
+        Mss::Absent => true,
+        Mss::Present(declared) => match observed {
+            Mss::Absent => false,
+            Mss::Present(seen) => seen == declared,
+        },
+    }
+}
+
+pub fn wscale_matches(observed: Wscale, signature: Wscale) -> bool
+    ensures { λ r. ⌜ r ≡ scaleMatches observed signature ⌝ }
+{
+    match signature {
+        Wscale::Absent => true,
+        Wscale::Present(declared) => match observed {
+            Wscale::Absent => false,
+            Wscale::Present(seen) => seen == declared,
+        },
+    }
+}
+
+// The layout gate: the count, then each kind and byte up to it. Entries that no well-formed record has match nothing, so that a
+// search need not walk over them again.
+pub fn olayout_matches(
+    kinds: &[u8],
+    bytes: &[u8],
+    count: usize,
+    entries: &[u8],
+    declared: usize,
+) -> bool
+    ensures { λ r. ⌜ r ≡ layoutMatches count (now (kinds .entry)) (now (bytes .entry)) declared (now (entries .entry)) && entriesGood (now (entries .entry)) declared ⌝ }
+{
+    if count != declared {
+        return false;
+    }
+    if kinds.len() < declared {
+        return false;
+    }
+    if bytes.len() < declared {
+        return false;
+    }
+    if entries.len() / 2 < declared {
+        return false;
+    }
+    entries_match(kinds, bytes, entries, declared)
+}
+
+// The gates of a record but for the entries of its layout, those first that reject most. It is total: bytes past the end are 0.
+pub fn passes_gates(observed: Features, raw: &[u8]) -> bool
+    ensures { λ r. ⌜ r ≡ passes observed (now (raw .entry)) ⌝ }
+{
+    if observed.count != entry_count(raw) as usize {
+        return false;
+    }
+    let wscale = observed.wscale;
+    if !wscale_matches(wscale, scale_of(raw)) {
+        return false;
+    }
+    let mss = observed.mss;
+    if !mss_matches(mss, mss_of(raw)) {
+        return false;
+    }
+    if !olen_matches(observed.olen, byte_at(raw, OPTION_LENGTH)) {
+        return false;
+    }
+    let pclass = observed.pclass;
+    if !payload_size_matches(pclass, byte_at(raw, PAYLOAD)) {
+        return false;
+    }
+    let version = observed.version;
+    if !ip_version_matches(version, byte_at(raw, VERSION)) {
+        return false;
+    }
+    let multiplier = observed.multiplier;
+    window_gate(observed.wsize, multiplier, raw)
 }
 
 // ---- what may be tolerated
@@ -176,15 +272,12 @@ fn in_range(found: Tolerated) -> SignatureFit
     })
 }
 
-// The TTL and the quirks of a signature whose gates hold.
-pub fn tolerance(observed: Features, signature: Signature) -> SignatureFit
-    ensures { λ r. ⌜ r ≡ toleranceOf observed signature ⌝ }
+// The TTL and the quirks of a record whose gates hold; nothing else of it is decoded.
+pub fn tolerance(observed: Features, raw: &[u8]) -> SignatureFit
+    ensures { λ r. ⌜ r ≡ toleranceOf observed (signatureOf (now (raw .entry))) ⌝ }
 {
     let seen = observed.quirks;
     let version = observed.version;
-    let declared = signature.quirks;
-    let declared_version = signature.version;
-    let ittl = signature.ittl;
-    let masked = mask_signature_quirks(declared, declared_version, version);
-    judgement(ttl_fit(observed.ttl, ittl), quirks_fit(seen, masked))
+    let masked = mask_signature_quirks(quirks_of(raw), version_of(raw), version);
+    judgement(ttl_fit(observed.ttl, ttl_of(raw)), quirks_fit(seen, masked))
 }

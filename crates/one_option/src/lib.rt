@@ -1,10 +1,13 @@
-// One option of a TCP header: the bytes that it asks for, and what it says of MSS, scale and quirks (syn_options.rs, flow.rs).
+// One option of a TCP header: where it ends, and what it says of MSS, scale and quirks (syn_options.rs, flow.rs).
 ghost use mathlib.Core.Path.{_≡_};
-ghost use Rattle.basis.specs.Bytes.{anyNonzero};
-ghost use Rattle.one_option.specs.Options.{asked};
+ghost use mathlib.Core.Bool.{true, false};
+ghost use Prim.Native.Nat.{max};
+ghost use Rattle.basis.specs.Bytes.{byteAt, anyNonzero};
+ghost use Rattle.one_option.specs.Options.{stepOf};
 ghost use Rattle.one_option.specs.See.{laterMss, laterScale, laterQuirks};
 use numbers::be16;
 use numbers::be32;
+use numbers::least;
 use quirks::Quirk;
 use quirks::QuirkSet;
 use tcp::Mss;
@@ -28,25 +31,75 @@ pub struct Seen {
     pub quirks: QuirkSet,
 }
 
-// The bytes that an option asks for after its kind, of those that are left.
-pub fn asked_bytes(kind: u8, rest: &[u8]) -> usize
-    ensures { λ r. ⌜ r ≡ asked kind (now (rest .entry)) ⌝ }
+// One option of a string, in places of the string.
+pub struct OptionStep {
+    pub kind: u8,
+    // Where the next option begins: behind its last byte, at the string's end at most.
+    pub end: usize,
+    // It runs past the end.
+    pub past: bool,
+    // Its length byte is 0 or 1.
+    pub short: bool,
+}
+
+// ---- one step
+
+// An option without a length byte: an end-of-options or a no-op.
+fn lone(kind: u8, end: usize) -> OptionStep
+    ensures { λ r. ⌜ r ≡ record { kind = kind; end = end; past = false; short = false } ⌝ }
 {
-    if kind == EOL {
-        return rest.len();
+    OptionStep {
+        kind,
+        end,
+        past: false,
+        short: false,
     }
-    if kind == NOP {
+}
+
+// The byte after a kind, 0 if it is absent.
+fn length_byte(options: &[u8], start: usize) -> usize
+    ensures { λ r. ⌜ r ≡ byteAt (now (options .entry)) start ⌝ }
+{
+    if options.len() <= start {
         return 0;
     }
-    if rest.len() == 0 {
-        return 1;
-    }
-    let length = rest[0] as usize;
-    if length < 2 {
-        return 1;
-    }
-    length - 1
+    options[start] as usize
 }
+
+// How many bytes an option with this length byte takes: 2 at least.
+fn taken(length: usize) -> usize
+    ensures { λ r. ⌜ r ≡ max length 2 ⌝ }
+{
+    if length < 2 { 2 } else { length }
+}
+
+// The option at a place. All is kept in places of the whole string, so that a turn of a walk adds once.
+pub fn option_step(options: &[u8], at: usize) -> OptionStep
+    ensures { λ r. ⌜ r ≡ stepOf (now (options .entry)) at ⌝ }
+{
+    let all = options.len();
+    if all <= at {
+        return lone(EOL, all);
+    }
+    let kind = options[at];
+    let start = at + 1;
+    if kind == EOL {
+        return lone(kind, all);
+    }
+    if kind == NOP {
+        return lone(kind, start);
+    }
+    let length = length_byte(options, start);
+    let end = at + taken(length);
+    OptionStep {
+        kind,
+        end: least(end, all),
+        past: all < end,
+        short: (start < all) & (length < 2),
+    }
+}
+
+// ---- what it says
 
 // Some byte is not 0.
 fn any_nonzero(s: &[u8]) -> bool

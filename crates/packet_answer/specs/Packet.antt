@@ -6,6 +6,7 @@ use lib.Dec.{eqb}
 use Rattle.tcp.specs.declared.Mss.{Mss}
 use Rattle.tcp.specs.declared.Mss.the-variants as mss
 use Rattle.observable.specs.declared.TcpObservation.{TcpObservation}
+use Rattle.refusals.specs.Refusals.{Verdict, packetRefused}
 use Rattle.flow.specs.declared.Answer.{Answer}
 use Rattle.flow.specs.declared.Answer.the-variants as reading
 use Rattle.flow.specs.declared.Reading.{Reading}
@@ -31,3 +32,10 @@ afterReading r l = judged (r .answer) (r .observation) l
 -- The answer of a packet, with the peer's MSS, against a well-formed list.
 unfoldable pub answerOf : List ℕ → Mss → List ℕ → PacketAnswer
 answerOf p peer l = afterReading (readPacket p peer) l
+
+-- Which refusal of the table the answer is, if any.
+abbrev pub packetVerdict : PacketAnswer → Verdict
+packetVerdict (packet.Syn f) = Verdict.accepted
+packetVerdict (packet.SynAck f) = Verdict.accepted
+packetVerdict packet.Nothing = Verdict.accepted
+packetVerdict (packet.Refused r) = packetRefused r

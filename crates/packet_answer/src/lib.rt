@@ -4,7 +4,7 @@ ghost use Rattle.packet_answer.specs.Packet.{peerOf, answerOf};
 use flow::Answer;
 use flow::read_packet;
 use found::Found;
-use ip::Refusal;
+use refusals::PacketRefusal;
 use search::search_checked;
 use tcp::Mss;
 
@@ -13,7 +13,7 @@ pub enum PacketAnswer {
     Syn(Found),
     SynAck(Found),
     Nothing,
-    Refused(Refusal),
+    Refused(PacketRefusal),
 }
 
 // A peer's MSS of 0 is absent.

@@ -1,29 +1,25 @@
 -- Laws of a page: one line more, and its end.
 use mathlib.Core.Path.{_≡_, refl, sym, _∙_, ap}
 use mathlib.Core.Bool.{true, false}
-use mathlib.Core.List.{List, _++_, append-nil}
+use mathlib.Core.List.{List, _++_}
 use Prim.Native.Nat.{ℕ, suc, _+_, _-_, _<_, _≤_}
 use native.Mathlib.Omega.{arith}
-use native.Mathlib.Nat.{add-zero, zero-add}
-use lib.ListN.{length, take, take-append-drop}
+use native.Mathlib.Nat.{zero-add}
+use lib.ListN.{length}
 use borrow.Author.Tests.{le-leb, lt-leb}
 use Rattle.report.specs.declared.Progress.{Progress}
-use Rattle.bundle.specs.declared.BundleCheck.{BundleCheck}
-use Rattle.bundle.specs.declared.BundleCheck.the-variants as check
-use Rattle.bundle.specs.Bundle.{packetCount, packetsOffset, packetEnd, bundleRefusal}
+use Rattle.bundle.specs.Bundle.{packetCount, packetsOffset, packetEnd}
 use Rattle.bundle.specs.Answers.{answerAt, packetLies}
-use Rattle.report.specs.Text.{packetsWord, decimal, newline, lineOf, headLine}
-use Rattle.report.specs.Pages.{written, Put, Filled, Paged, Page, pageSize, pageFrom, fullPage, behind, refusedPage, headPage, firstOf}
-use Rattle.report.proofs.Writing.{both}
+use Rattle.text.specs.Decimal.{decimal, newline}
+use Rattle.text.specs.Written.{written, PutAll}
+use Rattle.text.proofs.Writing.{nothing-written, all-both}
+use Rattle.report.specs.Text.{packetsWord, lineOf, headLine}
+use Rattle.report.specs.Pages.{Filled, Paged, Page, pageSize, pageFrom, fullPage, behind, headPage}
+use Rattle.report.proofs.Writing.{line-length, numbered-length}
 
 -- Nothing more is put.
 pub filled-full : (page : List ℕ) (filled left at : ℕ) → Filled page filled (fullPage left at) (record { filled = filled; left = left; at = at }) page
-unfolding written
-filled-full page filled left at = (
-  (omega arith, sym (rw (append-nil (take filled page), add-zero filled) (take-append-drop filled page))),
-  refl,
-  refl,
-)
+filled-full page filled left at = ((omega arith, sym (nothing-written page filled)), refl, refl)
 
 module _ (b : List ℕ) (filled at m : ℕ) where
   full-here : pageSize - filled < 19 → pageFrom b filled at (suc m) ≡ fullPage (suc m) at
@@ -51,10 +47,10 @@ module _ (b page : List ℕ) (filled at n : ℕ) (some : 0 < n) where
   pub no-packet : 19 ≤ pageSize - filled → packetLies b at ≡ false → pageFrom b filled at n ≡ fullPage 0 at
   no-packet h e = ap (pageFrom b filled at) more ∙ ended-here b filled at (n - 1) h e
 
-  pub one-line : 19 ≤ pageSize - filled → packetLies b at ≡ true → filled ≤ length page → (page' page'' : List ℕ) (next : ℕ) (r : Progress) → Put page filled (lineOf (answerAt b at)) next page' → Filled page' next (pageFrom b next (packetEnd b at) (n - 1)) r page'' → Filled page filled (pageFrom b filled at n) r page''
-  one-line h e inside page' page'' next r line rest =
+  pub one-line : 19 ≤ pageSize - filled → packetLies b at ≡ true → length page ≡ pageSize → (page' page'' : List ℕ) (next : ℕ) (r : Progress) → PutAll page filled (lineOf (answerAt b at)) next page' → Filled page' next (pageFrom b next (packetEnd b at) (n - 1)) r page'' → Filled page filled (pageFrom b filled at n) r page''
+  one-line h e whole page' page'' next r line rest =
       rw (ap (pageFrom b filled at) more ∙ line-here b filled at (n - 1) h e, sym (line .0))
-      (both page page' page'' _ _ filled next (r .filled) inside line (rest .0), rest .1, rest .2)
+      (all-both page page' page'' _ _ filled next (r .filled) (omega (arith, whole, line-length (answerAt b at))) line (rest .0), rest .1, rest .2)
 
 pub no-more : (b : List ℕ) (filled at n : ℕ) → n ≤ 0 → pageFrom b filled at n ≡ fullPage 0 at
 unfolding pageFrom
@@ -72,21 +68,12 @@ paged page page' p r h = (
 
 -- The first line, and the packets' lines behind it.
 module _ (b page page' page'' : List ℕ) (n offset filled : ℕ) (r : Progress) where
-  pub head-paged : n ≡ packetCount b → offset ≡ packetsOffset b → filled ≡ length (packetsWord ++ decimal n ++ newline) → page' ≡ written page 0 (packetsWord ++ decimal n ++ newline) → Filled page' filled (pageFrom b filled offset n) r page'' → Paged page (headPage b) r page''
+  pub head-paged : 14 ≤ length page → n ≡ packetCount b → offset ≡ packetsOffset b → filled ≡ length (packetsWord ++ decimal n ++ newline) → page' ≡ written page 0 (packetsWord ++ decimal n ++ newline) → Filled page' filled (pageFrom b filled offset n) r page'' → Paged page (headPage b) r page''
   unfolding headLine
-  head-paged count at f w rest =
+  head-paged inside count at f w rest =
       rw (sym count, sym at, sym f)
       (paged page page'' (behind (packetsWord ++ decimal n ++ newline) (pageFrom b filled offset n)) r (
-        both page page' page'' _ _ 0 filled (r .filled) (omega arith) (f ∙ sym (zero-add _), w) (rest .0),
+        all-both page page' page'' _ _ 0 filled (r .filled) (omega (arith, numbered-length packetsWord n)) (f ∙ sym (zero-add _), w) (rest .0),
         rest .1,
         rest .2,
       ))
-
--- ---- a check by its number
-
-pub refused : (c : BundleCheck) (b : List ℕ) → (bundleRefusal c ≡ 0 → ⊥) → firstOf c b ≡ refusedPage (bundleRefusal c)
-unfolding bundleRefusal
-refused check.Good b some = absurd (some refl)
-refused check.DoesNotFit b some = refl
-refused check.ListDoesNotFit b some = refl
-refused (check.BadRecord i) b some = refl

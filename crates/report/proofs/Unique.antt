@@ -7,7 +7,8 @@ use contract.Lifetimes.{Lfts}
 use denote.Ref.{RefT, now}
 use Rattle.basis.specs.Unique.{ExactlyOne}
 use Rattle.report.specs.declared.Progress.{Progress}
-use Rattle.report.specs.Pages.{written, Page, progressOf, firstPage, nextPage, left-with}
+use Rattle.text.specs.Written.{written, left-with}
+use Rattle.report.specs.Pages.{Page, progressOf, firstPage, nextPage}
 use Rattle.report.proofs.first_page.Reads as first-page'
 use Rattle.report.proofs.next_page.Reads as next-page'
 

@@ -7,13 +7,16 @@ use native.Mathlib.Omega.{arith}
 use lib.Dec.{leb}
 use lib.ListN.{length, length-append}
 use borrow.Author.Tests.{leb-true}
+use Rattle.refusals.specs.declared.Refusal.the-variants as refusal
+use Rattle.refusals.specs.Refusals.{number}
 use Rattle.bundle.specs.declared.BundleCheck.{BundleCheck}
 use Rattle.bundle.specs.declared.BundleCheck.the-variants as check
 use Rattle.bundle.specs.Bundle.{packetCount, packetsOffset, packetEnd, checkBundle}
 use Rattle.bundle.specs.Answers.{answerAt, packetLies, answersFrom, afterBundleCheck, bundleAnswer}
 use Rattle.report.specs.Text.{packetsWord, refusedWord, lineOf, headLine, refusedLine}
 use Rattle.report.specs.declared.Progress.{Progress}
-use Rattle.report.proofs.Writing.{line-length, numbered-length, written-length}
+use Rattle.text.proofs.Writing.{written-length}
+use Rattle.report.proofs.Writing.{line-length, numbered-length}
 use Rattle.report.specs.Pages.{Page, Paged, pageSize, pageFrom, linesOf, textOf, outputOf, outputOfInput, firstOf, firstPage, nextPage, laterPages, allPages}
 
 -- The lines of the packets that a page leaves.
@@ -77,16 +80,15 @@ later-pages b (suc pages) (suc left) at h =
 -- The first page, and the lines of what it leaves.
 first-and-rest : (b : List ℕ) (longer : Bool) → firstPage b longer .text ++ rest b (firstPage b longer) ≡ outputOfInput b longer
 unfolding firstPage outputOfInput outputOf bundleAnswer answersFrom linesOf
-first-and-rest b true = append-nil (refusedLine 12)
+first-and-rest b true = append-nil (refusedLine (number refusal.BundleDoesNotFit))
 first-and-rest b false = by-check (checkBundle b)
   where
     by-check : (c : BundleCheck) → firstOf c b .text ++ rest b (firstOf c b) ≡ textOf (afterBundleCheck c b .check) (packetCount b) (afterBundleCheck c b .answers)
     by-check check.Good =
         append-assoc (headLine (packetCount b)) _ _
         ∙ ap (λ (t : List ℕ). headLine (packetCount b) ++ t) (page-and-rest b (length (headLine (packetCount b))) (packetsOffset b) (packetCount b))
-    by-check check.DoesNotFit = append-nil (refusedLine 12)
-    by-check check.ListDoesNotFit = append-nil (refusedLine 9)
-    by-check (check.BadRecord i) = append-nil (refusedLine 10)
+    by-check check.DoesNotFit = append-nil (refusedLine (number refusal.BundleDoesNotFit))
+    by-check (check.List r) = append-nil (refusedLine (number (refusal.List r)))
 
 -- What a program writes that follows the pages is the output: nothing is lost, doubled or moved.
 pub all-pages : (b : List ℕ) (longer : Bool) → allPages b longer ≡ outputOfInput b longer
@@ -128,16 +130,15 @@ head-length n = numbered-length packetsWord n
 
 pub first-page-within : (b : List ℕ) (longer : Bool) → length (firstPage b longer .text) ≤ pageSize
 unfolding firstPage
-first-page-within b true = omega (arith, refused-length 12)
+first-page-within b true = omega (arith, refused-length (number refusal.BundleDoesNotFit))
 first-page-within b false = by-check (checkBundle b)
   where
     by-check : (c : BundleCheck) → length (firstOf c b .text) ≤ pageSize
     by-check check.Good =
         let n = packetCount b in
         omega (arith, length-append (headLine n) (pageFrom b (length (headLine n)) (packetsOffset b) n .text), within b (length (headLine n)) (packetsOffset b) n (omega (arith, head-length n)))
-    by-check check.DoesNotFit = omega (arith, refused-length 12)
-    by-check check.ListDoesNotFit = omega (arith, refused-length 9)
-    by-check (check.BadRecord i) = omega (arith, refused-length 10)
+    by-check check.DoesNotFit = omega (arith, refused-length (number refusal.BundleDoesNotFit))
+    by-check (check.List r) = omega (arith, refused-length (number (refusal.List r)))
 
 -- ---- a page that was filled is a page
 

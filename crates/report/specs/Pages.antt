@@ -4,8 +4,11 @@ use Prim.Native.Nat.{ℕ, zero, suc, _+_}
 use mathlib.Core.Bool.{Bool, cond}
 use mathlib.Core.List.{List, [], _∷_, _++_}
 use lib.Dec.{leb}
-use lib.ListN.{length, take, drop}
-use denote.Ref.{RefT}
+use lib.ListN.{length}
+use Rattle.text.specs.Written.{written, PutAll}
+use Rattle.refusals.specs.declared.Refusal.{Refusal}
+use Rattle.refusals.specs.declared.Refusal.the-variants as refusal
+use Rattle.refusals.specs.Refusals.{number}
 use Rattle.bundle.specs.declared.BundleCheck.{BundleCheck}
 use Rattle.bundle.specs.declared.BundleCheck.the-variants as check
 use Rattle.packet_answer.specs.declared.PacketAnswer.{PacketAnswer}
@@ -23,26 +26,21 @@ linesOf (a ∷ rest) = lineOf a ++ linesOf rest
 -- "Output: `packets N`, then a line each. A refused bundle or list prints only `refused N`."
 abbrev pub textOf : BundleCheck → ℕ → List PacketAnswer → List ℕ
 textOf check.Good n answers = headLine n ++ linesOf answers
-textOf check.DoesNotFit n answers = refusedLine 12
-textOf check.ListDoesNotFit n answers = refusedLine 9
-textOf (check.BadRecord i) n answers = refusedLine 10
+textOf check.DoesNotFit n answers = refusedLine (number refusal.BundleDoesNotFit)
+textOf (check.List r) n answers = refusedLine (number (refusal.List r))
 
 unfoldable pub outputOf : List ℕ → List ℕ
 outputOf b = textOf (bundleAnswer b .check) (packetCount b) (bundleAnswer b .answers)
 
 -- Input that goes on past the buffer is over 65,535 bytes: refusal 12.
 unfoldable pub outputOfInput : List ℕ → Bool → List ℕ
-outputOfInput b longer = cond longer (refusedLine 12) (outputOf b)
+outputOfInput b longer = cond longer (refusedLine (number refusal.BundleDoesNotFit)) (outputOf b)
 
 -- ---- pages
 
 -- The bytes of a page: `PAGE`.
 abbrev pub pageSize : ℕ
 pageSize = 4096
-
--- A page's bytes from a place on are written over.
-unfoldable pub written : List ℕ → ℕ → List ℕ → List ℕ
-written page at text = take at page ++ text ++ drop (at + length text) page
 
 -- What a page takes: its text, and the packets that are left, by their number and the place of the first.
 pub record Page : Type 0 where
@@ -70,8 +68,8 @@ pageFrom b filled at (suc n) =
 abbrev pub nextPage : List ℕ → ℕ → ℕ → Page
 nextPage b left at = pageFrom b 0 at left
 
-abbrev pub refusedPage : ℕ → Page
-refusedPage n = record { text = refusedLine n; left = 0; at = 0 }
+abbrev pub refusedPage : Refusal → Page
+refusedPage r = record { text = refusedLine (number r); left = 0; at = 0 }
 
 -- The first page: the line that comes first, and as many of the packets' as find room.
 abbrev pub headPage : List ℕ → Page
@@ -80,24 +78,19 @@ headPage b =
 
 abbrev pub firstOf : BundleCheck → List ℕ → Page
 firstOf check.Good b = headPage b
-firstOf check.DoesNotFit b = refusedPage 12
-firstOf check.ListDoesNotFit b = refusedPage 9
-firstOf (check.BadRecord i) b = refusedPage 10
+firstOf check.DoesNotFit b = refusedPage refusal.BundleDoesNotFit
+firstOf (check.List r) b = refusedPage (refusal.List r)
 
 unfoldable pub firstPage : List ℕ → Bool → Page
-firstPage b longer = cond longer (refusedPage 12) (firstOf (checkBundle b) b)
+firstPage b longer = cond longer (refusedPage refusal.BundleDoesNotFit) (firstOf (checkBundle b) b)
 
 -- What a function hands back of a page: how many bytes it has, and what is left.
 abbrev pub progressOf : Page → Progress
 progressOf p = record { filled = length (p .text); left = p .left; at = p .at }
 
--- A text was put at a place: the place behind it, and the page.
-abbrev pub Put : List ℕ → ℕ → List ℕ → ℕ → List ℕ → Type 0
-Put page at text next page' = (next ≡ at + length text) × (page' ≡ written page at text)
-
 -- A page's text was put behind what filled the page before.
 abbrev pub Filled : List ℕ → ℕ → Page → Progress → List ℕ → Type 0
-Filled page filled p r page' = Put page filled (p .text) (r .filled) page' × (r .left ≡ p .left) × (r .at ≡ p .at)
+Filled page filled p r page' = PutAll page filled (p .text) (r .filled) page' × (r .left ≡ p .left) × (r .at ≡ p .at)
 
 -- A page's text was put at the start of the page, and the progress is the page's.
 abbrev pub Paged : List ℕ → Page → Progress → List ℕ → Type 0
@@ -114,9 +107,3 @@ laterPages b (suc pages) left at =
 -- The pages that a program writes which asks for as many later ones as the first leaves packets.
 unfoldable pub allPages : List ℕ → Bool → List ℕ
 allPages b longer = firstPage b longer .text ++ laterPages b (firstPage b longer .left) (firstPage b longer .left) (firstPage b longer .at)
-
--- ---- the caller's page
-
--- A page is left with other bytes: the same reference.
-abbrev pub left-with : RefT (List ℕ) → List ℕ → RefT (List ℕ)
-left-with page bytes = record { ptr = page .ptr; name = page .name; now = bytes }

@@ -1,19 +1,14 @@
 -- The text of the answers (document 01, "The bundle program"): each line as bytes.
-use Prim.Native.Nat.{ℕ, _+_, _-_, _/_, _%_}
-use mathlib.Core.Bool.{cond}
+use Prim.Native.Nat.{ℕ}
 use mathlib.Core.List.{List, [], _∷_, _++_}
-use lib.Dec.{ltb}
-use lib.ListN.{drop}
-use Rattle.ip.specs.Numbers.{number}
+use Rattle.text.specs.Decimal.{newline, decimal}
+use Rattle.refusals.specs.Refusals.{packetNumber}
 use Rattle.found.specs.declared.Found.{Found}
 use Rattle.found.specs.declared.Found.the-variants as found
 use Rattle.packet_answer.specs.declared.PacketAnswer.{PacketAnswer}
 use Rattle.packet_answer.specs.declared.PacketAnswer.the-variants as packet
 
 -- ---- words, in ASCII
-
-abbrev pub newline : List ℕ
-newline = 10 ∷ []
 
 -- "packets "
 abbrev pub packetsWord : List ℕ
@@ -47,21 +42,6 @@ exactWord = 101 ∷ 120 ∷ 97 ∷ 99 ∷ 116 ∷ 32 ∷ []
 abbrev pub fuzzyWord : List ℕ
 fuzzyWord = 102 ∷ 117 ∷ 122 ∷ 122 ∷ 121 ∷ 32 ∷ []
 
--- ---- numbers
-
--- How many digits a number under 100,000 has.
-unfoldable pub width : ℕ → ℕ
-width n = cond (ltb n 10) 1 (cond (ltb n 100) 2 (cond (ltb n 1000) 3 (cond (ltb n 10000) 4 5)))
-
--- Five decimal digits, the highest first.
-abbrev pub fiveDigits : ℕ → List ℕ
-fiveDigits n =
-    (48 + n / 10000 % 10) ∷ (48 + n / 1000 % 10) ∷ (48 + n / 100 % 10) ∷ (48 + n / 10 % 10) ∷ (48 + n % 10) ∷ []
-
--- A number under 100,000 in decimal, without leading zeros.
-unfoldable pub decimal : ℕ → List ℕ
-decimal n = drop (5 - width n) (fiveDigits n)
-
 -- ---- lines
 
 unfoldable pub foundText : Found → List ℕ
@@ -74,7 +54,7 @@ unfoldable pub answerText : PacketAnswer → List ℕ
 answerText (packet.Syn f) = synWord ++ foundText f
 answerText (packet.SynAck f) = synackWord ++ foundText f
 answerText packet.Nothing = nothingWord
-answerText (packet.Refused r) = refusedWord ++ decimal (number r)
+answerText (packet.Refused r) = refusedWord ++ decimal (packetNumber r)
 
 unfoldable pub lineOf : PacketAnswer → List ℕ
 lineOf a = answerText a ++ newline

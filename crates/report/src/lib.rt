@@ -3,15 +3,17 @@
 ghost use Prim.Native.Nat.{_≤_};
 ghost use lib.ListN.{length};
 ghost use Rattle.report.specs.Pages.{Filled, Paged, pageSize, pageFrom, refusedPage, headPage, firstPage, nextPage};
+use bundle::BundleCheck;
 use bundle::PacketAt;
-use bundle::bundle_refusal;
 use bundle::check_bundle;
 use bundle::packet_at;
+use lines::put_line;
+use lines::put_numbered;
 use numbers::be16;
-use text::put_line;
-use text::put_numbered;
+use refusals::Refusal;
+use refusals::refusal_number;
 
-mod text;
+mod lines;
 
 // How far the output of a bundle is: the bytes of the page, and the packets that are left, by their number and the place of the
 // first.
@@ -58,10 +60,10 @@ fn put_lines(bundle: &[u8], progress: Progress, page: &mut [u8; PAGE]) -> Progre
 }
 
 // The first page of a refusal.
-fn refused_page(page: &mut [u8; PAGE], number: u16) -> Progress
-    ensures { λ r. ⌜ Paged (now (page .entry)) (refusedPage number) r (now (page .exit)) ⌝ }
+fn refused_page(page: &mut [u8; PAGE], refusal: Refusal) -> Progress
+    ensures { λ r. ⌜ Paged (now (page .entry)) (refusedPage refusal) r (now (page .exit)) ⌝ }
 {
-    let filled = put_numbered(page, 0, b"refused ", number);
+    let filled = put_numbered(page, 0, b"refused ", refusal_number(refusal) as u16);
     Progress {
         filled,
         left: 0,
@@ -90,13 +92,13 @@ pub fn first_page(bundle: &[u8], longer: bool, page: &mut [u8; PAGE]) -> Progres
     ensures { λ r. ⌜ Paged (now (page .entry)) (firstPage (now (bundle .entry)) longer) r (now (page .exit)) ⌝ }
 {
     if longer {
-        return refused_page(page, 12);
+        return refused_page(page, Refusal::BundleDoesNotFit);
     }
-    let refusal = bundle_refusal(check_bundle(bundle));
-    if refusal == 0 {
-        return head_page(bundle, page);
+    match check_bundle(bundle) {
+        BundleCheck::Good => head_page(bundle, page),
+        BundleCheck::DoesNotFit => refused_page(page, Refusal::BundleDoesNotFit),
+        BundleCheck::List(refusal) => refused_page(page, Refusal::List(refusal)),
     }
-    refused_page(page, refusal)
 }
 
 // The next page of a bundle's output, after the progress that the page before it left.

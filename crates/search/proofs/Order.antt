@@ -1,7 +1,7 @@
 -- What a search finds: "the first exact record in list order; else the first fuzzy one, with its reason; else none".
-use mathlib.Core.Path.{_≡_, refl}
-use mathlib.Core.List.{List, [], _∷_}
-use Prim.Native.Nat.{ℕ, zero, suc, _<_}
+use mathlib.Core.Path.{_≡_, refl, sym, _∙_}
+use mathlib.Core.List.{List}
+use Prim.Native.Nat.{ℕ, _<_, _≤_}
 use native.Mathlib.Omega.{arith}
 use lib.ListN.{length, getD}
 use Rattle.observable.specs.declared.TcpObservation.{TcpObservation}
@@ -12,11 +12,20 @@ use Rattle.matching.specs.declared.SignatureFit.the-variants as fit
 use Rattle.matching.specs.Fit.{featuresOf}
 use Rattle.found.specs.declared.Found.{Found}
 use Rattle.found.specs.declared.Found.the-variants as found
+use Rattle.found.specs.Least.{unranked, Place, nowhere, prefer, firstLeast}
+use Rattle.found.specs.Rank.{foundOf, rankOf}
+use Rattle.found.proofs.Least.{Least, stays, first, least}
 use Rattle.sigrecord.specs.Record.{labelOf}
 use Rattle.siglist.specs.List.{recordCount, recordAt}
-use Rattle.found.specs.Keep.{keep}
-use Rattle.search.specs.Search.{fitAt, searchFrom, numbersFrom, searchOver, searchAll}
-use Rattle.search.proofs.Rows.{stays}
+use Rattle.search.specs.Search.{fitAt, candidateAt, rankAt, foundAt, searchRow, searchOver, searchAll}
+use Rattle.search.proofs.Rows.{at-start, one-record}
+
+-- What ranks after fuzzy does not fit.
+after-fuzzy : (label : ℕ) (x : SignatureFit) → 1 < rankOf (foundOf label x) → x ≡ fit.None
+unfolding foundOf
+after-fuzzy label fit.None h = refl
+after-fuzzy label fit.Exact h = absurd (omega arith)
+after-fuzzy label (fit.Fuzzy r) h = absurd (omega arith)
 
 module _ (f : Features) (kinds bytes l : List ℕ) where
   -- The fit of the record at a place of a row of record numbers.
@@ -44,80 +53,50 @@ module _ (f : Features) (kinds bytes l : List ℕ) where
         → Outcome is (found.Fuzzy (labelOf (recordAt l (getD is k 0))) reason)
     none : ((k : ℕ) → k < length is → fitOfPlace is k ≡ fit.None) → Outcome is found.None
 
-  -- With a fuzzy record held, a later exact one is taken, and nothing else.
-  data Held (is : List ℕ) (label : ℕ) (reason : FuzzyReason) : Found → Type 0 where
-    then-exact
-        : (k : ℕ)
-        → k < length is
-        → fitOfPlace is k ≡ fit.Exact
-        → NoneExact is k
-        → Held is label reason (found.Exact (labelOf (recordAt l (getD is k 0))))
-    kept : NoneExact is (length is) → Held is label reason (found.Fuzzy label reason)
-
-  not-exact : (i : ℕ) (is : List ℕ) (n : ℕ) → (fitAt f kinds bytes l i ≡ fit.Exact → ⊥) → NoneExact is n → NoneExact (i ∷ is) (suc n)
-  not-exact i is n here there zero h e = here e
-  not-exact i is n here there (suc k) h e = there k (omega arith) e
-
-  held : (label : ℕ) (reason : FuzzyReason) (is : List ℕ) → Held is label reason (searchFrom (found.Fuzzy label reason) f kinds bytes l is)
-  unfolding searchFrom keep
-  held label reason [] = kept (λ k h e. omega arith)
-  held label reason (i ∷ is) = by-fit (fitAt f kinds bytes l i) refl (held label reason is)
-    where
-      later : {x : Found} → (fitAt f kinds bytes l i ≡ fit.Exact → ⊥) → Held is label reason x → Held (i ∷ is) label reason x
-      later differs (then-exact k h e before) = then-exact (suc k) (omega arith) e (not-exact i is k differs before)
-      later differs (kept before) = kept (not-exact i is (length is) differs before)
-
-      by-fit
-          : (x : SignatureFit)
-          → fitAt f kinds bytes l i ≡ x
-          → Held is label reason (searchFrom (found.Fuzzy label reason) f kinds bytes l is)
-          → Held (i ∷ is) label reason (searchFrom (keep (found.Fuzzy label reason) (labelOf (recordAt l i)) x) f kinds bytes l is)
-      by-fit fit.None e rest = later (λ x. let z : _≡_ {A = ℕ} 0 1 = cc in omega arith) rest
-      by-fit fit.Exact e rest =
-          rw (stays f kinds bytes l (labelOf (recordAt l i)) is) (then-exact 0 (omega arith) e (λ k h x. omega arith))
-      by-fit (fit.Fuzzy r) e rest = later (λ x. let z : _≡_ {A = ℕ} 0 1 = cc in omega arith) rest
-
   -- The search of a row of record numbers has one of the three outcomes.
-  pub outcome : (is : List ℕ) → Outcome is (searchFrom found.None f kinds bytes l is)
-  unfolding searchFrom keep
-  outcome [] = none (λ k h. absurd (omega arith))
-  outcome (i ∷ is) = by-fit (fitAt f kinds bytes l i) refl (outcome is)
+  pub outcome : (is : List ℕ) → Outcome is (searchRow f kinds bytes l is)
+  unfolding searchRow firstLeast foundAt rankAt candidateAt foundOf
+  outcome is = by-place (least (rankAt f kinds bytes l) nowhere is)
     where
-      before : {n : ℕ} → fitAt f kinds bytes l i ≡ fit.None → ((j : ℕ) → j < n → fitOfPlace is j ≡ fit.None) → (j : ℕ) → j < suc n → fitOfPlace (i ∷ is) j ≡ fit.None
-      before e there zero h = e
-      before e there (suc j) h = there j (omega arith)
-
-      not-it : fitAt f kinds bytes l i ≡ fit.None → fitAt f kinds bytes l i ≡ fit.Exact → ⊥
-      not-it e x = let z : _≡_ {A = ℕ} 0 1 = cc in omega arith
-
-      later : {x : Found} → fitAt f kinds bytes l i ≡ fit.None → Outcome is x → Outcome (i ∷ is) x
-      later e (first-exact k h x there) = first-exact (suc k) (omega arith) x (not-exact i is k (not-it e) there)
-      later e (first-fuzzy k r h x there exact) =
-          first-fuzzy (suc k) r (omega arith) x (before e there) (not-exact i is (length is) (not-it e) exact)
-      later e (none there) = none (before e there)
-
-      fuzzy-held : {x : Found} (r : FuzzyReason) → fitAt f kinds bytes l i ≡ fit.Fuzzy r → Held is (labelOf (recordAt l i)) r x → Outcome (i ∷ is) x
-      fuzzy-held r e (then-exact k h x there) =
-          first-exact (suc k) (omega arith) x (not-exact i is k (λ y. let z : _≡_ {A = ℕ} 0 1 = cc in omega arith) there)
-      fuzzy-held r e (kept there) =
-          first-fuzzy 0 r (omega arith) e (λ j h. absurd (omega arith))
-          (not-exact i is (length is) (λ y. let z : _≡_ {A = ℕ} 0 1 = cc in omega arith) there)
+      rank : ℕ → ℕ
+      rank k = rankAt f kinds bytes l (getD is k 0)
 
       by-fit
-          : (x : SignatureFit)
-          → fitAt f kinds bytes l i ≡ x
-          → Outcome is (searchFrom found.None f kinds bytes l is)
-          → Outcome (i ∷ is) (searchFrom (keep found.None (labelOf (recordAt l i)) x) f kinds bytes l is)
-      by-fit fit.None e rest = later e rest
-      by-fit fit.Exact e rest =
-          rw (stays f kinds bytes l (labelOf (recordAt l i)) is) (first-exact 0 (omega arith) e (λ k h x. omega arith))
-      by-fit (fit.Fuzzy r) e rest = fuzzy-held r e (held (labelOf (recordAt l i)) r is)
+          : (k : ℕ) (x : SignatureFit)
+          → fitOfPlace is k ≡ x
+          → k < length is
+          → rank k < unranked
+          → ((j : ℕ) → j < k → rank k < rank j)
+          → ((j : ℕ) → j < length is → rank k ≤ rank j)
+          → Outcome is (candidateAt f kinds bytes l (getD is k 0))
+      by-fit k fit.None e inside less before all = absurd (let z = rw e at less in omega arith)
+      by-fit k fit.Exact e inside less before all =
+          rw e (first-exact k inside e (λ j h x. let z = rw (e, x) at (before j h) in omega arith))
+      by-fit k (fit.Fuzzy r) e inside less before all =
+          rw e
+          (first-fuzzy k r inside e
+          (λ j h. after-fuzzy (labelOf (recordAt l (getD is j 0))) (fitOfPlace is j) (rw e at (before j h)))
+          (λ j h x. let z = rw (e, x) at (all j h) in omega arith))
+
+      by-place : {p : Place} → Least (rankAt f kinds bytes l) nowhere is p → Outcome is (foundAt f kinds bytes l p)
+      by-place (stays all) =
+          none (λ k h. after-fuzzy (labelOf (recordAt l (getD is k 0))) (fitOfPlace is k) (let z = all k h in omega arith))
+      by-place (first k inside less before all) = by-fit k (fitOfPlace is k) refl inside less before all
+
+-- Before none, anything is preferred.
+before-none : (x : Found) → prefer rankOf found.None x ≡ x
+unfolding prefer
+before-none found.None = refl
+before-none (found.Exact label) = refl
+before-none (found.Fuzzy label reason) = refl
 
 -- "a single fit is the search of a list of one record"
 pub single
     : (o : TcpObservation) (l : List ℕ)
     → recordCount l ≡ 1
-    → searchAll o l
-    ≡ keep found.None (labelOf (recordAt l 0)) (fitAt (featuresOf o) (o .olayout .kinds) (o .olayout .bytes) l 0)
-unfolding searchAll searchOver searchFrom numbersFrom
-single o l one = rw one
+    → searchAll o l ≡ candidateAt (featuresOf o) (o .olayout .kinds) (o .olayout .bytes) l 0
+unfolding searchAll searchOver
+single o l one =
+    rw one
+    (sym (one-record (featuresOf o) (o .olayout .kinds) (o .olayout .bytes) l 0)
+    ∙ rw (← at-start (featuresOf o) (o .olayout .kinds) (o .olayout .bytes) l) (before-none _))

@@ -1,75 +1,159 @@
--- Laws of the search: one record more, an exact record, the end, and a list that does not fit.
+-- Laws of the search of a row, in the terms of a loop over the records: what is held is the search of the records passed.
 use mathlib.Core.Path.{_≡_, refl, sym, _∙_, ap}
-use mathlib.Core.Bool.{true, false, false≢true}
-use mathlib.Core.List.{List, [], _∷_}
-use Prim.Native.Nat.{ℕ, suc, _+_, _-_, _<_, _≤_}
+use mathlib.Core.Bool.{false}
+use mathlib.Core.List.{List, _++_}
+use mathlib.Core.Logic.{_⊎_, inl, inr}
+use Prim.Native.Nat.{ℕ, _+_, _<_, _≤_}
+use native.Mathlib.Decide.{decLe}
 use native.Mathlib.Omega.{arith}
+use lib.ListN.{getD}
 use Rattle.matching.specs.declared.Features.{Features}
-use Rattle.matching.specs.declared.SignatureFit.{SignatureFit}
 use Rattle.matching.specs.declared.SignatureFit.the-variants as fit
+use Rattle.matching.specs.Fit.{passes}
 use Rattle.found.specs.declared.Found.{Found}
 use Rattle.found.specs.declared.Found.the-variants as found
-use Rattle.sigrecord.specs.Record.{labelOf}
-use Rattle.siglist.specs.List.{recordAt, listFits}
-use Rattle.found.specs.Keep.{isNone, keep, isExact}
-use Rattle.search.specs.Search.{fitAt, searchFrom, numbersFrom}
+use Rattle.found.specs.Least.{unranked, Place, nowhere, at, rankThere, prefer, leastFrom, firstLeast, numbersFrom}
+use Rattle.found.specs.Rank.{foundOf, rankOf}
+use Rattle.found.proofs.Least as least
+use Rattle.siglist.specs.declared.Areas.{Areas}
+use Rattle.siglist.specs.List.{recordAt, listFits, AreasFit}
+use Rattle.search.specs.Next.{Next}
+use Rattle.search.specs.Search.{fitAt, candidateAt, rankAt, foundAt, searchRow}
+use Rattle.search.proofs.Fits.{gate-fails}
 
--- A record that does not fit changes nothing.
-pub keep-none : (held : Found) (label : ℕ) (x : SignatureFit) → isNone x ≡ true → keep held label x ≡ held
-unfolding keep isNone
-keep-none found.None label fit.None e = refl
-keep-none (found.Exact l) label fit.None e = refl
-keep-none (found.Fuzzy l r) label fit.None e = refl
-keep-none held label fit.Exact e = absurd (false≢true e)
-keep-none held label (fit.Fuzzy r) e = absurd (false≢true e)
+-- What does not fit comes last.
+last-rank : (x : Found) → rankOf x ≤ unranked
+last-rank found.None = omega arith
+last-rank (found.Exact label) = omega arith
+last-rank (found.Fuzzy label reason) = omega arith
 
-none-is-none : isNone fit.None ≡ true
-unfolding isNone
-none-is-none = refl
+-- Every record between two fails the gates, and so does one more.
+pub one-farther
+    : (f : Features) (l : List ℕ) (from i : ℕ)
+    → ((k : ℕ) → from ≤ k → k < i → passes f (recordAt l k) ≡ false)
+    → passes f (recordAt l i) ≡ false
+    → (k : ℕ)
+    → from ≤ k
+    → k < i + 1
+    → passes f (recordAt l k) ≡ false
+one-farther f l from i before here k start end =
+    elim (decLe i k) [ yes h ↦ (let e : k ≡ i = omega arith in rw e here) | no h ↦ before k start (omega arith) ]
 
 module _ (f : Features) (kinds bytes l : List ℕ) where
-  -- An exact record ends the search.
-  pub stays : (label : ℕ) (is : List ℕ) → searchFrom (found.Exact label) f kinds bytes l is ≡ found.Exact label
-  unfolding searchFrom keep
-  stays label [] = refl
-  stays label (i ∷ is) = stays label is
+  -- ---- a record's rank, and that of what is read at a place
 
-  pub exact-ends : (held : Found) (is : List ℕ) → isExact held ≡ true → searchFrom held f kinds bytes l is ≡ held
-  unfolding isExact
-  exact-ends found.None is e = absurd (false≢true e)
-  exact-ends (found.Exact label) is e = stays label is
-  exact-ends (found.Fuzzy label r) is e = absurd (false≢true e)
+  pub no-rank : (i : ℕ) → fitAt f kinds bytes l i ≡ fit.None → rankAt f kinds bytes l i ≡ unranked
+  unfolding rankAt candidateAt foundOf
+  no-rank i e = rw e
 
-  -- One record more of the plain search.
-  pub one-record
-      : (held : Found) (i n : ℕ)
-      → i < n
-      → searchFrom (keep held (labelOf (recordAt l i)) (fitAt f kinds bytes l i)) f kinds bytes l (numbersFrom (i + 1) (n - (i + 1)))
-      ≡ searchFrom held f kinds bytes l (numbersFrom i (n - i))
-  unfolding searchFrom numbersFrom
-  one-record held i n inside = let more : n - i ≡ suc (n - (i + 1)) = omega arith in rw more
+  pub rank-last : (i : ℕ) → rankAt f kinds bytes l i ≤ unranked
+  unfolding rankAt
+  rank-last i = last-rank (candidateAt f kinds bytes l i)
 
-  -- A record that does not fit is passed over.
-  pub passed-over
-      : (held : Found) (i n : ℕ)
-      → i < n
-      → fitAt f kinds bytes l i ≡ fit.None
-      → searchFrom held f kinds bytes l (numbersFrom (i + 1) (n - (i + 1))) ≡ searchFrom held f kinds bytes l (numbersFrom i (n - i))
-  passed-over held i n inside e =
-      ap (λ (h : Found). searchFrom h f kinds bytes l (numbersFrom (i + 1) (n - (i + 1))))
-      (sym (keep-none held (labelOf (recordAt l i)) (fitAt f kinds bytes l i) (rw e (none-is-none))))
-      ∙ one-record held i n inside
+  rank-there : (p : Place) → rankOf (foundAt f kinds bytes l p) ≡ rankThere (rankAt f kinds bytes l) p
+  unfolding foundAt rankAt
+  rank-there nowhere = refl
+  rank-there (at i) = refl
 
-  pub no-record : (held : Found) (i n : ℕ) → n ≤ i → searchFrom held f kinds bytes l (numbersFrom i (n - i)) ≡ held
-  unfolding searchFrom numbersFrom
-  no-record held i n h = let none : n - i ≡ 0 = omega arith in rw none
+  there-last : (p : Place) → rankThere (rankAt f kinds bytes l) p ≤ unranked
+  there-last nowhere = omega arith
+  there-last (at i) = rank-last i
 
-  -- A list that does not fit has no record that fits.
+  -- ---- records that do not fit
+
+  pub passed-over : (held : Found) (i : ℕ) → fitAt f kinds bytes l i ≡ fit.None → prefer rankOf held (candidateAt f kinds bytes l i) ≡ held
+  unfolding candidateAt foundOf
+  passed-over held i e = rw e (least.kept rankOf held found.None (last-rank held))
+
+  pub none-fits : ((i : ℕ) → fitAt f kinds bytes l i ≡ fit.None) → (is : List ℕ) → searchRow f kinds bytes l is ≡ found.None
+  unfolding searchRow firstLeast foundAt
+  none-fits none is =
+      ap (foundAt f kinds bytes l)
+      (least.unchanged (rankAt f kinds bytes l) nowhere is
+      (λ k inside. let e = no-rank (getD is k 0) (none (getD is k 0)) in omega arith))
+
   none-there : listFits l ≡ false → (i : ℕ) → fitAt f kinds bytes l i ≡ fit.None
   unfolding fitAt
   none-there e i = rw e
 
-  pub none-found : listFits l ≡ false → (is : List ℕ) → searchFrom found.None f kinds bytes l is ≡ found.None
-  unfolding searchFrom keep
-  none-found e [] = refl
-  none-found e (i ∷ is) = rw (none-there e i) (none-found e is)
+  pub none-found : listFits l ≡ false → (is : List ℕ) → searchRow f kinds bytes l is ≡ found.None
+  none-found e is = none-fits (none-there e) is
+
+  -- ---- other rows
+
+  -- Over a longer row a search finds the same, or what has strictly less rank.
+  pub longer-row
+      : (is js : List ℕ)
+      → (searchRow f kinds bytes l (is ++ js) ≡ searchRow f kinds bytes l is)
+      ⊎ (rankOf (searchRow f kinds bytes l (is ++ js)) < rankOf (searchRow f kinds bytes l is))
+  unfolding searchRow firstLeast
+  longer-row is js = by-place (least.longer-row (rankAt f kinds bytes l) nowhere is js)
+    where
+      by-place
+          : {old new : Place}
+          → (new ≡ old) ⊎ (rankThere (rankAt f kinds bytes l) new < rankThere (rankAt f kinds bytes l) old)
+          → (foundAt f kinds bytes l new ≡ foundAt f kinds bytes l old)
+          ⊎ (rankOf (foundAt f kinds bytes l new) < rankOf (foundAt f kinds bytes l old))
+      by-place (inl same) = inl (ap (foundAt f kinds bytes l) same)
+      by-place {old} {new} (inr less) = inr (rw (rank-there old, rank-there new) less)
+
+  -- Records that do not fit may be left out of a row.
+  pub without
+      : {is js : List ℕ}
+      → least.Without (rankAt f kinds bytes l) is js
+      → searchRow f kinds bytes l is ≡ searchRow f kinds bytes l js
+  unfolding searchRow firstLeast
+  without w = ap (foundAt f kinds bytes l) (least.without (rankAt f kinds bytes l) rank-last nowhere w)
+
+  -- ---- the loop
+
+  -- The search of the records before one.
+  abbrev Passed : ℕ → Found
+  Passed i = searchRow f kinds bytes l (numbersFrom 0 i)
+
+  pub at-start : found.None ≡ Passed 0
+  unfolding searchRow firstLeast leastFrom numbersFrom foundAt
+  at-start = refl
+
+  pub one-record : (i : ℕ) → prefer rankOf (Passed i) (candidateAt f kinds bytes l i) ≡ Passed (i + 1)
+  unfolding searchRow firstLeast foundAt
+  one-record i =
+      let rank = rankAt f kinds bytes l in
+      sym
+      (ap (foundAt f kinds bytes l) (least.one-more rank i)
+      ∙ least.read (rankThere rank) (least.Passed rank i) (at i) rankOf (foundAt f kinds bytes l) rank-there)
+
+  -- One of rank 0 ends the search.
+  ended : (i n : ℕ) → i ≤ n → rankOf (Passed i) ≡ 0 → Passed i ≡ Passed n
+  unfolding searchRow firstLeast
+  ended i n within e =
+      let rank = rankAt f kinds bytes l in
+      sym (ap (foundAt f kinds bytes l) (least.ended rank i n within (sym (rank-there (least.Passed rank i)) ∙ e)))
+
+  -- Records that fail the gates are passed over.
+  pub skipped : (a : Areas) (i r : ℕ) → AreasFit l a → Next f l (a .records) i r → Passed i ≡ Passed r
+  unfolding searchRow firstLeast
+  skipped a i r fits next =
+      let rank = rankAt f kinds bytes l in
+      let last = there-last (least.Passed rank i) in
+      sym
+      (ap (foundAt f kinds bytes l)
+      (least.between rank i r (next .reached)
+      (λ k from to.
+      let inside : k < a .records = omega (arith, next .within) in
+      let e = no-rank k (gate-fails f kinds bytes l a k fits inside (next .between k from to)) in
+      omega arith)))
+
+  -- A candidate is judged, and one of rank 0 was found.
+  pub after
+      : (a : Areas) (i r : ℕ) (held new : Found)
+      → AreasFit l a
+      → held ≡ Passed i
+      → Next f l (a .records) i r
+      → new ≡ prefer rankOf held (candidateAt f kinds bytes l r)
+      → new ≡ Passed (r + 1)
+  after a i r held new fits e next step =
+      step ∙ ap (λ (h : Found). prefer rankOf h (candidateAt f kinds bytes l r)) (e ∙ skipped a i r fits next) ∙ one-record r
+
+  pub first-best : (r n : ℕ) (new : Found) → r < n → new ≡ Passed (r + 1) → rankOf new ≡ 0 → new ≡ Passed n
+  first-best r n new inside e zero = e ∙ ended (r + 1) n (omega arith) (ap rankOf (sym e) ∙ zero)

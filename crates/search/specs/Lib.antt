@@ -1,1 +1,3 @@
+pub mod Candidate
+pub mod Next
 pub mod Search

@@ -1,104 +1,32 @@
 // The search: how a record fits, and the row of records.
 ghost use mathlib.Core.Path.{_≡_};
 ghost use mathlib.Core.Bool.{true, _&&_};
-ghost use lib.Dec.{eqb, leb};
-ghost use Rattle.matching.specs.Fit.{scalarGates};
-ghost use Rattle.distances.specs.DistanceGates.{windowMatches};
-ghost use Rattle.gates.specs.Gates.{mssMatches, scaleMatches, layoutMatches};
-ghost use Prim.Native.Nat.{ℕ, _+_, _*_, _-_, _≤_, _<_};
-ghost use mathlib.Core.List.{List};
+ghost use lib.Dec.{leb};
+ghost use Rattle.matching.specs.Fit.{passes};
+ghost use Prim.Native.Nat.{_+_, _*_, _≤_, _<_};
 ghost use lib.ListN.{length};
-ghost use Rattle.sigrecord.specs.Record.{entryCount, labelOf, mssOf, scaleOf, windowOf, signatureOf};
-ghost use Rattle.siglist.specs.List.{recordAt, entriesOf, AreasFit, recordGood};
-ghost use Rattle.found.specs.Keep.{keep};
-ghost use Rattle.search.specs.Search.{fitAt, searchFrom, numbersFrom};
-use crate::raw::mss_of;
-use crate::raw::scale_of;
-use crate::raw::signature_of;
-use crate::raw::window_of;
-use distances::WindowSize;
-use distances::window_size_matches;
+ghost use Rattle.siglist.specs.List.{recordAt, AreasFit};
+ghost use Rattle.found.specs.Least.{prefer, numbersFrom};
+ghost use Rattle.found.specs.Rank.{rankOf};
+ghost use Rattle.search.specs.Candidate.{holds, candidateFit};
+ghost use Rattle.search.specs.Next.{Next};
+ghost use Rattle.search.specs.Search.{candidateAt, searchRow};
 use found::Found;
-use found::is_exact;
+use found::found_of;
 use found::is_none;
-use found::keep_fit;
-use gates::mss_matches;
-use gates::olayout_matches;
-use gates::olen_matches;
-use gates::wscale_matches;
+use found::prefer_found;
+use found::rank_of;
 use matching::Features;
 use matching::SignatureFit;
+use matching::olayout_matches;
+use matching::passes_gates;
 use matching::tolerance;
-use numbers::be16;
-use numbers::wide;
 use siglist::Areas;
-use sigrecord::RECORD;
-use sigrecord::ip_version_matches;
-use sigrecord::payload_size_matches;
+use siglist::record_at;
+use sigrecord::entry_count;
+use sigrecord::first_entry;
+use sigrecord::label_of;
 use sigrecord::scalars_well_formed;
-use tcp::Mss;
-use tcp::Wscale;
-use window_size::Multiplier;
-
-// Gates of a record, each read off its bytes.
-pub(crate) fn mss_gate(observed: Mss, present: u8, high: u8, low: u8) -> bool
-    ensures { λ r. ⌜ r ≡ mssMatches observed (mssOf present (high * 256 + low)) ⌝ }
-{
-    mss_matches(observed, mss_of(present, be16(high, low)))
-}
-
-pub(crate) fn scale_gate(observed: Wscale, present: u8, number: u8) -> bool
-    ensures { λ r. ⌜ r ≡ scaleMatches observed (scaleOf present number) ⌝ }
-{
-    wscale_matches(observed, scale_of(present, number))
-}
-
-// Most windows are declared as multiples of the MSS, so that form is tested first.
-pub(crate) fn window_gate(
-    observed: u16,
-    multiplier: Multiplier,
-    form: u8,
-    high: u8,
-    low: u8,
-) -> bool
-    ensures { λ r. ⌜ r ≡ windowMatches observed (windowOf form (high * 256 + low)) multiplier ⌝ }
-{
-    if form == 3 {
-        return window_size_matches(observed, WindowSize::Mss(low), multiplier);
-    }
-    window_size_matches(observed, window_of(form, be16(high, low)), multiplier)
-}
-
-// The gates of a record but for the entries of its layout, those first that reject most.
-pub(crate) fn gates_at(observed: Features, raw: &[u8]) -> bool
-    requires { ⌜ length (now raw) ≡ 24 ⌝ }
-    ensures { λ r. ⌜ r ≡ eqb (observed .count) (entryCount (now (raw .entry))) && scalarGates observed (signatureOf (now (raw .entry))) ⌝ }
-{
-    if observed.count != wide(raw[20]) as usize {
-        return false;
-    }
-    let wscale = observed.wscale;
-    if !scale_gate(wscale, raw[11], raw[12]) {
-        return false;
-    }
-    let mss = observed.mss;
-    if !mss_gate(mss, raw[5], raw[6], raw[7]) {
-        return false;
-    }
-    if !olen_matches(observed.olen, raw[4]) {
-        return false;
-    }
-    let pclass = observed.pclass;
-    if !payload_size_matches(pclass, raw[13]) {
-        return false;
-    }
-    let version = observed.version;
-    if !ip_version_matches(version, raw[0]) {
-        return false;
-    }
-    let multiplier = observed.multiplier;
-    window_gate(observed.wsize, multiplier, raw[8], raw[9], raw[10])
-}
 
 // Whether so many entries from one on lie within the layout area.
 pub(crate) fn entries_lie(areas: Areas, first: usize, count: usize) -> bool
@@ -108,30 +36,27 @@ pub(crate) fn entries_lie(areas: Areas, first: usize, count: usize) -> bool
     if 40 < count {
         return false;
     }
-    first + count <= areas.entries
+    first + count <= areas.entries as usize
 }
 
 // Whether a record's layout is the observation's, and the record well formed.
-pub(crate) fn holds_at(
+pub(crate) fn record_holds(
     count: usize,
     kinds: &[u8],
     bytes: &[u8],
     list: &[u8],
     areas: Areas,
-    i: usize,
+    raw: &[u8],
 ) -> bool
-    requires { ⌜ AreasFit (now list) areas × (i < areas .records) ⌝ }
-    ensures { λ r. ⌜ r ≡ layoutMatches count (now (kinds .entry)) (now (bytes .entry)) (entryCount (recordAt (now (list .entry)) i)) (entriesOf (now (list .entry)) (recordAt (now (list .entry)) i)) && recordGood (now (list .entry)) i ⌝ }
+    requires { ⌜ AreasFit (now list) areas ⌝ }
+    ensures { λ r. ⌜ r ≡ holds count (now (kinds .entry)) (now (bytes .entry)) (now (list .entry)) (now (raw .entry)) ⌝ }
 {
-    let at = areas.records_offset + RECORD * i;
-    let end_of_record = at + RECORD;
-    let raw = &list[at..end_of_record];
-    let first = be16(raw[18], raw[19]) as usize;
-    let declared = wide(raw[20]) as usize;
+    let first = first_entry(raw) as usize;
+    let declared = entry_count(raw) as usize;
     if !entries_lie(areas, first, declared) {
         return false;
     }
-    let start = areas.entries_offset + 2 * first;
+    let start = areas.entries_offset as usize + 2 * first;
     let end = start + 2 * declared;
     let entries = &list[start..end];
     if !olayout_matches(kinds, bytes, count, entries, declared) {
@@ -142,38 +67,25 @@ pub(crate) fn holds_at(
 
 // How a record that passes the gates fits. TTL and quirks come first: only of a record that passes them too is it asked whether it
 // is well formed.
-pub(crate) fn fit_at(
+pub(crate) fn candidate_fit(
     observed: Features,
     kinds: &[u8],
     bytes: &[u8],
     list: &[u8],
     areas: Areas,
-    i: usize,
+    raw: &[u8],
 ) -> SignatureFit
-    requires { ⌜ AreasFit (now list) areas × (i < areas .records) × (eqb (observed .count) (entryCount (recordAt (now list) i)) && scalarGates observed (signatureOf (recordAt (now list) i)) ≡ true) ⌝ }
-    ensures { λ r. ⌜ r ≡ fitAt observed (now (kinds .entry)) (now (bytes .entry)) (now (list .entry)) i ⌝ }
+    requires { ⌜ AreasFit (now list) areas ⌝ }
+    ensures { λ r. ⌜ r ≡ candidateFit observed (now (kinds .entry)) (now (bytes .entry)) (now (list .entry)) (now (raw .entry)) ⌝ }
 {
-    let at = areas.records_offset + RECORD * i;
-    let end_of_record = at + RECORD;
-    let raw = &list[at..end_of_record];
-    let fit = tolerance(observed, signature_of(raw));
+    let fit = tolerance(observed, raw);
     if is_none(fit) {
         return SignatureFit::None;
     }
-    if !holds_at(observed.count, kinds, bytes, list, areas, i) {
+    if !record_holds(observed.count, kinds, bytes, list, areas, raw) {
         return SignatureFit::None;
     }
     fit
-}
-
-pub(crate) fn label_at(list: &[u8], areas: Areas, i: usize) -> u16
-    requires { ⌜ AreasFit (now list) areas × (i < areas .records) ⌝ }
-    ensures { λ r. ⌜ r ≡ labelOf (recordAt (now (list .entry)) i) ⌝ }
-{
-    let at = areas.records_offset + RECORD * i;
-    let end_of_record = at + RECORD;
-    let raw = &list[at..end_of_record];
-    be16(raw[22], raw[23])
 }
 
 // What is held after record i, which passes the gates: its label is read only if it fits.
@@ -186,27 +98,25 @@ pub(crate) fn search_step(
     areas: Areas,
     i: usize,
 ) -> Found
-    requires { ⌜ AreasFit (now list) areas × (i < areas .records) × (eqb (observed .count) (entryCount (recordAt (now list) i)) && scalarGates observed (signatureOf (recordAt (now list) i)) ≡ true) ⌝ }
-    ensures { λ r. ⌜ r ≡ keep held (labelOf (recordAt (now (list .entry)) i)) (fitAt observed (now (kinds .entry)) (now (bytes .entry)) (now (list .entry)) i) ⌝ }
+    requires { ⌜ AreasFit (now list) areas × (i < areas .records) × (passes observed (recordAt (now list) i) ≡ true) ⌝ }
+    ensures { λ r. ⌜ r ≡ prefer rankOf held (candidateAt observed (now (kinds .entry)) (now (bytes .entry)) (now (list .entry)) i) ⌝ }
 {
-    let fit = fit_at(observed, kinds, bytes, list, areas, i);
+    let raw = record_at(list, areas, i);
+    let fit = candidate_fit(observed, kinds, bytes, list, areas, raw);
     if is_none(fit) {
         return held;
     }
-    keep_fit(held, label_at(list, areas, i), fit)
+    prefer_found(held, found_of(label_of(raw), fit))
 }
 
-// The first record from one on that passes the gates, or the end: those before it leave a search as it is.
+// The first record from one on that passes the gates, or the end.
 pub(crate) fn next_candidate(observed: Features, list: &[u8], areas: Areas, from: usize) -> usize
     requires { ⌜ AreasFit (now list) areas × (from ≤ areas .records) ⌝ }
-    ensures { λ r. ⌜ (from ≤ r) × (r ≤ areas .records) × (r < areas .records → eqb (observed .count) (entryCount (recordAt (now (list .entry)) r)) && scalarGates observed (signatureOf (recordAt (now (list .entry)) r)) ≡ true) × ((held : Found) (kinds bytes : List ℕ) → searchFrom held observed kinds bytes (now (list .entry)) (numbersFrom r (areas .records - r)) ≡ searchFrom held observed kinds bytes (now (list .entry)) (numbersFrom from (areas .records - from))) ⌝ }
+    ensures { λ r. ⌜ Next observed (now (list .entry)) (areas .records) from r ⌝ }
 {
     let mut i = from;
-    while i < areas.records {
-        let at = areas.records_offset + RECORD * i;
-        let end_of_record = at + RECORD;
-        let raw = &list[at..end_of_record];
-        if gates_at(observed, raw) {
+    while i < areas.records as usize {
+        if passes_gates(observed, record_at(list, areas, i)) {
             return i;
         }
         i += 1;
@@ -214,7 +124,7 @@ pub(crate) fn next_candidate(observed: Features, list: &[u8], areas: Areas, from
     i
 }
 
-// The records in list order; an exact one ends the search.
+// The records in list order; one of rank 0 ends the search.
 pub(crate) fn search_records(
     observed: Features,
     kinds: &[u8; 40],
@@ -223,9 +133,10 @@ pub(crate) fn search_records(
     areas: Areas,
 ) -> Found
     requires { ⌜ AreasFit (now list) areas ⌝ }
-    ensures { λ r. ⌜ r ≡ searchFrom Found.None observed (now (kinds .entry)) (now (bytes .entry)) (now (list .entry)) (numbersFrom 0 (areas .records)) ⌝ }
+    ensures { λ r. ⌜ r ≡ searchRow observed (now (kinds .entry)) (now (bytes .entry)) (now (list .entry))
+        (numbersFrom 0 (areas .records)) ⌝ }
 {
-    let count = areas.records;
+    let count = areas.records as usize;
     let mut held = Found::None;
     let mut i = 0;
     while i < count {
@@ -234,7 +145,7 @@ pub(crate) fn search_records(
             return held;
         }
         held = search_step(held, observed, kinds, bytes, list, areas, i);
-        if is_exact(held) {
+        if rank_of(held) == 0 {
             return held;
         }
         i += 1;

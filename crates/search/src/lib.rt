@@ -5,20 +5,19 @@ use finding::search_records;
 pub use found::Found;
 use matching::features_of;
 use observable::TcpObservation;
+use refusals::ListRefusal;
 use siglist::Header;
 use siglist::ListAnswer;
 use siglist::check_list;
 use siglist::read_header;
 
 mod finding;
-mod raw;
 
-// A search's answer: what it finds, or refusal 11, 9 or 10.
+// A search's answer: what it finds, or why it or its list is refused.
 pub enum SearchAnswer {
     Found(Found),
     LayoutTooLong,
-    DoesNotFit,
-    BadRecord(usize),
+    List(ListRefusal),
 }
 
 // The search of a list that was checked before. It is total: what is not a well-formed record of the list does not fit.
@@ -45,8 +44,7 @@ pub fn search(observed: TcpObservation, list: &[u8]) -> SearchAnswer
         return SearchAnswer::LayoutTooLong;
     }
     match check_list(list) {
-        ListAnswer::DoesNotFit => SearchAnswer::DoesNotFit,
-        ListAnswer::BadRecord(i) => SearchAnswer::BadRecord(i),
+        ListAnswer::Refused(refusal) => SearchAnswer::List(refusal),
         ListAnswer::Good => SearchAnswer::Found(search_checked(observed, list)),
     }
 }

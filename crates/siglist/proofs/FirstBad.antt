@@ -6,10 +6,11 @@ use Prim.Native.Nat.{ℕ, zero, suc, _+_, _<_, _≤_}
 use native.Mathlib.Omega.{arith}
 use Rattle.siglist.specs.declared.ListAnswer.{ListAnswer}
 use Rattle.siglist.specs.declared.ListAnswer.the-variants as list
+use Rattle.refusals.specs.declared.ListRefusal.the-variants as refusal
 use Rattle.siglist.specs.List.{recordCount, listFits, recordGood, recordsFrom, checkList}
 
 -- A list whose header or areas do not fit is refused by 9.
-pub does-not-fit : (l : List ℕ) → listFits l ≡ false → checkList l ≡ list.DoesNotFit
+pub does-not-fit : (l : List ℕ) → listFits l ≡ false → checkList l ≡ list.Refused refusal.DoesNotFit
 unfolding checkList
 does-not-fit l e = rw e
 
@@ -22,7 +23,7 @@ pub data Checked (l : List ℕ) (i n : ℕ) : ListAnswer → Type 0 where
       → k < i + n
       → recordGood l k ≡ false
       → ((j : ℕ) → i ≤ j → j < k → recordGood l j ≡ true)
-      → Checked l i n (list.BadRecord k)
+      → Checked l i n (list.Refused (refusal.BadRecord k))
 
 checked : (l : List ℕ) (i n : ℕ) → Checked l i n (recordsFrom l i n)
 unfolding recordsFrom
@@ -41,7 +42,7 @@ checked l i (suc n) = by-test (recordGood l i) refl (checked l (i + 1) n)
         : (t : Bool)
         → recordGood l i ≡ t
         → Checked l (i + 1) n (recordsFrom l (i + 1) n)
-        → Checked l i (suc n) (cond t (recordsFrom l (i + 1) n) (list.BadRecord i))
+        → Checked l i (suc n) (cond t (recordsFrom l (i + 1) n) (list.Refused (refusal.BadRecord i)))
     by-test true e rest = later e rest
     by-test false e rest = first-bad i (omega arith) (omega arith) e (λ j h k. absurd (omega arith))
 

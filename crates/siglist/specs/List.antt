@@ -2,8 +2,8 @@
 use mathlib.Core.Path.{_≡_}
 use Prim.Native.Nat.{ℕ, zero, suc, _+_, _*_, _≤_}
 use mathlib.Core.Bool.{Bool, cond, _&&_}
-use mathlib.Core.List.{List}
-use lib.Dec.{leb}
+use mathlib.Core.List.{List, []}
+use lib.Dec.{leb, ltb}
 use lib.ListN.{length}
 use Rattle.basis.specs.Bytes.{be16, part}
 use Rattle.siglist.specs.declared.Areas.{Areas}
@@ -11,8 +11,11 @@ use Rattle.siglist.specs.declared.Header.{Header}
 use Rattle.siglist.specs.declared.Header.the-variants as header
 use Rattle.siglist.specs.declared.ListAnswer.{ListAnswer}
 use Rattle.siglist.specs.declared.ListAnswer.the-variants as answer
-use Rattle.gates.specs.Gates.{entriesGood}
-use Rattle.sigrecord.specs.Record.{firstEntry, entryCount, scalarsGood}
+use Rattle.refusals.specs.declared.ListRefusal.the-variants as refusal
+use Rattle.refusals.specs.Refusals.{Verdict, listRefused, numberOf}
+use Rattle.sigrecord.specs.Layout.{entriesGood}
+use Rattle.sigrecord.specs.Record.{firstEntry, entryCount}
+use Rattle.sigrecord.specs.WellFormed.{scalarsGood}
 
 -- "Header of 8 bytes, four two-byte numbers: signature count, offset of records, layout entry count, offset of layout entries."
 abbrev pub recordCount : List ℕ → ℕ
@@ -61,6 +64,13 @@ recordStart l i = recordsOffset l + 24 * i
 abbrev pub recordAt : List ℕ → ℕ → List ℕ
 recordAt l i = part (recordStart l i) (recordStart l i + 24) l
 
+-- Record i by the numbers of a header, on every byte string: its 24 bytes, or none if it is not among the records or these do not fit.
+unfoldable pub recordOf : List ℕ → Areas → ℕ → List ℕ
+recordOf l a i =
+    cond (ltb i (a .records) && areaFits (a .«records_offset») (24 * a .records) l)
+    (part (a .«records_offset» + 24 * i) (a .«records_offset» + 24 * i + 24) l)
+    []
+
 -- So many layout entries from one on, where they lie.
 abbrev pub entriesFrom : List ℕ → ℕ → ℕ → List ℕ
 entriesFrom l first count = part (layoutOffset l + 2 * first) (layoutOffset l + 2 * first + 2 * count) l
@@ -81,14 +91,20 @@ recordGood l i = scalarsGood (recordAt l i) && layoutLies l (firstEntry (recordA
 -- Of so many records from this one on: all well formed, or the index of the first that is bad.
 unfoldable pub recordsFrom : List ℕ → ℕ → ℕ → ListAnswer
 recordsFrom l i zero = answer.Good
-recordsFrom l i (suc n) = cond (recordGood l i) (recordsFrom l (i + 1) n) (answer.BadRecord i)
+recordsFrom l i (suc n) = cond (recordGood l i) (recordsFrom l (i + 1) n) (answer.Refused (refusal.BadRecord i))
 
 -- Refusals 9 and 10, in this order.
 unfoldable pub checkList : List ℕ → ListAnswer
-checkList l = cond (listFits l) (recordsFrom l 0 (recordCount l)) answer.DoesNotFit
+checkList l = cond (listFits l) (recordsFrom l 0 (recordCount l)) (answer.Refused refusal.DoesNotFit)
 
--- The number of a list's refusal; 0 if it is none. Refusal 10 gives the index of the first bad record.
+-- Which refusal of the table an answer is, if any, and its number; 0 if it is none.
+abbrev pub headerVerdict : Header → Verdict
+headerVerdict (header.Fits areas) = Verdict.accepted
+headerVerdict header.DoesNotFit = listRefused refusal.DoesNotFit
+
+abbrev pub listVerdict : ListAnswer → Verdict
+listVerdict answer.Good = Verdict.accepted
+listVerdict (answer.Refused r) = listRefused r
+
 unfoldable pub listRefusal : ListAnswer → ℕ
-listRefusal answer.Good = 0
-listRefusal answer.DoesNotFit = 9
-listRefusal (answer.BadRecord i) = 10
+listRefusal a = numberOf (listVerdict a)

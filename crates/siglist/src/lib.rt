@@ -2,29 +2,29 @@
 ghost use mathlib.Core.Path.{_≡_};
 ghost use Prim.Native.Nat.{_+_, _*_, _≤_, _<_};
 ghost use lib.ListN.{length};
-ghost use Rattle.gates.specs.Gates.{entriesGood};
-ghost use Rattle.siglist.specs.List.{listFits, areasOf, headerOf, AreasFit, layoutLies, recordGood, checkList};
-use gates::entry_good;
-use numbers::be16;
-use numbers::wide;
+ghost use Rattle.siglist.specs.List.{areaFits, listFits, areasOf, headerOf, AreasFit, recordOf, layoutLies, recordGood, checkList};
+use numbers::be16_at;
+use refusals::ListRefusal;
 use sigrecord::RECORD;
+use sigrecord::entries_good;
+use sigrecord::entry_count;
+use sigrecord::first_entry;
 use sigrecord::scalars_well_formed;
 
-// A list is well formed, or refused: 9, or 10 with the index of its first bad record.
+// A list is well formed, or refused.
 pub enum ListAnswer {
     Good,
-    DoesNotFit,
-    BadRecord(usize),
+    Refused(ListRefusal),
 }
 
 const HEADER: usize = 8;
 
 // The numbers of a list's header.
 pub struct Areas {
-    pub records: usize,
-    pub records_offset: usize,
-    pub entries: usize,
-    pub entries_offset: usize,
+    pub records: u16,
+    pub records_offset: u16,
+    pub entries: u16,
+    pub entries_offset: u16,
 }
 
 // A list's header and its areas fit, or do not.
@@ -34,15 +34,27 @@ pub enum Header {
 }
 
 fn areas_of(list: &[u8]) -> Areas
-    requires { ⌜ 8 ≤ length (now list) ⌝ }
     ensures { λ r. ⌜ r ≡ areasOf (now (list .entry)) ⌝ }
 {
     Areas {
-        records: be16(list[0], list[1]) as usize,
-        records_offset: be16(list[2], list[3]) as usize,
-        entries: be16(list[4], list[5]) as usize,
-        entries_offset: be16(list[6], list[7]) as usize,
+        records: be16_at(list, 0),
+        records_offset: be16_at(list, 2),
+        entries: be16_at(list, 4),
+        entries_offset: be16_at(list, 6),
     }
+}
+
+// The header's test of the records, and the very same one of each record taken: behind the first the others cost nothing.
+fn records_fit(list: &[u8], areas: Areas) -> bool
+    ensures { λ r. ⌜ r ≡ areaFits (areas .«records_offset») (24 * areas .records) (now (list .entry)) ⌝ }
+{
+    areas.records_offset as usize + RECORD * areas.records as usize <= list.len()
+}
+
+fn entries_fit(list: &[u8], areas: Areas) -> bool
+    ensures { λ r. ⌜ r ≡ areaFits (areas .«entries_offset») (2 * areas .entries) (now (list .entry)) ⌝ }
+{
+    areas.entries_offset as usize + 2 * areas.entries as usize <= list.len()
 }
 
 fn list_fits(list: &[u8]) -> bool
@@ -51,14 +63,11 @@ fn list_fits(list: &[u8]) -> bool
     if list.len() < HEADER {
         return false;
     }
-    let records = be16(list[0], list[1]) as usize;
-    let records_offset = be16(list[2], list[3]) as usize;
-    let entries = be16(list[4], list[5]) as usize;
-    let entries_offset = be16(list[6], list[7]) as usize;
-    if list.len() < records_offset + RECORD * records {
+    let areas = areas_of(list);
+    if !records_fit(list, areas) {
         return false;
     }
-    entries_offset + 2 * entries <= list.len()
+    entries_fit(list, areas)
 }
 
 // A list's header, if it and its areas fit.
@@ -71,19 +80,19 @@ pub fn read_header(list: &[u8]) -> Header
     Header::Fits(areas_of(list))
 }
 
-fn entries_good(entries: &[u8], count: usize) -> bool
-    requires { ⌜ 2 * count ≤ length (now entries) ⌝ }
-    ensures { λ r. ⌜ r ≡ entriesGood (now (entries .entry)) count ⌝ }
+// The bytes of record i of a list, and none if its header's numbers do not have it in the list.
+pub fn record_at<'a>(list: &'a [u8], areas: Areas, i: usize) -> &'a [u8]
+    ensures { λ r. ⌜ now r ≡ recordOf (now (list .entry)) areas i ⌝ }
 {
-    let mut i = 0;
-    while i < count {
-        let at = 2 * i;
-        if !entry_good(entries[at], entries[at + 1]) {
-            return false;
-        }
-        i += 1;
+    if areas.records as usize <= i {
+        return &list[0..0];
     }
-    true
+    if !records_fit(list, areas) {
+        return &list[0..0];
+    }
+    let start = areas.records_offset as usize + RECORD * i;
+    let end = start + RECORD;
+    &list[start..end]
 }
 
 fn layout_good(list: &[u8], areas: Areas, first: usize, count: usize) -> bool
@@ -93,32 +102,31 @@ fn layout_good(list: &[u8], areas: Areas, first: usize, count: usize) -> bool
     if 40 < count {
         return false;
     }
-    if areas.entries < count {
+    let entries = areas.entries as usize;
+    if entries < count {
         return false;
     }
-    if areas.entries - count < first {
+    if entries - count < first {
         return false;
     }
-    let start = areas.entries_offset + 2 * first;
+    let start = areas.entries_offset as usize + 2 * first;
     let end = start + 2 * count;
-    entries_good(&list[start..end], count)
+    entries_good(&list[start..end])
 }
 
 fn record_good(list: &[u8], areas: Areas, i: usize) -> bool
     requires { ⌜ AreasFit (now list) areas × (i < areas .records) ⌝ }
     ensures { λ r. ⌜ r ≡ recordGood (now (list .entry)) i ⌝ }
 {
-    let start = areas.records_offset + RECORD * i;
-    let end = start + RECORD;
-    let raw = &list[start..end];
+    let raw = record_at(list, areas, i);
     if !scalars_well_formed(raw) {
         return false;
     }
     layout_good(
         list,
         areas,
-        be16(raw[18], raw[19]) as usize,
-        wide(raw[20]) as usize,
+        first_entry(raw) as usize,
+        entry_count(raw) as usize,
     )
 }
 
@@ -127,14 +135,14 @@ pub fn check_list(list: &[u8]) -> ListAnswer
     ensures { λ r. ⌜ r ≡ checkList (now (list .entry)) ⌝ }
 {
     if !list_fits(list) {
-        return ListAnswer::DoesNotFit;
+        return ListAnswer::Refused(ListRefusal::DoesNotFit);
     }
     let areas = areas_of(list);
-    let count = areas.records;
+    let count = areas.records as usize;
     let mut i = 0;
     while i < count {
         if !record_good(list, areas, i) {
-            return ListAnswer::BadRecord(i);
+            return ListAnswer::Refused(ListRefusal::BadRecord(i));
         }
         i += 1;
     }

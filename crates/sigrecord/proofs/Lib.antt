@@ -1,3 +1,2 @@
-pub mod Codes
-pub mod Scalars
+pub mod Laws
 pub mod Unique

@@ -1,26 +1,72 @@
 -- Exactly one result meets each function's own contract.
-use Prim.Native.Nat.{ℕ}
+use Prim.Native.Nat.{ℕ, _/_}
 use mathlib.Core.Bool.{Bool}
 use mathlib.Core.List.{List}
+use lib.ListN.{length}
 use contract.Lifetimes.{Lfts}
 use denote.Ref.{RefT, now}
 use Rattle.basis.specs.Unique.{ExactlyOne}
 use Rattle.basis.proofs.Unique.{equation}
-use Rattle.tcp.specs.declared.IpVersion.{IpVersion}
-use Rattle.tcp.specs.declared.PayloadSize.{PayloadSize}
-use Rattle.distances.specs.DistanceGates.{versionMatches, payloadMatches}
-use Rattle.sigrecord.specs.Record.{versionOf, payloadOf, scalarsWellFormed}
-use Rattle.sigrecord.proofs.ip_version_matches.Reads as ip-version-matches'
-use Rattle.sigrecord.proofs.payload_size_matches.Reads as payload-size-matches'
+use Rattle.tcp.specs.declared.Mss.{Mss}
+use Rattle.tcp.specs.declared.Wscale.{Wscale}
+use Rattle.quirks.specs.declared.QuirkSet.{QuirkSet}
+use Rattle.ttl.specs.declared.Ttl.{Ttl}
+use Rattle.sigrecord.specs.declared.Signature.{Signature}
+use Rattle.sigrecord.specs.declared.SigVersion.{SigVersion}
+use Rattle.sigrecord.specs.declared.WindowSize.{WindowSize}
+use Rattle.sigrecord.specs.Layout.{entryGood, entriesGood}
+use Rattle.sigrecord.specs.Record.{signatureOf, firstEntry, entryCount, labelOf}
+use Rattle.sigrecord.specs.WellFormed.{scalarsWellFormed}
+use Rattle.sigrecord.proofs.version_of.Reads as version-of'
+use Rattle.sigrecord.proofs.ttl_of.Reads as ttl-of'
+use Rattle.sigrecord.proofs.quirks_of.Reads as quirks-of'
+use Rattle.sigrecord.proofs.mss_of.Reads as mss-of'
+use Rattle.sigrecord.proofs.scale_of.Reads as scale-of'
+use Rattle.sigrecord.proofs.window_of.Reads as window-of'
+use Rattle.sigrecord.proofs.signature_of.Reads as signature-of'
+use Rattle.sigrecord.proofs.first_entry.Reads as first-entry'
+use Rattle.sigrecord.proofs.entry_count.Reads as entry-count'
+use Rattle.sigrecord.proofs.label_of.Reads as label-of'
 use Rattle.sigrecord.proofs.scalars_well_formed.Reads as scalars-well-formed'
+use Rattle.sigrecord.proofs.entry_good.Reads as entry-good'
+use Rattle.sigrecord.proofs.entries_good.Reads as entries-good'
 
-pub scalars-well-formed-one : (κs : Lfts 1) (raw : RefT (List ℕ)) → ExactlyOne Bool (λ (r : Bool). scalars-well-formed'.Post κs (raw, tt) r (raw, tt))
-scalars-well-formed-one κs raw = equation (scalarsWellFormed (now raw))
+module _ (κs : Lfts 1) (raw : RefT (List ℕ)) where
+  pub version-of-one : ExactlyOne SigVersion (λ (r : SigVersion). version-of'.Post κs (raw, tt) r (raw, tt))
+  version-of-one = equation (signatureOf (now raw) .version)
 
-pub ip-version-matches-one
-    : (o : IpVersion) (code : ℕ) → ExactlyOne Bool (λ (r : Bool). ip-version-matches'.Post tt (o, (code, tt)) r (o, (code, tt)))
-ip-version-matches-one o code = equation (versionMatches o (versionOf code))
+  pub ttl-of-one : ExactlyOne Ttl (λ (r : Ttl). ttl-of'.Post κs (raw, tt) r (raw, tt))
+  ttl-of-one = equation (signatureOf (now raw) .ittl)
 
-pub payload-size-matches-one
-    : (o : PayloadSize) (code : ℕ) → ExactlyOne Bool (λ (r : Bool). payload-size-matches'.Post tt (o, (code, tt)) r (o, (code, tt)))
-payload-size-matches-one o code = equation (payloadMatches o (payloadOf code))
+  pub quirks-of-one : ExactlyOne QuirkSet (λ (r : QuirkSet). quirks-of'.Post κs (raw, tt) r (raw, tt))
+  quirks-of-one = equation (signatureOf (now raw) .quirks)
+
+  pub mss-of-one : ExactlyOne Mss (λ (r : Mss). mss-of'.Post κs (raw, tt) r (raw, tt))
+  mss-of-one = equation (signatureOf (now raw) .mss)
+
+  pub scale-of-one : ExactlyOne Wscale (λ (r : Wscale). scale-of'.Post κs (raw, tt) r (raw, tt))
+  scale-of-one = equation (signatureOf (now raw) .wscale)
+
+  pub window-of-one : ExactlyOne WindowSize (λ (r : WindowSize). window-of'.Post κs (raw, tt) r (raw, tt))
+  window-of-one = equation (signatureOf (now raw) .wsize)
+
+  pub signature-of-one : ExactlyOne Signature (λ (r : Signature). signature-of'.Post κs (raw, tt) r (raw, tt))
+  signature-of-one = equation (signatureOf (now raw))
+
+  pub first-entry-one : ExactlyOne ℕ (λ (r : ℕ). first-entry'.Post κs (raw, tt) r (raw, tt))
+  first-entry-one = equation (firstEntry (now raw))
+
+  pub entry-count-one : ExactlyOne ℕ (λ (r : ℕ). entry-count'.Post κs (raw, tt) r (raw, tt))
+  entry-count-one = equation (entryCount (now raw))
+
+  pub label-of-one : ExactlyOne ℕ (λ (r : ℕ). label-of'.Post κs (raw, tt) r (raw, tt))
+  label-of-one = equation (labelOf (now raw))
+
+  pub scalars-well-formed-one : ExactlyOne Bool (λ (r : Bool). scalars-well-formed'.Post κs (raw, tt) r (raw, tt))
+  scalars-well-formed-one = equation (scalarsWellFormed (now raw))
+
+  pub entries-good-one : ExactlyOne Bool (λ (r : Bool). entries-good'.Post κs (raw, tt) r (raw, tt))
+  entries-good-one = equation (entriesGood (now raw) (length (now raw) / 2))
+
+pub entry-good-one : (kind byte : ℕ) → ExactlyOne Bool (λ (r : Bool). entry-good'.Post tt (kind, (byte, tt)) r (kind, (byte, tt)))
+entry-good-one kind byte = equation (entryGood kind byte)

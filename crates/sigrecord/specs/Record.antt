@@ -1,27 +1,23 @@
--- A record of the signature list, and when it is bad (document 01, "The signature list"). A record is its 24 bytes.
+-- What a record of the signature list means (document 01, "The signature list"). A record is its 24 bytes.
 use Prim.Native.Nat.{ℕ, _%_}
-use mathlib.Core.Bool.{Bool, true, false, cond, _&&_, _||_}
+use mathlib.Core.Bool.{cond}
 use mathlib.Core.List.{List}
-use lib.Dec.{eqb, leb}
-use lib.ListN.{length}
+use lib.Dec.{eqb}
 use Rattle.basis.specs.Bytes.{byteAt, be16, be32}
-use Rattle.quirks.specs.Quirks.{setOf, isEmpty, difference}
-use Rattle.quirks.specs.Named.{seventeen}
+use Rattle.quirks.specs.Quirks.{setOf}
 use Rattle.tcp.specs.declared.Mss.{Mss}
 use Rattle.tcp.specs.declared.Mss.the-variants as mss
 use Rattle.tcp.specs.declared.Wscale.{Wscale}
 use Rattle.tcp.specs.declared.Wscale.the-variants as wscale
 use Rattle.ttl.specs.declared.Ttl.{Ttl}
 use Rattle.ttl.specs.declared.Ttl.the-variants as ttl
-use Rattle.matching.specs.declared.Signature.{Signature}
-use Rattle.distances.specs.declared.SigPayload.{SigPayload}
-use Rattle.distances.specs.declared.SigPayload.the-variants as payload
-use Rattle.distances.specs.declared.SigVersion.{SigVersion}
-use Rattle.distances.specs.declared.SigVersion.the-variants as version
-use Rattle.distances.specs.declared.WindowSize.{WindowSize}
-use Rattle.distances.specs.declared.WindowSize.the-variants as window
-
--- ---- what the bytes mean
+use Rattle.sigrecord.specs.declared.Signature.{Signature}
+use Rattle.sigrecord.specs.declared.SigPayload.{SigPayload}
+use Rattle.sigrecord.specs.declared.SigPayload.the-variants as payload
+use Rattle.sigrecord.specs.declared.SigVersion.{SigVersion}
+use Rattle.sigrecord.specs.declared.SigVersion.the-variants as version
+use Rattle.sigrecord.specs.declared.WindowSize.{WindowSize}
+use Rattle.sigrecord.specs.declared.WindowSize.the-variants as window
 
 -- "0 version (0 any, 4, 6)"
 unfoldable pub versionOf : ℕ → SigVersion
@@ -74,45 +70,3 @@ entryCount r = byteAt r 20
 
 abbrev pub labelOf : List ℕ → ℕ
 labelOf r = be16 r 22
-
--- ---- the conditions of a well-formed record, one by one
-
--- "a code is not listed"
-unfoldable pub versionGood : ℕ → Bool
-versionGood code = eqb code 0 || eqb code 4 || eqb code 6
-
--- The form is listed, and the distance is 0 unless the form is Distance ("an absent or unused number is not 0").
-unfoldable pub ttlGood : ℕ → ℕ → Bool
-ttlGood form d = leb form 3 && (eqb form 1 || eqb d 0)
-
--- "a presence byte is not 0 or 1"; an absent number is 0.
-unfoldable pub presenceGood : ℕ → ℕ → Bool
-presenceGood present n = eqb present 1 || (eqb present 0 && eqb n 0)
-
--- The form is listed; the number of "any" is 0; "an MSS or MTU multiple exceeds 255".
-unfoldable pub windowGood : ℕ → ℕ → Bool
-windowGood form n =
-    cond (eqb form 0) (eqb n 0) (cond (leb form 2) true (cond (leb form 4) (leb n 255) false))
-
-unfoldable pub payloadGood : ℕ → Bool
-payloadGood code = leb code 2
-
--- "a quirk bit is outside the seventeen"
-unfoldable pub quirksGood : ℕ → Bool
-quirksGood bits = isEmpty (difference (setOf bits) seventeen)
-
--- All but the layout; "21 zero".
-unfoldable pub scalarsGood : List ℕ → Bool
-scalarsGood r =
-    versionGood (byteAt r 0)
-    && ttlGood (byteAt r 1) (byteAt r 3)
-    && presenceGood (byteAt r 5) (be16 r 6)
-    && windowGood (byteAt r 8) (be16 r 9)
-    && presenceGood (byteAt r 11) (byteAt r 12)
-    && payloadGood (byteAt r 13)
-    && quirksGood (be32 r 14)
-    && eqb (byteAt r 21) 0
-
--- A record given as its 24 bytes: it is whole, and no condition but those of its layout makes it bad.
-unfoldable pub scalarsWellFormed : List ℕ → Bool
-scalarsWellFormed r = eqb (length r) 24 && scalarsGood r

@@ -1,105 +1,227 @@
-// A record of the signature list (document 01, "The signature list"): when it is well formed, its layout apart. Added by the port.
+// A record of the signature list (document 01, "The signature list"): its bytes, what they mean, when it is well formed, and the
+// entries of its layout. Added by the port; the types are those of the original's signatures.
 ghost use mathlib.Core.Path.{_≡_};
+ghost use Prim.Native.Nat.{_/_};
 ghost use lib.ListN.{length};
-ghost use Rattle.distances.specs.DistanceGates.{versionMatches, payloadMatches};
-ghost use Rattle.sigrecord.specs.Record.{versionOf, payloadOf, versionGood, ttlGood, presenceGood, windowGood, quirksGood, scalarsGood, scalarsWellFormed};
-use numbers::be16;
+ghost use Rattle.sigrecord.specs.Layout.{entryGood, entriesGood};
+ghost use Rattle.sigrecord.specs.Record.{signatureOf, firstEntry, entryCount, labelOf};
+ghost use Rattle.sigrecord.specs.WellFormed.{scalarsWellFormed};
+use conditions::scalars_good;
+use numbers::be16_at;
 use numbers::be32;
-use numbers::wide;
+use numbers::byte_at;
 use quirks::QuirkSet;
-use tcp::IpVersion;
-use tcp::PayloadSize;
+use tcp::Mss;
+use tcp::Wscale;
+use ttl::Ttl;
+
+mod conditions;
 
 // The bytes of a record.
 pub const RECORD: usize = 24;
 
-fn version_good(code: u8) -> bool
-    ensures { λ r. ⌜ r ≡ versionGood code ⌝ }
-{
-    if code == 0 {
-        return true;
-    }
-    if code == 4 {
-        return true;
-    }
-    code == 6
+// Where each number of a record stands.
+pub const VERSION: usize = 0;
+
+pub const TTL_FORM: usize = 1;
+
+pub const TTL: usize = 2;
+
+pub const DISTANCE: usize = 3;
+
+pub const OPTION_LENGTH: usize = 4;
+
+pub const MSS_PRESENT: usize = 5;
+
+pub const MSS: usize = 6;
+
+pub const WINDOW_FORM: usize = 8;
+
+pub const WINDOW: usize = 9;
+
+pub const WINDOW_LOW: usize = 10;
+
+pub const SCALE_PRESENT: usize = 11;
+
+pub const SCALE: usize = 12;
+
+pub const PAYLOAD: usize = 13;
+
+pub const QUIRKS: usize = 14;
+
+pub const QUIRKS_LOW: usize = 16;
+
+pub const FIRST_ENTRY: usize = 18;
+
+pub const ENTRY_COUNT: usize = 20;
+
+pub const ZERO: usize = 21;
+
+pub const LABEL: usize = 22;
+
+// The IP version that a signature declares.
+pub enum SigVersion {
+    Any,
+    V4,
+    V6,
 }
 
-fn ttl_good(form: u8, distance: u8) -> bool
-    ensures { λ r. ⌜ r ≡ ttlGood form distance ⌝ }
+// The payload that a signature declares.
+pub enum SigPayload {
+    Zero,
+    NonZero,
+    Any,
+}
+
+// The window that a signature declares.
+pub enum WindowSize {
+    Any,
+    Value(u16),
+    // A multiple of this modulus.
+    Mod(u16),
+    // So many times the MSS.
+    Mss(u8),
+    // So many times the MTU.
+    Mtu(u8),
+}
+
+// A signature, its layout apart, which stays where it lies in the list.
+pub struct Signature {
+    pub version: SigVersion,
+    pub ittl: Ttl,
+    pub olen: u8,
+    pub mss: Mss,
+    pub wsize: WindowSize,
+    pub wscale: Wscale,
+    pub pclass: SigPayload,
+    pub quirks: QuirkSet,
+}
+
+// ---- what the bytes of a record mean, on every byte string
+
+pub fn version_of(raw: &[u8]) -> SigVersion
+    ensures { λ r. ⌜ r ≡ signatureOf (now (raw .entry)) .version ⌝ }
 {
-    if 3 < form {
-        return false;
+    let code = byte_at(raw, VERSION);
+    if code == 4 {
+        return SigVersion::V4;
+    }
+    if code == 6 {
+        return SigVersion::V6;
+    }
+    SigVersion::Any
+}
+
+pub fn ttl_of(raw: &[u8]) -> Ttl
+    ensures { λ r. ⌜ r ≡ signatureOf (now (raw .entry)) .ittl ⌝ }
+{
+    let form = byte_at(raw, TTL_FORM);
+    let ttl = byte_at(raw, TTL);
+    if form == 0 {
+        return Ttl::Value(ttl);
     }
     if form == 1 {
-        return true;
+        return Ttl::Distance(ttl, byte_at(raw, DISTANCE));
     }
-    distance == 0
+    if form == 2 {
+        return Ttl::Guess(ttl);
+    }
+    Ttl::Bad(ttl)
 }
 
-fn presence_good(present: u8, number: u16) -> bool
-    ensures { λ r. ⌜ r ≡ presenceGood present number ⌝ }
+pub fn mss_of(raw: &[u8]) -> Mss
+    ensures { λ r. ⌜ r ≡ signatureOf (now (raw .entry)) .mss ⌝ }
 {
-    if present == 1 {
-        return true;
+    if byte_at(raw, MSS_PRESENT) == 0 {
+        return Mss::Absent;
     }
-    if present == 0 {
-        return number == 0;
-    }
-    false
+    Mss::Present(be16_at(raw, MSS))
 }
 
-fn window_good(form: u8, number: u16) -> bool
-    ensures { λ r. ⌜ r ≡ windowGood form number ⌝ }
+pub fn window_of(raw: &[u8]) -> WindowSize
+    ensures { λ r. ⌜ r ≡ signatureOf (now (raw .entry)) .wsize ⌝ }
 {
+    let form = byte_at(raw, WINDOW_FORM);
+    let number = be16_at(raw, WINDOW);
     if form == 0 {
-        return number == 0;
+        return WindowSize::Any;
     }
-    if form <= 2 {
-        return true;
+    if form == 1 {
+        return WindowSize::Value(number);
     }
-    if form <= 4 {
-        return number <= 255;
+    if form == 2 {
+        return WindowSize::Mod(number);
     }
-    false
+    if form == 3 {
+        return WindowSize::Mss((number % 256) as u8);
+    }
+    WindowSize::Mtu((number % 256) as u8)
 }
 
-fn quirks_good(bits: u32) -> bool
-    ensures { λ r. ⌜ r ≡ quirksGood bits ⌝ }
+pub fn scale_of(raw: &[u8]) -> Wscale
+    ensures { λ r. ⌜ r ≡ signatureOf (now (raw .entry)) .wscale ⌝ }
 {
-    QuirkSet::from_bits(bits)
-        .difference(QuirkSet::SEVENTEEN)
-        .is_empty()
+    if byte_at(raw, SCALE_PRESENT) == 0 {
+        return Wscale::Absent;
+    }
+    Wscale::Present(byte_at(raw, SCALE))
 }
 
-// All but the layout.
-fn scalars_good(raw: &[u8]) -> bool
-    requires { ⌜ length (now raw) ≡ 24 ⌝ }
-    ensures { λ r. ⌜ r ≡ scalarsGood (now (raw .entry)) ⌝ }
+fn payload_of(raw: &[u8]) -> SigPayload
+    ensures { λ r. ⌜ r ≡ signatureOf (now (raw .entry)) .pclass ⌝ }
 {
-    if !version_good(raw[0]) {
-        return false;
+    let code = byte_at(raw, PAYLOAD);
+    if code == 0 {
+        return SigPayload::Zero;
     }
-    if !ttl_good(raw[1], raw[3]) {
-        return false;
+    if code == 1 {
+        return SigPayload::NonZero;
     }
-    if !presence_good(raw[5], be16(raw[6], raw[7])) {
-        return false;
-    }
-    if !window_good(raw[8], be16(raw[9], raw[10])) {
-        return false;
-    }
-    if !presence_good(raw[11], wide(raw[12])) {
-        return false;
-    }
-    if 2 < raw[13] {
-        return false;
-    }
-    if !quirks_good(be32(be16(raw[14], raw[15]), be16(raw[16], raw[17]))) {
-        return false;
-    }
-    raw[21] == 0
+    SigPayload::Any
 }
+
+pub fn quirks_of(raw: &[u8]) -> QuirkSet
+    ensures { λ r. ⌜ r ≡ signatureOf (now (raw .entry)) .quirks ⌝ }
+{
+    QuirkSet::from_bits(be32(be16_at(raw, QUIRKS), be16_at(raw, QUIRKS_LOW)))
+}
+
+// The signature of a record, its layout apart.
+pub fn signature_of(raw: &[u8]) -> Signature
+    ensures { λ r. ⌜ r ≡ signatureOf (now (raw .entry)) ⌝ }
+{
+    Signature {
+        version: version_of(raw),
+        ittl: ttl_of(raw),
+        olen: byte_at(raw, OPTION_LENGTH),
+        mss: mss_of(raw),
+        wsize: window_of(raw),
+        wscale: scale_of(raw),
+        pclass: payload_of(raw),
+        quirks: quirks_of(raw),
+    }
+}
+
+// The layout of a record lies among the list's entries: the number of its first one, and how many they are.
+pub fn first_entry(raw: &[u8]) -> u16
+    ensures { λ r. ⌜ r ≡ firstEntry (now (raw .entry)) ⌝ }
+{
+    be16_at(raw, FIRST_ENTRY)
+}
+
+pub fn entry_count(raw: &[u8]) -> u8
+    ensures { λ r. ⌜ r ≡ entryCount (now (raw .entry)) ⌝ }
+{
+    byte_at(raw, ENTRY_COUNT)
+}
+
+pub fn label_of(raw: &[u8]) -> u16
+    ensures { λ r. ⌜ r ≡ labelOf (now (raw .entry)) ⌝ }
+{
+    be16_at(raw, LABEL)
+}
+
+// ---- when a record is well formed
 
 // A record, given as its bytes, is well formed but for its layout.
 pub fn scalars_well_formed(raw: &[u8]) -> bool
@@ -111,22 +233,28 @@ pub fn scalars_well_formed(raw: &[u8]) -> bool
     scalars_good(raw)
 }
 
-// ---- two gates of distances.rs, read off a record's codes: a code that is not listed means any, as the record's meaning has it
-
-pub fn ip_version_matches(observed: IpVersion, code: u8) -> bool
-    ensures { λ r. ⌜ r ≡ versionMatches observed (versionOf code) ⌝ }
+// A layout entry is an option kind and a byte: bytes left after kind 0, else 0. Most bytes are 0, so the byte is tested first.
+pub fn entry_good(kind: u8, byte: u8) -> bool
+    ensures { λ r. ⌜ r ≡ entryGood kind byte ⌝ }
 {
-    match observed {
-        IpVersion::V4 => code != 6,
-        IpVersion::V6 => code != 4,
+    if byte == 0 {
+        return true;
     }
+    kind == 0
 }
 
-pub fn payload_size_matches(observed: PayloadSize, code: u8) -> bool
-    ensures { λ r. ⌜ r ≡ payloadMatches observed (payloadOf code) ⌝ }
+// Every entry of a row of entries, kind before byte.
+pub fn entries_good(entries: &[u8]) -> bool
+    ensures { λ r. ⌜ r ≡ entriesGood (now (entries .entry)) (length (now (entries .entry)) / 2) ⌝ }
 {
-    match observed {
-        PayloadSize::Zero => code != 1,
-        PayloadSize::NonZero => code != 0,
+    let count = entries.len() / 2;
+    let mut i = 0;
+    while i < count {
+        let at = 2 * i;
+        if !entry_good(entries[at], entries[at + 1]) {
+            return false;
+        }
+        i += 1;
     }
+    true
 }

@@ -9,6 +9,8 @@ use Rattle.quirks.specs.Named.{empty}
 use Rattle.tcp.specs.declared.Layout.{Layout}
 use Rattle.tcp.specs.declared.Mss.the-variants as mss
 use Rattle.tcp.specs.declared.Wscale.the-variants as wscale
+use Rattle.refusals.specs.declared.Refusal.the-variants as refusal
+use Rattle.refusals.specs.Refusals.{Verdict, numberOf}
 use Rattle.syn_options.specs.declared.Walked.{Walked}
 use Rattle.syn_options.specs.declared.ParsedTcpOptions.{ParsedTcpOptions}
 use Rattle.syn_options.specs.declared.OptionsAnswer.{OptionsAnswer}
@@ -79,7 +81,10 @@ parseOptionsRaw s =
     (record { answer = answer.Refused; options = parsedOf (startWalk empty) })
     (record { answer = answer.Parsed; options = parsedOf (walkOf true false empty s) })
 
--- The number of an option string's refusal; 0 if it is none.
+-- Which refusal of the table the answer is, if any, and its number; 0 if it is none.
+abbrev pub optionsVerdict : OptionsAnswer → Verdict
+optionsVerdict answer.Parsed = Verdict.accepted
+optionsVerdict answer.Refused = Verdict.refused refusal.OptionsTooLong
+
 unfoldable pub optionsRefusal : OptionsAnswer → ℕ
-optionsRefusal answer.Parsed = 0
-optionsRefusal answer.Refused = 8
+optionsRefusal a = numberOf (optionsVerdict a)

@@ -2,27 +2,24 @@
 // after clipping it.
 ghost use mathlib.Core.Path.{_≡_};
 ghost use mathlib.Core.Bool.{_&&_};
-ghost use Prim.Native.Nat.{_+_, _-_, _<_, _≤_, min};
-ghost use lib.Dec.{ltb};
-ghost use lib.ListN.{length, drop};
-ghost use Rattle.one_option.specs.Options.{asked, optionsOf};
-ghost use Rattle.quirks.specs.Named.{empty};
+ghost use Prim.Native.Nat.{_<_, _≤_};
+ghost use lib.ListN.{length};
+ghost use Rattle.one_option.specs.Options.{optionsOf, stepOf};
 ghost use Rattle.syn_options.specs.Walk.{entryByte, startWalk, walkFrom, walkOf, parsedOf, parseOptionsRaw};
 use numbers::least;
+use one_option::OptionStep;
 use one_option::Seen;
-use one_option::asked_bytes;
 use one_option::later_mss;
 use one_option::later_quirks;
 use one_option::later_scale;
+use one_option::option_step;
 use quirks::QuirkSet;
 use tcp::Layout;
 use tcp::Mss;
 use tcp::Wscale;
 
-// The option kinds that take one byte.
+// End of Option List.
 const EOL: u8 = 0;
-
-const NOP: u8 = 1;
 
 // The most bytes that options take: a data offset of 15 words, less the header's five.
 const MOST_OPTIONS: usize = 40;
@@ -56,6 +53,25 @@ pub struct OptionsRead {
 
 // ---- the walk
 
+// Nothing seen yet, but for quirks of the headers.
+fn start_walk(quirks: QuirkSet) -> Walked
+    ensures { λ r. ⌜ r ≡ startWalk quirks ⌝ }
+{
+    Walked {
+        olayout: Layout {
+            kinds: [0u8; 40],
+            bytes: [0u8; 40],
+            count: 0,
+        },
+        seen: Seen {
+            mss: Mss::Absent,
+            wscale: Wscale::Absent,
+            quirks,
+        },
+        malformed: false,
+    }
+}
+
 fn entry_byte(kind: u8, left: usize) -> u8
     requires { ⌜ left ≤ 40 ⌝ }
     ensures { λ r. ⌜ r ≡ entryByte kind left ⌝ }
@@ -63,45 +79,29 @@ fn entry_byte(kind: u8, left: usize) -> u8
     if kind == EOL { left as u8 } else { 0 }
 }
 
-// A walk that is to stop stops before an option that asks for more than is left.
-fn stops(stop: bool, asked: usize, left: usize) -> bool
-    ensures { λ r. ⌜ r ≡ stop && ltb left asked ⌝ }
+// A walk that is to stop stops before an option that runs past the end.
+fn stops(stop: bool, past: bool) -> bool
+    ensures { λ r. ⌜ r ≡ stop && past ⌝ }
 {
-    if stop { left < asked } else { false }
+    if stop { past } else { false }
 }
 
-// Where an option ends, clipped to what is left: all kept in places of the whole, so that a turn of the walk adds once.
-fn option_end(kind: u8, options: &[u8], at: usize) -> usize
+// The option at a place of the string: it ends behind its kind byte, and within the string.
+fn step_inside(options: &[u8], at: usize) -> OptionStep
     requires { ⌜ at < length (now options) ⌝ }
-    ensures { λ r. ⌜ r ≡ at + 1 + min (asked kind (drop (at + 1) (now (options .entry)))) (length (now (options .entry)) - (at + 1)) ⌝ }
+    ensures { λ r. ⌜ (r ≡ stepOf (now (options .entry)) at) × (at < r .end) × (r .end ≤ length (now (options .entry))) ⌝ }
 {
-    let start = at + 1;
-    if kind == EOL {
-        return options.len();
-    }
-    if kind == NOP {
-        return start;
-    }
-    if options.len() <= start {
-        return start;
-    }
-    let length = options[start] as usize;
-    if length < 2 {
-        return start + 1;
-    }
-    least(at + length, options.len())
+    option_step(options, at)
 }
 
 // The walk of at most forty bytes. Each option fills one entry of the layout, so that the entries never outnumber the bytes.
+// MSS, scale and quirks are variables of their own: one struct of them is packed and unpacked at every turn (30 instructions).
 fn walk_part(options: &[u8], stop: bool, syn: bool, quirks: QuirkSet) -> Walked
     requires { ⌜ length (now options) ≤ 40 ⌝ }
     ensures { λ r. ⌜ r ≡ walkFrom stop syn (startWalk quirks) (optionsOf (now (options .entry))) ⌝ }
 {
-    let mut olayout = Layout {
-        kinds: [0u8; 40],
-        bytes: [0u8; 40],
-        count: 0,
-    };
+    let first = start_walk(quirks);
+    let mut olayout = first.olayout;
     let mut count = 0;
     let mut mss = Mss::Absent;
     let mut wscale = Wscale::Absent;
@@ -109,22 +109,20 @@ fn walk_part(options: &[u8], stop: bool, syn: bool, quirks: QuirkSet) -> Walked
     let mut malformed = false;
     let mut at = 0;
     while at < options.len() {
-        let kind = options[at];
-        let start = at + 1;
-        let left = options.len() - start;
-        let asked = asked_bytes(kind, &options[start..]);
-        if stops(stop, asked, left) {
+        let step = step_inside(options, at);
+        if stops(stop, step.past) {
             malformed = true;
             break;
         }
-        let next = option_end(kind, options, at);
-        olayout.kinds[count] = kind;
-        olayout.bytes[count] = entry_byte(kind, next - start);
+        let start = at + 1;
+        let end = step.end;
+        olayout.kinds[count] = step.kind;
+        olayout.bytes[count] = entry_byte(step.kind, end - start);
         count += 1;
-        mss = later_mss(kind, &options[start..next], mss);
-        wscale = later_scale(kind, &options[start..next], wscale);
-        shown = later_quirks(kind, &options[start..next], syn, shown);
-        at = next;
+        mss = later_mss(step.kind, &options[start..end], mss);
+        wscale = later_scale(step.kind, &options[start..end], wscale);
+        shown = later_quirks(step.kind, &options[start..end], syn, shown);
+        at = end;
     }
     olayout.count = count;
     Walked {
@@ -163,21 +161,6 @@ fn parsed(walked: Walked) -> ParsedTcpOptions
     }
 }
 
-fn nothing_parsed() -> ParsedTcpOptions
-    ensures { λ r. ⌜ r ≡ parsedOf (startWalk empty) ⌝ }
-{
-    ParsedTcpOptions {
-        olayout: Layout {
-            kinds: [0u8; 40],
-            bytes: [0u8; 40],
-            count: 0,
-        },
-        mss: Mss::Absent,
-        wscale: Wscale::Absent,
-        malformed: false,
-    }
-}
-
 // Layout, MSS and scale of an option string, up to the first option that runs past the end; refusal 8 over forty bytes.
 pub fn parse_options_raw(buf: &[u8]) -> OptionsRead
     ensures { λ r. ⌜ r ≡ parseOptionsRaw (now (buf .entry)) ⌝ }
@@ -185,7 +168,7 @@ pub fn parse_options_raw(buf: &[u8]) -> OptionsRead
     if MOST_OPTIONS < buf.len() {
         return OptionsRead {
             answer: OptionsAnswer::Refused,
-            options: nothing_parsed(),
+            options: parsed(start_walk(QuirkSet::EMPTY)),
         };
     }
     OptionsRead {

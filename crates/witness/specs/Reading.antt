@@ -28,8 +28,9 @@ use Rattle.syn_options.specs.Walk.{parseOptionsRaw}
 use Rattle.flow.specs.declared.Answer.{Answer}
 use Rattle.flow.specs.declared.Answer.the-variants as answer
 use Rattle.flow.specs.declared.Reading.{Reading}
-use Rattle.ip.specs.declared.Refusal.{Refusal}
-use Rattle.ip.specs.declared.Refusal.the-variants as refusal
+use Rattle.refusals.specs.declared.PacketRefusal.{PacketRefusal}
+use Rattle.refusals.specs.declared.Refusal.the-variants as refusal
+use Rattle.refusals.specs.Refusals as table
 use Rattle.flow.specs.Reading.{readPacket}
 use Rattle.witness.specs.declared.Plain.{Plain}
 use Rattle.witness.specs.Observed.{mssIf}
@@ -104,20 +105,14 @@ observationNumber o w = cond (ltb w 7) (ipNumber o w) (cond (ltb w 20) (tcpNumbe
 -- ---- a packet
 
 -- A refusal's number times 256, and the flags byte of refusal 7.
-abbrev pub refusalNumber : Refusal → ℕ
-refusalNumber refusal.Version = 256
-refusalNumber refusal.TooShort = 512
-refusalNumber refusal.HeaderLength = 768
-refusalNumber refusal.UnsupportedProtocol = 1024
-refusalNumber refusal.Fragment = 1280
-refusalNumber refusal.TcpTooShort = 1536
-refusalNumber (refusal.InvalidTcpFlags flags) = 1792 + flags
+unfoldable pub refusedNumber : PacketRefusal → ℕ
+refusedNumber r = table.packetNumber r * 256 + table.packetValue r
 
 abbrev pub answerNumber : Answer → ℕ
 answerNumber answer.Syn = 1
 answerNumber answer.SynAck = 2
 answerNumber answer.Nothing = 3
-answerNumber (answer.Refused r) = refusalNumber r
+answerNumber (answer.Refused r) = refusedNumber r
 
 -- Number 0 is the answer, the others are the observation's.
 unfoldable pub readingNumber : Reading → ℕ → ℕ
@@ -151,7 +146,7 @@ plainOf r =
 
 abbrev pub optionsAnswer : OptionsAnswer → ℕ
 optionsAnswer parsing.Parsed = 1
-optionsAnswer parsing.Refused = 8
+optionsAnswer parsing.Refused = table.number refusal.OptionsTooLong
 
 unfoldable pub parsedNumber : ParsedTcpOptions → ℕ → ℕ
 parsedNumber o w =

@@ -10,6 +10,9 @@ use Rattle.matching.specs.declared.Hops.{Hops}
 use Rattle.matching.specs.declared.Hops.the-variants as hops
 use Rattle.found.specs.declared.Found.{Found}
 use Rattle.found.specs.declared.Found.the-variants as found
+use Rattle.refusals.specs.declared.ListRefusal.{ListRefusal}
+use Rattle.refusals.specs.declared.Refusal.the-variants as refusal
+use Rattle.refusals.specs.Refusals.{listNumber, number, listValue}
 use Rattle.search.specs.declared.SearchAnswer.{SearchAnswer}
 use Rattle.search.specs.declared.SearchAnswer.the-variants as answer
 use Rattle.search.specs.Search.{searchList}
@@ -36,14 +39,13 @@ foundNumber found.None w = firstOnly 65536 w
 foundNumber (found.Exact label) w = firstOnly (131072 + label) w
 foundNumber (found.Fuzzy label reason) w = fuzzyNumber label reason w
 
-unfoldable pub badNumber : ℕ → ℕ → ℕ
-badNumber index w = cond (eqb w 0) 10 (cond (eqb w 1) index 0)
+unfoldable pub listShown : ListRefusal → ℕ → ℕ
+listShown r w = cond (eqb w 0) (listNumber r) (cond (eqb w 1) (listValue r) 0)
 
 abbrev pub answerOfSearch : SearchAnswer → ℕ → ℕ
 answerOfSearch (answer.Found f) w = foundNumber f w
-answerOfSearch answer.LayoutTooLong w = firstOnly 11 w
-answerOfSearch answer.DoesNotFit w = firstOnly 9 w
-answerOfSearch (answer.BadRecord index) w = badNumber index w
+answerOfSearch answer.LayoutTooLong w = firstOnly (number refusal.LayoutTooLong) w
+answerOfSearch (answer.List r) w = listShown r w
 
 unfoldable pub searchNumber : List ℕ → List ℕ → ℕ → ℕ
 searchNumber o l w = answerOfSearch (searchList (observationAt o) l) w

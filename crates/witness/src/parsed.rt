@@ -5,6 +5,8 @@ use crate::shown::bool_number;
 use crate::shown::layout_number;
 use crate::shown::mss_number;
 use crate::shown::scale_number;
+use refusals::Refusal;
+use refusals::refusal_number;
 use syn_options::OptionsAnswer;
 use syn_options::OptionsRead;
 use syn_options::ParsedTcpOptions;
@@ -14,7 +16,7 @@ fn options_answer(answer: OptionsAnswer) -> u64
 {
     match answer {
         OptionsAnswer::Parsed => 1,
-        OptionsAnswer::Refused => 8,
+        OptionsAnswer::Refused => refusal_number(Refusal::OptionsTooLong) as u64,
     }
 }
 

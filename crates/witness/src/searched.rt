@@ -1,10 +1,14 @@
 // What a search finds, as numbers.
 ghost use mathlib.Core.Path.{_≡_};
-ghost use Rattle.witness.specs.Searching.{firstOnly, hopsNumber, fuzzyNumber, foundNumber, badNumber, answerOfSearch};
+ghost use Rattle.witness.specs.Searching.{firstOnly, hopsNumber, fuzzyNumber, foundNumber, listShown, answerOfSearch};
 use crate::shown::wide32;
 use found::Found;
 use matching::FuzzyReason;
 use matching::Hops;
+use refusals::ListRefusal;
+use refusals::Refusal;
+use refusals::list_value;
+use refusals::refusal_number;
 use search::SearchAnswer;
 
 // A number that stands alone: all others are 0.
@@ -58,15 +62,15 @@ pub fn found_number(found: Found, which: u32) -> u64
     }
 }
 
-// Refusal 10, and the index of the first bad record.
-fn bad_number(index: usize, which: u32) -> u64
-    ensures { λ r. ⌜ r ≡ badNumber index which ⌝ }
+// A list's refusal, and the index that it gives.
+fn list_number(refusal: ListRefusal, which: u32) -> u64
+    ensures { λ r. ⌜ r ≡ listShown refusal which ⌝ }
 {
     if which == 0 {
-        return 10;
+        return refusal_number(Refusal::List(refusal)) as u64;
     }
     if which == 1 {
-        return index as u64;
+        return list_value(refusal) as u64;
     }
     0
 }
@@ -76,8 +80,9 @@ pub(crate) fn answer_of_search(answer: SearchAnswer, which: u32) -> u64
 {
     match answer {
         SearchAnswer::Found(found) => found_number(found, which),
-        SearchAnswer::LayoutTooLong => first_only(11, which),
-        SearchAnswer::DoesNotFit => first_only(9, which),
-        SearchAnswer::BadRecord(index) => bad_number(index, which),
+        SearchAnswer::LayoutTooLong => {
+            first_only(refusal_number(Refusal::LayoutTooLong) as u64, which)
+        }
+        SearchAnswer::List(refusal) => list_number(refusal, which),
     }
 }

@@ -3,12 +3,15 @@ ghost use mathlib.Core.Path.{_≡_};
 ghost use mathlib.Core.Bool.{cond};
 ghost use Prim.Native.Nat.{_+_, _*_, _≤_};
 ghost use Rattle.basis.specs.Bytes.{be16, be32};
-ghost use Rattle.witness.specs.Reading.{versionNumber, ttlNumber, mssNumber, scaleNumber, payloadNumber, multiplierNumber, wordOf, layoutNumber, ipNumber, tcpNumber, observationNumber, refusalNumber, answerNumber};
+ghost use Rattle.witness.specs.Reading.{versionNumber, ttlNumber, mssNumber, scaleNumber, payloadNumber, multiplierNumber, wordOf, layoutNumber, ipNumber, tcpNumber, observationNumber, refusedNumber, answerNumber};
 use flow::Answer;
-use ip::Refusal;
 use numbers::be16;
 use numbers::be32;
 use observable::TcpObservation;
+use refusals::PacketRefusal;
+use refusals::Refusal;
+use refusals::packet_value;
+use refusals::refusal_number;
 use tcp::IpVersion;
 use tcp::Layout;
 use tcp::Mss;
@@ -222,18 +225,10 @@ pub(crate) fn observation_number(observation: TcpObservation, which: u32) -> u64
 
 // ---- answers
 
-fn refusal_number(refusal: Refusal) -> u64
-    ensures { λ r. ⌜ r ≡ refusalNumber refusal ⌝ }
+fn refused_number(refusal: PacketRefusal) -> u64
+    ensures { λ r. ⌜ r ≡ refusedNumber refusal ⌝ }
 {
-    match refusal {
-        Refusal::Version => 256,
-        Refusal::TooShort => 512,
-        Refusal::HeaderLength => 768,
-        Refusal::UnsupportedProtocol => 1024,
-        Refusal::Fragment => 1280,
-        Refusal::TcpTooShort => 1536,
-        Refusal::InvalidTcpFlags(flags) => 1792 + (flags as u64),
-    }
+    refusal_number(Refusal::Packet(refusal)) as u64 * 256 + packet_value(refusal) as u64
 }
 
 pub(crate) fn answer_number(answer: Answer) -> u64
@@ -243,6 +238,6 @@ pub(crate) fn answer_number(answer: Answer) -> u64
         Answer::Syn => 1,
         Answer::SynAck => 2,
         Answer::Nothing => 3,
-        Answer::Refused(refusal) => refusal_number(refusal),
+        Answer::Refused(refusal) => refused_number(refusal),
     }
 }

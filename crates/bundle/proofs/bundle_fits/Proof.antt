@@ -13,9 +13,6 @@ returns : tie.Need-returns
 unfolding bundleFits
 returns c = search cases
 
-list-lies-requires : tie.Need-list-lies-requires
-list-lies-requires c κs = search needs
-
 returns-2 : tie.Need-returns-2
 unfolding bundleFits
 returns-2 c = let b = c .before .before .before .before .args .bundle .now in rw (le-leb (length b) 65535 (omega arith), sym (c .before .list-lies .ensures) ∙ not-true (c .before .list-lies .result) (c .if2 .taken))
@@ -26,9 +23,6 @@ number-at-requires c κs = let h = lies-within (c .before .before .before .befor
 number-at-requires-2 : tie.Need-number-at-requires-2
 number-at-requires-2 c κs = let h = lies-within (c .before .before .before .before .before .args .bundle .now) (sym (c .before .before .list-lies .ensures) ∙ not-false (c .before .before .list-lies .result) (c .before .if2 .left)) .0 in search (needs, h)
 
-packets-fit-requires : tie.Need-packets-fit-requires
-packets-fit-requires c κs = search needs
-
 returns-3 : tie.Need-returns-3
 unfolding bundleFits
 returns-3 c = let b = c .before .before .before .before .before .before .before .args .bundle .now in rw (le-leb (length b) 65535 (omega arith), sym (c .before .before .before .before .list-lies .ensures) ∙ not-false (c .before .before .before .before .list-lies .result) (c .before .before .before .if2 .left), c .packets-fit .ensures, c .before .number-at2 .ensures .0, c .before .before .number-at .ensures .0)
@@ -36,11 +30,5 @@ returns-3 c = let b = c .before .before .before .before .before .before .before 
 pub bundle-fits-spec : {M : Type 1} → statement M
 bundle-fits-spec =
     tie.close
-    (tie.spec
-    returns
-    list-lies-requires
-    returns-2
-    number-at-requires
-    number-at-requires-2
-    packets-fit-requires
+    (tie.spec returns (λ c κs. search needs) returns-2 number-at-requires number-at-requires-2 (λ c κs. search needs)
     returns-3)

@@ -11,19 +11,10 @@ returns : tie.Need-returns
 unfolding listLies
 returns c = search cases
 
-number-at-requires : tie.Need-number-at-requires
-number-at-requires c κs = search needs
-
-number-at-requires-2 : tie.Need-number-at-requires-2
-number-at-requires-2 c κs = search needs
-
-add-result : tie.Need-add-result
-add-result c = search needs
-
 returns-2 : tie.Need-returns-2
 unfolding listLies
 returns-2 c = rw (le-leb 8 (length (c .before .before .before .before .args .bundle .now)) (omega arith), c .number-at2 .ensures .0, c .before .number-at .ensures .0)
 
 pub list-lies-spec : {M : Type 1} → statement M
 list-lies-spec =
-    tie.close (tie.spec returns number-at-requires number-at-requires-2 add-result returns-2)
+    tie.close (tie.spec returns (λ c κs. search needs) (λ c κs. search needs) (λ c. search needs) returns-2)

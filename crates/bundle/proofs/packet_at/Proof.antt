@@ -6,15 +6,9 @@ use borrow.Author.Needs.{needs}
 use Rattle.bundle.proofs.packet_at.Statement.{statement}
 use Rattle.bundle.proofs.packet_at.Tie as tie
 
-list-lies-requires : tie.Need-list-lies-requires
-list-lies-requires c κs = search needs
-
 returns : tie.Need-returns
 unfolding packetAt packetLies
 returns c = rw (sym (c .before .list-lies .ensures) ∙ not-true (c .before .list-lies .result) (c .if1 .taken))
-
-packet-fits-requires : tie.Need-packet-fits-requires
-packet-fits-requires c κs = search needs
 
 returns-2 : tie.Need-returns-2
 unfolding packetAt packetLies
@@ -33,11 +27,5 @@ returns-3 c = rw (sym (c .before .before .before .before .before .list-lies .ens
 pub packet-at-spec : {M : Type 1} → statement M
 packet-at-spec =
     tie.close
-    (tie.spec
-    list-lies-requires
-    returns
-    packet-fits-requires
-    returns-2
-    answer-at-place-requires
-    packet-end-requires
-    returns-3)
+    (tie.spec (λ c κs. search needs) returns (λ c κs. search needs) returns-2 answer-at-place-requires
+    packet-end-requires returns-3)

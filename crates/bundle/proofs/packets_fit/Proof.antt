@@ -17,20 +17,11 @@ abbrev μ-loop : tie.MeasureT-loop
 loop-holds : tie.Need-loop-holds Inv-loop μ-loop
 loop-holds c = (search needs, rw sub-zero)
 
-packet-fits-requires : tie.Need-packet-fits-requires Inv-loop μ-loop
-packet-fits-requires c κs = search needs
-
 returns : tie.Need-returns Inv-loop μ-loop
 returns c = let a = c .before .before .before .before .before .args in let l = c .before .before .before .loop in sym (sym (l .inv .1) ∙ packet-fails-turn (a .bundle .now) (l .at) (l .i) (a .count) (c .before .before .loop-test .taken) (sym (c .before .packet-fits .ensures) ∙ not-true (c .before .packet-fits .result) (c .if1 .taken)))
 
 packet-end-requires : tie.Need-packet-end-requires Inv-loop μ-loop
 packet-end-requires c κs = head-within (c .before .before .before .before .before .args .bundle .now) (c .before .before .before .loop .at) (sym (c .before .packet-fits .ensures) ∙ not-false (c .before .packet-fits .result) (c .if1 .left))
-
-add-i : tie.Need-add-i Inv-loop μ-loop
-add-i c = search needs
-
-loop-less : tie.Need-loop-less Inv-loop μ-loop
-loop-less c = search needs
 
 loop-again : tie.Need-loop-again Inv-loop μ-loop
 loop-again c = let a = c .before .before .before .before .before .before .args in let l = c .before .before .before .before .loop in (search needs, rw (c .packet-end .ensures) (packet-fits-turn (a .bundle .now) (l .at) (l .i) (a .count) (c .before .before .before .loop-test .taken) (sym (c .before .before .packet-fits .ensures) ∙ not-false (c .before .before .packet-fits .result) (c .before .if1 .left)) ∙ l .inv .1))
@@ -41,14 +32,5 @@ returns-2 c = let a = c .before .before .before .args in sym (sym (c .before .lo
 pub packets-fit-spec : {M : Type 1} → statement M
 packets-fit-spec =
     tie.close
-    (tie.spec
-    Inv-loop
-    μ-loop
-    loop-holds
-    packet-fits-requires
-    returns
-    packet-end-requires
-    add-i
-    loop-less
-    loop-again
-    returns-2)
+    (tie.spec Inv-loop μ-loop loop-holds (λ c κs. search needs) returns packet-end-requires (λ c. search needs)
+    (λ c. search needs) loop-again returns-2)

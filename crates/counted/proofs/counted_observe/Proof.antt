@@ -4,24 +4,10 @@ use borrow.Author.Needs.{needs}
 use Rattle.counted.proofs.counted_observe.Statement.{statement}
 use Rattle.counted.proofs.counted_observe.Tie as tie
 
-peer-of-requires : tie.Need-peer-of-requires
-peer-of-requires c κs = search needs
-
-read-packet-requires : tie.Need-read-packet-requires
-read-packet-requires c κs = search needs
-
-plain-of-requires : tie.Need-plain-of-requires
-plain-of-requires c κs = search needs
-
 returns : tie.Need-returns
 unfolding countedReading
 returns c = simp (← c .before .before .peer-of .ensures, ← c .before .read-packet .ensures, ← c .plain-of .ensures)
 
 pub counted-observe-spec : {M : Type 1} → statement M
 counted-observe-spec =
-    tie.close
-    (tie.spec
-    peer-of-requires
-    read-packet-requires
-    plain-of-requires
-    returns)
+    tie.close (tie.spec (λ c κs. search needs) (λ c κs. search needs) (λ c κs. search needs) returns)

@@ -4,12 +4,6 @@ use borrow.Author.Needs.{needs}
 use Rattle.distances.proofs.multiple_matches.Statement.{statement}
 use Rattle.distances.proofs.multiple_matches.Tie as tie
 
-enum-told : tie.Need-enum-told
-enum-told c = search needs
-
-enum-known-observed : tie.Need-enum-known-observed
-enum-known-observed c = search needs
-
 returns : tie.Need-returns
 returns c = simp (c .before .before .before .observed .given .1) (search cases)
 
@@ -37,4 +31,4 @@ returns-4 c =
 
 pub multiple-matches-spec : {M : Type 1} → statement M
 multiple-matches-spec =
-    tie.close (tie.spec enum-told enum-known-observed returns returns-2 returns-3 returns-4)
+    tie.close (tie.spec (λ c. search needs) (λ c. search needs) returns returns-2 returns-3 returns-4)

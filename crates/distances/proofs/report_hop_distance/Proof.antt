@@ -5,21 +5,9 @@ use borrow.Author.Needs.{needs}
 use Rattle.distances.proofs.report_hop_distance.Statement.{statement}
 use Rattle.distances.proofs.report_hop_distance.Tie as tie
 
-observed-ttl-requires : tie.Need-observed-ttl-requires
-observed-ttl-requires c κs = search needs
-
-signature-initial-ttl-requires : tie.Need-signature-initial-ttl-requires
-signature-initial-ttl-requires c κs = search needs
-
-guess-distance-requires : tie.Need-guess-distance-requires
-guess-distance-requires c κs = search needs
-
 returns : tie.Need-returns
 unfolding reportedHops
 returns c = simp (← c .before .before .before .observed-ttl .ensures, ← c .before .before .signature-initial-ttl .ensures, ← c .guess-distance .ensures) (search cases)
-
-is-bad-requires : tie.Need-is-bad-requires
-is-bad-requires c κs = search needs
 
 returns-2 : tie.Need-returns-2
 unfolding reportedHops
@@ -34,9 +22,6 @@ returns-2 c =
       c .if2 .taken,
     )
     (search cases)
-
-guess-distance-requires-2 : tie.Need-guess-distance-requires-2
-guess-distance-requires-2 c κs = search needs
 
 returns-3 : tie.Need-returns-3
 unfolding reportedHops
@@ -72,13 +57,5 @@ returns-4 c =
 pub report-hop-distance-spec : {M : Type 1} → statement M
 report-hop-distance-spec =
     tie.close
-    (tie.spec
-    observed-ttl-requires
-    signature-initial-ttl-requires
-    guess-distance-requires
-    returns
-    is-bad-requires
-    returns-2
-    guess-distance-requires-2
-    returns-3
-    returns-4)
+    (tie.spec (λ c κs. search needs) (λ c κs. search needs) (λ c κs. search needs) returns (λ c κs. search needs)
+    returns-2 (λ c κs. search needs) returns-3 returns-4)

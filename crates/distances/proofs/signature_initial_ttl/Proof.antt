@@ -4,24 +4,6 @@ use borrow.Author.Needs.{needs}
 use Rattle.distances.proofs.signature_initial_ttl.Statement.{statement}
 use Rattle.distances.proofs.signature_initial_ttl.Tie as tie
 
-enum-known-signature : tie.Need-enum-known-signature
-enum-known-signature c = search needs
-
-enum-known-signature-2 : tie.Need-enum-known-signature-2
-enum-known-signature-2 c = search needs
-
-enum-known-signature-3 : tie.Need-enum-known-signature-3
-enum-known-signature-3 c = search needs
-
-enum-known-signature-4 : tie.Need-enum-known-signature-4
-enum-known-signature-4 c = search needs
-
-sub-if1 : tie.Need-sub-if1
-sub-if1 c = search needs
-
-add-result : tie.Need-add-result
-add-result c = search needs
-
 returns : tie.Need-returns
 returns c = simp (c .before .signature .given .1)
 
@@ -40,15 +22,5 @@ returns-5 c = simp (c .before .before .signature4 .given .1) (search cases)
 pub signature-initial-ttl-spec : {M : Type 1} → statement M
 signature-initial-ttl-spec =
     tie.close
-    (tie.spec
-    enum-known-signature
-    enum-known-signature-2
-    enum-known-signature-3
-    enum-known-signature-4
-    sub-if1
-    add-result
-    returns
-    returns-2
-    returns-3
-    returns-4
-    returns-5)
+    (tie.spec (λ c. search needs) (λ c. search needs) (λ c. search needs) (λ c. search needs) (λ c. search needs)
+    (λ c. search needs) returns returns-2 returns-3 returns-4 returns-5)

@@ -8,12 +8,6 @@ use borrow.Author.Needs.{needs}
 use Rattle.distances.proofs.ttl_fit.Statement.{statement}
 use Rattle.distances.proofs.ttl_fit.Tie as tie
 
-signature-initial-ttl-requires : tie.Need-signature-initial-ttl-requires
-signature-initial-ttl-requires c κs = search needs
-
-is-bad-requires : tie.Need-is-bad-requires
-is-bad-requires c κs = search needs
-
 returns : tie.Need-returns
 unfolding ttlFit
 returns c = simp (← c .before .before .before .signature-initial-ttl .ensures, ← c .before .is-bad .ensures, c .if2 .taken) (search cases)
@@ -23,9 +17,6 @@ unfolding ttlFit
 returns-2 c =
     let none : c .before .before .before .signature-initial-ttl .result - c .before .before .before .before .args .observed ≡ 0 = omega arith in
     simp (← c .before .before .before .signature-initial-ttl .ensures, ← c .before .is-bad .ensures, c .if2 .left, none) (search cases)
-
-is-bad-requires-2 : tie.Need-is-bad-requires-2
-is-bad-requires-2 c κs = search needs
 
 returns-3 : tie.Need-returns-3
 unfolding ttlFit
@@ -60,12 +51,5 @@ returns-5 c =
 pub ttl-fit-spec : {M : Type 1} → statement M
 ttl-fit-spec =
     tie.close
-    (tie.spec
-    signature-initial-ttl-requires
-    is-bad-requires
-    returns
-    returns-2
-    is-bad-requires-2
-    returns-3
-    returns-4
+    (tie.spec (λ c κs. search needs) (λ c κs. search needs) returns returns-2 (λ c κs. search needs) returns-3 returns-4
     returns-5)

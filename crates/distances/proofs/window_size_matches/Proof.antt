@@ -5,33 +5,9 @@ use borrow.Author.Needs.{needs}
 use Rattle.distances.proofs.window_size_matches.Statement.{statement}
 use Rattle.distances.proofs.window_size_matches.Tie as tie
 
-enum-told : tie.Need-enum-told
-enum-told c = search needs
-
-enum-known-signature : tie.Need-enum-known-signature
-enum-known-signature c = search needs
-
-enum-known-signature-2 : tie.Need-enum-known-signature-2
-enum-known-signature-2 c = search needs
-
 returns : tie.Need-returns
 unfolding windowMatches
 returns c = simp (c .before .before .signature2 .given .1) (search cases)
-
-rem-result : tie.Need-rem-result
-rem-result c = search needs
-
-enum-known-signature-3 : tie.Need-enum-known-signature-3
-enum-known-signature-3 c = search needs
-
-multiple-matches-requires : tie.Need-multiple-matches-requires
-multiple-matches-requires c κs = search needs
-
-enum-known-signature-4 : tie.Need-enum-known-signature-4
-enum-known-signature-4 c = search needs
-
-multiple-matches-requires-2 : tie.Need-multiple-matches-requires-2
-multiple-matches-requires-2 c κs = search needs
 
 returns-2 : tie.Need-returns-2
 unfolding windowMatches
@@ -56,18 +32,6 @@ returns-6 c = simp (c .before .before .signature4 .given .1, ← c .multiple-mat
 pub window-size-matches-spec : {M : Type 1} → statement M
 window-size-matches-spec =
     tie.close
-    (tie.spec
-    enum-told
-    enum-known-signature
-    enum-known-signature-2
-    returns
-    rem-result
-    enum-known-signature-3
-    multiple-matches-requires
-    enum-known-signature-4
-    multiple-matches-requires-2
-    returns-2
-    returns-3
-    returns-4
-    returns-5
-    returns-6)
+    (tie.spec (λ c. search needs) (λ c. search needs) (λ c. search needs) returns (λ c. search needs)
+    (λ c. search needs) (λ c κs. search needs) (λ c. search needs) (λ c κs. search needs) returns-2 returns-3 returns-4
+    returns-5 returns-6)

@@ -10,4 +10,5 @@ returns-2 : tie.Need-returns-2
 returns-2 c = rw (ne-eqb (c .before .args .masked) 2 (c .if1 .left))
 
 pub is-opening-spec : {M : Type 1} → statement M
-is-opening-spec = tie.close (tie.spec returns returns-2)
+is-opening-spec =
+    tie.close (tie.spec returns returns-2)

@@ -22,4 +22,5 @@ unfolding validByBits
 returns-4 c = rw (← valid-flags (c .before .before .before .args .flags) (search needs)) (search cases)
 
 pub is-valid-spec : {M : Type 1} → statement M
-is-valid-spec = tie.close (tie.spec returns returns-2 returns-3 returns-4)
+is-valid-spec =
+    tie.close (tie.spec returns returns-2 returns-3 returns-4)

@@ -5,12 +5,6 @@ use borrow.Author.Needs.{needs}
 use Rattle.flow.proofs.known_peer.Statement.{statement}
 use Rattle.flow.proofs.known_peer.Tie as tie
 
-enum-told : tie.Need-enum-told
-enum-told c = search needs
-
-enum-known-peer-mss : tie.Need-enum-known-peer-mss
-enum-known-peer-mss c = search needs
-
 returns : tie.Need-returns
 unfolding knownPeer
 returns c = simp (c .before .before .peer-mss .given .1) (search cases)
@@ -24,4 +18,5 @@ unfolding knownPeer
 returns-3 c = simp (c .before .before .peer-mss .given .1) (search cases)
 
 pub known-peer-spec : {M : Type 1} → statement M
-known-peer-spec = tie.close (tie.spec enum-told enum-known-peer-mss returns returns-2 returns-3)
+known-peer-spec =
+    tie.close (tie.spec (λ c. search needs) (λ c. search needs) returns returns-2 returns-3)

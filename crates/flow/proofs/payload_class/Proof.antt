@@ -7,18 +7,6 @@ use borrow.Author.Needs.{needs}
 use Rattle.flow.proofs.payload_class.Statement.{statement}
 use Rattle.flow.proofs.payload_class.Tie as tie
 
-shared-slice-read-wide : tie.Need-shared-slice-read-wide
-shared-slice-read-wide c = search needs
-
-wide-requires : tie.Need-wide-requires
-wide-requires c κs = search needs
-
-cast-header : tie.Need-cast-header
-cast-header c = search needs
-
-mul-header : tie.Need-mul-header
-mul-header c = search needs
-
 returns : tie.Need-returns
 unfolding payloadClass
 returns c = rw (eq-eqb (payloadSize (c .before .before .before .before .args .tcp .now)) 0 (omega arith))
@@ -34,11 +22,5 @@ returns-3 c = rw (ne-eqb (payloadSize (c .before .before .before .before .before
 pub payload-class-spec : {M : Type 1} → statement M
 payload-class-spec =
     tie.close
-    (tie.spec
-    shared-slice-read-wide
-    wide-requires
-    cast-header
-    mul-header
-    returns
-    returns-2
+    (tie.spec (λ c. search needs) (λ c κs. search needs) (λ c. search needs) (λ c. search needs) returns returns-2
     returns-3)

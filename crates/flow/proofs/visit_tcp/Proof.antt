@@ -13,76 +13,57 @@ use borrow.Author.Needs.{needs}
 use Rattle.flow.proofs.visit_tcp.Statement.{statement}
 use Rattle.flow.proofs.visit_tcp.Tie as tie
 
-shared-slice-read-flags : tie.Need-shared-slice-read-flags
-shared-slice-read-flags c = search needs
-
-is-valid-requires : tie.Need-is-valid-requires
-is-valid-requires c κs = search needs
-
-empty-requires : tie.Need-empty-requires
-empty-requires c κs = search needs
-
 returns : tie.Need-returns
 unfolding readTcp
 returns c =
     let flags = control (c .before .before .before .before .before .args .tcp .now) in
-    let bad : flagsInvalid flags ≡ true = not-false (flagsInvalid flags) (sym (c .before .before .is-valid .ensures) ∙ not-true (c .before .before .is-valid .result) (c .before .if1 .taken)) in
-    simp (c .empty .ensures, bad)
-
-tcp-type-requires : tie.Need-tcp-type-requires
-tcp-type-requires c κs = search needs
-
-is-opening-requires : tie.Need-is-opening-requires
-is-opening-requires c κs = search needs
-
-empty-requires-2 : tie.Need-empty-requires-2
-empty-requires-2 c κs = search needs
+    let valid = c .before .before .is-valid in
+    let bad : flagsInvalid flags ≡ true =
+    not-false (flagsInvalid flags) (sym (valid .ensures) ∙ not-true (valid .result) (c .before .if1 .taken)) in
+    simp (c .refuse .ensures, bad)
 
 returns-2 : tie.Need-returns-2
 unfolding readTcp isSynType isSynAckType
 returns-2 c =
     let flags = control (c .before .before .before .before .before .before .before .before .args .tcp .now) in
-    let sound : flagsInvalid flags ≡ false = not-true (flagsInvalid flags) (sym (c .before .before .before .before .before .is-valid .ensures) ∙ not-false (c .before .before .before .before .before .is-valid .result) (c .before .before .before .before .if1 .left)) in
-    let neither : eqb (maskedType flags) 2 || eqb (maskedType flags) 18 ≡ false = rw (← c .before .before .before .tcp-type .ensures) (sym (c .before .before .is-opening .ensures) ∙ not-true (c .before .before .is-opening .result) (c .before .if2 .taken)) in
+    let valid = c .before .before .before .before .before .is-valid in
+    let opening = c .before .before .is-opening in
+    let sound : flagsInvalid flags ≡ false =
+    not-true (flagsInvalid flags) (sym (valid .ensures) ∙ not-false (valid .result) (c .before .before .before .before .if1 .left)) in
+    let neither : eqb (maskedType flags) 2 || eqb (maskedType flags) 18 ≡ false =
+    rw (← c .before .before .before .tcp-type .ensures) (sym (opening .ensures) ∙ not-true (opening .result) (c .before .if2 .taken)) in
     simp (
-      c .empty2 .ensures,
+      c .empty .ensures,
       sound,
       neither-first (eqb (maskedType flags) 2) (eqb (maskedType flags) 18) neither,
       neither-second (eqb (maskedType flags) 2) (eqb (maskedType flags) 18) neither,
     )
 
-opening-answer-requires : tie.Need-opening-answer-requires
-opening-answer-requires c κs = search needs
-
-peer-taken-requires : tie.Need-peer-taken-requires
-peer-taken-requires c κs = search needs
-
-observe-requires : tie.Need-observe-requires
-observe-requires c κs = search needs
-
 returns-3 : tie.Need-returns-3
 unfolding readTcp isSynType isSynAckType
 returns-3 c =
-    let a = c .before .before .before .before .before .before .before .before .before .before .args in
-    let flags = control (c .before .before .before .before .before .before .before .before .before .before .args .tcp .now) in
-    let sound : flagsInvalid flags ≡ false = not-true (flagsInvalid flags) (sym (c .before .before .before .before .before .before .before .is-valid .ensures) ∙ not-false (c .before .before .before .before .before .before .before .is-valid .result) (c .before .before .before .before .before .before .if1 .left)) in
-    let one : eqb (maskedType flags) 2 || eqb (maskedType flags) 18 ≡ true = rw (← c .before .before .before .before .before .tcp-type .ensures) (sym (c .before .before .before .before .is-opening .ensures) ∙ not-false (c .before .before .before .before .is-opening .result) (c .before .before .before .if2 .left)) in
-    simp (c .observe .ensures, c .before .before .opening-answer .ensures, c .before .peer-taken .ensures, c .before .before .before .before .before .tcp-type .ensures, sound)
-    (opens (a .facts) (a .tcp .now) (knownPeer (a .peer-mss)) (record { answer = answer.Nothing; observation = emptyObservation }) (eqb (maskedType flags) 2) (eqb (maskedType flags) 18) one)
+    let at-type = c .before .before .before .before .before in
+    let a = at-type .before .before .before .before .before .args in
+    let flags = control (a .tcp .now) in
+    let valid = at-type .before .before .is-valid in
+    let opening = c .before .before .before .before .is-opening in
+    let sound : flagsInvalid flags ≡ false =
+    not-true (flagsInvalid flags) (sym (valid .ensures) ∙ not-false (valid .result) (at-type .before .if1 .left)) in
+    let one : eqb (maskedType flags) 2 || eqb (maskedType flags) 18 ≡ true =
+    rw (← at-type .tcp-type .ensures) (sym (opening .ensures) ∙ not-false (opening .result) (c .before .before .before .if2 .left)) in
+    simp (
+      c .observe .ensures,
+      c .before .before .opening-answer .ensures,
+      c .before .peer-taken .ensures,
+      at-type .tcp-type .ensures,
+      sound,
+    )
+    (opens (a .facts) (a .tcp .now) (knownPeer (a .peer-mss)) (record { answer = answer.Nothing; observation = emptyObservation })
+    (eqb (maskedType flags) 2) (eqb (maskedType flags) 18) one)
 
 pub visit-tcp-spec : {M : Type 1} → statement M
 visit-tcp-spec =
     tie.close
-    (tie.spec
-    shared-slice-read-flags
-    is-valid-requires
-    empty-requires
-    returns
-    tcp-type-requires
-    is-opening-requires
-    empty-requires-2
-    returns-2
-    opening-answer-requires
-    peer-taken-requires
-    observe-requires
-    returns-3)
+    (tie.spec (λ c. search needs) (λ c κs. search needs) (λ c κs. search needs) returns (λ c κs. search needs)
+    (λ c κs. search needs) (λ c κs. search needs) returns-2 (λ c κs. search needs) (λ c κs. search needs)
+    (λ c κs. search needs) returns-3)

@@ -5,21 +5,6 @@ use borrow.Author.Needs.{needs}
 use Rattle.ip.proofs.ipv4_quirks.Statement.{statement}
 use Rattle.ip.proofs.ipv4_quirks.Tie as tie
 
-add-if-requires : tie.Need-add-if-requires
-add-if-requires c κs = search needs
-
-add-if-requires-2 : tie.Need-add-if-requires-2
-add-if-requires-2 c κs = search needs
-
-add-if-requires-3 : tie.Need-add-if-requires-3
-add-if-requires-3 c κs = search needs
-
-add-if-requires-4 : tie.Need-add-if-requires-4
-add-if-requires-4 c κs = search needs
-
-add-if-requires-5 : tie.Need-add-if-requires-5
-add-if-requires-5 c κs = search needs
-
 returns : tie.Need-returns
 unfolding ipv4Quirks
 returns c = simp (c .add-if5 .ensures, c .before .add-if4 .ensures, c .before .before .add-if3 .ensures, c .before .before .before .add-if2 .ensures, c .before .before .before .before .add-if .ensures, ← empty-bits)
@@ -27,10 +12,5 @@ returns c = simp (c .add-if5 .ensures, c .before .add-if4 .ensures, c .before .b
 pub ipv4-quirks-spec : {M : Type 1} → statement M
 ipv4-quirks-spec =
     tie.close
-    (tie.spec
-    add-if-requires
-    add-if-requires-2
-    add-if-requires-3
-    add-if-requires-4
-    add-if-requires-5
-    returns)
+    (tie.spec (λ c κs. search needs) (λ c κs. search needs) (λ c κs. search needs) (λ c κs. search needs)
+    (λ c κs. search needs) returns)

@@ -5,15 +5,10 @@ use borrow.Author.Needs.{needs}
 use Rattle.ip.proofs.ipv6_quirks.Statement.{statement}
 use Rattle.ip.proofs.ipv6_quirks.Tie as tie
 
-add-if-requires : tie.Need-add-if-requires
-add-if-requires c κs = search needs
-
-add-if-requires-2 : tie.Need-add-if-requires-2
-add-if-requires-2 c κs = search needs
-
 returns : tie.Need-returns
 unfolding ipv6Quirks
 returns c = simp (c .add-if2 .ensures, c .before .add-if .ensures, ← empty-bits)
 
 pub ipv6-quirks-spec : {M : Type 1} → statement M
-ipv6-quirks-spec = tie.close (tie.spec add-if-requires add-if-requires-2 returns)
+ipv6-quirks-spec =
+    tie.close (tie.spec (λ c κs. search needs) (λ c κs. search needs) returns)

@@ -12,4 +12,5 @@ returns-2 : tie.Need-returns-2
 returns-2 c = sym (fragment-low _ _ (search needs) (c .if1 .left))
 
 pub is-fragment-spec : {M : Type 1} → statement M
-is-fragment-spec = tie.close (tie.spec returns returns-2)
+is-fragment-spec =
+    tie.close (tie.spec returns returns-2)

@@ -17,40 +17,13 @@ returns : tie.Need-returns
 unfolding readIpv6
 returns c = search cases
 
-shared-slice-read-next-header : tie.Need-shared-slice-read-next-header
-shared-slice-read-next-header c = search needs
-
 returns-2 : tie.Need-returns-2
 unfolding readIpv6
 returns-2 c = search cases
 
-shared-slice-read-be16 : tie.Need-shared-slice-read-be16
-shared-slice-read-be16 c = search needs
-
-shared-slice-read-be16-2 : tie.Need-shared-slice-read-be16-2
-shared-slice-read-be16-2 c = search needs
-
-be16-requires : tie.Need-be16-requires
-be16-requires c κs = search needs
-
-cast-least : tie.Need-cast-least
-cast-least c = search needs
-
-add-least : tie.Need-add-least
-add-least c = search needs
-
-least-requires : tie.Need-least-requires
-least-requires c κs = search needs
-
-add-if3 : tie.Need-add-if3
-add-if3 c = search needs
-
 returns-3 : tie.Need-returns-3
 unfolding be16
 returns-3 c = sym (v6-short (c .before .before .before .before .before .before .before .before .before .args .packet .now) (omega arith) (omega arith) (omega arith))
-
-ipv6-facts-requires : tie.Need-ipv6-facts-requires
-ipv6-facts-requires c κs = search needs
 
 returns-4 : tie.Need-returns-4
 unfolding be16
@@ -63,17 +36,6 @@ returns-4 c =
 pub process-tcp-ipv6-spec : {M : Type 1} → statement M
 process-tcp-ipv6-spec =
     tie.close
-    (tie.spec
-    returns
-    shared-slice-read-next-header
-    returns-2
-    shared-slice-read-be16
-    shared-slice-read-be16-2
-    be16-requires
-    cast-least
-    add-least
-    least-requires
-    add-if3
-    returns-3
-    ipv6-facts-requires
+    (tie.spec returns (λ c. search needs) returns-2 (λ c. search needs) (λ c. search needs) (λ c κs. search needs)
+    (λ c. search needs) (λ c. search needs) (λ c κs. search needs) (λ c. search needs) returns-3 (λ c κs. search needs)
     returns-4)

@@ -10,15 +10,6 @@ use Rattle.ip_options.proofs.calculate_ipv4_length.Tie as tie
 returns : tie.Need-returns
 returns c = sym (v4-empty _ (c .if1 .taken))
 
-shared-slice-read-ihl : tie.Need-shared-slice-read-ihl
-shared-slice-read-ihl c = search needs
-
-sub-result : tie.Need-sub-result
-sub-result c = search needs
-
-mul-result : tie.Need-mul-result
-mul-result c = search needs
-
 returns-2 : tie.Need-returns-2
 unfolding ipv4OptionLength
 returns-2 c = omega arith
@@ -29,4 +20,4 @@ returns-3 c = omega arith
 
 pub calculate-ipv4-length-spec : {M : Type 1} → statement M
 calculate-ipv4-length-spec =
-    tie.close (tie.spec returns shared-slice-read-ihl sub-result mul-result returns-2 returns-3)
+    tie.close (tie.spec returns (λ c. search needs) (λ c. search needs) (λ c. search needs) returns-2 returns-3)

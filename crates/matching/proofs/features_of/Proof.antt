@@ -4,15 +4,10 @@ use borrow.Author.Needs.{needs}
 use Rattle.matching.proofs.features_of.Statement.{statement}
 use Rattle.matching.proofs.features_of.Tie as tie
 
-observed-ttl-requires : tie.Need-observed-ttl-requires
-observed-ttl-requires c κs = search needs
-
-window-multiplier-requires : tie.Need-window-multiplier-requires
-window-multiplier-requires c κs = search needs
-
 returns : tie.Need-returns
 unfolding featuresOf
 returns c = simp (← c .before .observed-ttl .ensures, ← c .window-multiplier .ensures)
 
 pub features-of-spec : {M : Type 1} → statement M
-features-of-spec = tie.close (tie.spec observed-ttl-requires window-multiplier-requires returns)
+features-of-spec =
+    tie.close (tie.spec (λ c κs. search needs) (λ c κs. search needs) returns)

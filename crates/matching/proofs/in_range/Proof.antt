@@ -4,12 +4,6 @@ use borrow.Author.Needs.{needs}
 use Rattle.matching.proofs.in_range.Statement.{statement}
 use Rattle.matching.proofs.in_range.Tie as tie
 
-is-empty-requires : tie.Need-is-empty-requires
-is-empty-requires c κs = search needs
-
-is-empty-requires-2 : tie.Need-is-empty-requires-2
-is-empty-requires-2 c κs = search needs
-
 returns : tie.Need-returns
 unfolding judgeInRange
 returns c = simp (← c .before .before .before .is-empty .ensures, c .before .before .if1 .taken, ← c .before .is-empty2 .ensures, c .if2 .taken)
@@ -24,4 +18,4 @@ returns-3 c = simp (← c .before .is-empty .ensures, c .if1 .left)
 
 pub in-range-spec : {M : Type 1} → statement M
 in-range-spec =
-    tie.close (tie.spec is-empty-requires is-empty-requires-2 returns returns-2 returns-3)
+    tie.close (tie.spec (λ c κs. search needs) (λ c κs. search needs) returns returns-2 returns-3)

@@ -5,30 +5,6 @@ use borrow.Author.Needs.{needs}
 use Rattle.matching.proofs.judgement.Statement.{statement}
 use Rattle.matching.proofs.judgement.Tie as tie
 
-enum-told : tie.Need-enum-told
-enum-told c = search needs
-
-enum-told-2 : tie.Need-enum-told-2
-enum-told-2 c = search needs
-
-enum-told-3 : tie.Need-enum-told-3
-enum-told-3 c = search needs
-
-enum-known-quirks : tie.Need-enum-known-quirks
-enum-known-quirks c = search needs
-
-in-range-requires : tie.Need-in-range-requires
-in-range-requires c κs = search needs
-
-enum-known-ttl : tie.Need-enum-known-ttl
-enum-known-ttl c = search needs
-
-enum-told-4 : tie.Need-enum-told-4
-enum-told-4 c = search needs
-
-enum-known-quirks-2 : tie.Need-enum-known-quirks-2
-enum-known-quirks-2 c = search needs
-
 returns : tie.Need-returns
 unfolding judge
 returns c = search cases
@@ -52,17 +28,5 @@ returns-5 c = rw (c .before .before .before .before .before .before .ttl .given 
 pub judgement-spec : {M : Type 1} → statement M
 judgement-spec =
     tie.close
-    (tie.spec
-    enum-told
-    enum-told-2
-    enum-told-3
-    enum-known-quirks
-    in-range-requires
-    enum-known-ttl
-    enum-told-4
-    enum-known-quirks-2
-    returns
-    returns-2
-    returns-3
-    returns-4
-    returns-5)
+    (tie.spec (λ c. search needs) (λ c. search needs) (λ c. search needs) (λ c. search needs) (λ c κs. search needs)
+    (λ c. search needs) (λ c. search needs) (λ c. search needs) returns returns-2 returns-3 returns-4 returns-5)

@@ -6,27 +6,6 @@ use Rattle.matching.proofs.mask_signature_quirks.Statement.{statement}
 use Rattle.matching.proofs.mask_signature_quirks.Tie as tie
 use Rattle.matching.specs.Tolerance.{maskedQuirks}
 
-enum-told : tie.Need-enum-told
-enum-told c = search needs
-
-enum-told-2 : tie.Need-enum-told-2
-enum-told-2 c = search needs
-
-enum-told-3 : tie.Need-enum-told-3
-enum-told-3 c = search needs
-
-enum-told-4 : tie.Need-enum-told-4
-enum-told-4 c = search needs
-
-difference-requires : tie.Need-difference-requires
-difference-requires c κs = search needs
-
-enum-told-5 : tie.Need-enum-told-5
-enum-told-5 c = search needs
-
-difference-requires-2 : tie.Need-difference-requires-2
-difference-requires-2 c κs = search needs
-
 returns : tie.Need-returns
 unfolding maskedQuirks
 returns c = simp (c .enum-told .given .1)
@@ -46,15 +25,5 @@ returns-4 c = simp (c .before .before .before .enum-told3 .given .1, c .before .
 pub mask-signature-quirks-spec : {M : Type 1} → statement M
 mask-signature-quirks-spec =
     tie.close
-    (tie.spec
-    enum-told
-    enum-told-2
-    enum-told-3
-    enum-told-4
-    difference-requires
-    enum-told-5
-    difference-requires-2
-    returns
-    returns-2
-    returns-3
-    returns-4)
+    (tie.spec (λ c. search needs) (λ c. search needs) (λ c. search needs) (λ c. search needs) (λ c κs. search needs)
+    (λ c. search needs) (λ c κs. search needs) returns returns-2 returns-3 returns-4)

@@ -7,29 +7,11 @@ use borrow.Author.Needs.{needs}
 use Rattle.matching.proofs.quirks_fit.Statement.{statement}
 use Rattle.matching.proofs.quirks_fit.Tie as tie
 
-difference-requires : tie.Need-difference-requires
-difference-requires c κs = search needs
-
-difference-requires-2 : tie.Need-difference-requires-2
-difference-requires-2 c κs = search needs
-
-difference-requires-3 : tie.Need-difference-requires-3
-difference-requires-3 c κs = search needs
-
-is-empty-requires : tie.Need-is-empty-requires
-is-empty-requires c κs = search needs
-
 returns : tie.Need-returns
 unfolding quirksFit
 returns c =
     let rejected = rw (c .before .before .difference3 .ensures, c .before .before .before .before .difference .ensures) at (sym (c .before .is-empty .ensures) ∙ not-true (c .before .is-empty .result) (c .if1 .taken)) in
     simp (fuzzy-deletable-bits, rejected)
-
-difference-requires-4 : tie.Need-difference-requires-4
-difference-requires-4 c κs = search needs
-
-is-empty-requires-2 : tie.Need-is-empty-requires-2
-is-empty-requires-2 c κs = search needs
 
 returns-2 : tie.Need-returns-2
 unfolding quirksFit
@@ -48,13 +30,5 @@ returns-3 c =
 pub quirks-fit-spec : {M : Type 1} → statement M
 quirks-fit-spec =
     tie.close
-    (tie.spec
-    difference-requires
-    difference-requires-2
-    difference-requires-3
-    is-empty-requires
-    returns
-    difference-requires-4
-    is-empty-requires-2
-    returns-2
-    returns-3)
+    (tie.spec (λ c κs. search needs) (λ c κs. search needs) (λ c κs. search needs) (λ c κs. search needs) returns
+    (λ c κs. search needs) (λ c κs. search needs) returns-2 returns-3)

@@ -4,28 +4,24 @@ use borrow.Author.Needs.{needs}
 use Rattle.matching.proofs.tolerance.Statement.{statement}
 use Rattle.matching.proofs.tolerance.Tie as tie
 
-mask-signature-quirks-requires : tie.Need-mask-signature-quirks-requires
-mask-signature-quirks-requires c κs = search needs
-
-ttl-fit-requires : tie.Need-ttl-fit-requires
-ttl-fit-requires c κs = search needs
-
-quirks-fit-requires : tie.Need-quirks-fit-requires
-quirks-fit-requires c κs = search needs
-
-judgement-requires : tie.Need-judgement-requires
-judgement-requires c κs = search needs
-
 returns : tie.Need-returns
 unfolding toleranceOf
-returns c = simp (c .judgement .ensures, c .before .quirks-fit .ensures, c .before .before .ttl-fit .ensures, c .before .before .before .mask-signature-quirks .ensures)
+returns c =
+    let fit = c .before in
+    let ttl = fit .before in
+    let masked = ttl .before .before in
+    simp (
+      c .judgement .ensures,
+      fit .quirks-fit .ensures,
+      ttl .ttl-fit .ensures,
+      ttl .before .ttl-of .ensures,
+      masked .mask-signature-quirks .ensures,
+      masked .before .version-of .ensures,
+      masked .before .before .quirks-of .ensures,
+    )
 
 pub tolerance-spec : {M : Type 1} → statement M
 tolerance-spec =
     tie.close
-    (tie.spec
-    mask-signature-quirks-requires
-    ttl-fit-requires
-    quirks-fit-requires
-    judgement-requires
-    returns)
+    (tie.spec (λ c κs. search needs) (λ c κs. search needs) (λ c κs. search needs) (λ c κs. search needs)
+    (λ c κs. search needs) (λ c κs. search needs) (λ c κs. search needs) returns)

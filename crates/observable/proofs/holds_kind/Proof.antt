@@ -16,23 +16,11 @@ Inv-loop count kind kinds end i₀ i = (i ≤ min count 40) × (holdsKind kind (
 abbrev μ-loop : tie.MeasureT-loop
 μ-loop count kind kinds end i₀ i = 40 - i
 
-least-requires : tie.Need-least-requires Inv-loop μ-loop
-least-requires c κs = search needs
-
 loop-holds : tie.Need-loop-holds Inv-loop μ-loop
 loop-holds c = (search needs, rw sub-zero)
 
-array-read-if1 : tie.Need-array-read-if1 Inv-loop μ-loop
-array-read-if1 c = search needs
-
 returns : tie.Need-returns Inv-loop μ-loop
 returns c = sym (sym (c .before .before .loop .inv .1) ∙ turn-found _ _ _ (c .before .before .loop .i) (omega arith) (omega arith) (c .if1 .taken))
-
-add-i : tie.Need-add-i Inv-loop μ-loop
-add-i c = search needs
-
-loop-less : tie.Need-loop-less Inv-loop μ-loop
-loop-less c = search needs
 
 loop-again : tie.Need-loop-again Inv-loop μ-loop
 loop-again c = (omega arith, turn-other _ _ _ (c .before .before .loop .i) (omega arith) (omega arith) (c .if1 .left) ∙ c .before .before .loop .inv .1)
@@ -43,14 +31,5 @@ returns-2 c = sym (sym (c .before .loop .inv .1) ∙ turns-end _ _ _ (c .before 
 pub holds-kind-spec : {M : Type 1} → statement M
 holds-kind-spec =
     tie.close
-    (tie.spec
-    Inv-loop
-    μ-loop
-    least-requires
-    loop-holds
-    array-read-if1
-    returns
-    add-i
-    loop-less
-    loop-again
-    returns-2)
+    (tie.spec Inv-loop μ-loop (λ c κs. search needs) loop-holds (λ c. search needs) returns (λ c. search needs)
+    (λ c. search needs) loop-again returns-2)

@@ -4,16 +4,11 @@ use borrow.Author.Needs.{needs}
 use Rattle.one_option.proofs.end_quirks.Statement.{statement}
 use Rattle.one_option.proofs.end_quirks.Tie as tie
 
-any-nonzero-requires : tie.Need-any-nonzero-requires
-any-nonzero-requires c κs = search needs
-
-add-if-requires : tie.Need-add-if-requires
-add-if-requires c κs = search needs
-
 returns : tie.Need-returns
 returns c =
     let a = c .before .before .before .args in
     rw (quirks-of (a .syn) (a .quirks) (a .own .now) (opt 0 (a .own .now)) (end-of-options (a .syn) (just (a .quirks)) (a .own .now)), c .add-if .ensures, c .before .any-nonzero .ensures)
 
 pub end-quirks-spec : {M : Type 1} → statement M
-end-quirks-spec = tie.close (tie.spec any-nonzero-requires add-if-requires returns)
+end-quirks-spec =
+    tie.close (tie.spec (λ c κs. search needs) (λ c κs. search needs) returns)

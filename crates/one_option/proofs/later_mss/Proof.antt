@@ -19,15 +19,6 @@ returns-2 c =
     let few : length (a .own .now) ≤ 2 = omega arith in
     sym (short-mss (a .mss) (a .kind) (a .own .now) (c .before .if1 .left) few)
 
-shared-slice-read-be16 : tie.Need-shared-slice-read-be16
-shared-slice-read-be16 c = search needs
-
-shared-slice-read-be16-2 : tie.Need-shared-slice-read-be16-2
-shared-slice-read-be16-2 c = search needs
-
-be16-requires : tie.Need-be16-requires
-be16-requires c κs = search needs
-
 returns-3 : tie.Need-returns-3
 returns-3 c =
     let a = c .before .before .before .before .before .before .args in
@@ -36,11 +27,4 @@ returns-3 c =
 
 pub later-mss-spec : {M : Type 1} → statement M
 later-mss-spec =
-    tie.close
-    (tie.spec
-    returns
-    returns-2
-    shared-slice-read-be16
-    shared-slice-read-be16-2
-    be16-requires
-    returns-3)
+    tie.close (tie.spec returns returns-2 (λ c. search needs) (λ c. search needs) (λ c κs. search needs) returns-3)

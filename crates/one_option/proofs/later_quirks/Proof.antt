@@ -7,24 +7,15 @@ use borrow.Author.Needs.{needs}
 use Rattle.one_option.proofs.later_quirks.Statement.{statement}
 use Rattle.one_option.proofs.later_quirks.Tie as tie
 
-stamp-quirks-requires : tie.Need-stamp-quirks-requires
-stamp-quirks-requires c κs = search needs
-
 returns : tie.Need-returns
 returns c =
     let a = c .before .before .before .args in
     c .stamp-quirks .ensures ∙ sym (ap (λ (k : ℕ). laterQuirks (a .syn) (a .quirks) (opt k (a .own .now))) (c .before .if1 .taken))
 
-scale-quirks-requires : tie.Need-scale-quirks-requires
-scale-quirks-requires c κs = search needs
-
 returns-2 : tie.Need-returns-2
 returns-2 c =
     let a = c .before .before .before .before .args in
     c .scale-quirks .ensures ∙ sym (ap (λ (k : ℕ). laterQuirks (a .syn) (a .quirks) (opt k (a .own .now))) (c .before .if2 .taken))
-
-end-quirks-requires : tie.Need-end-quirks-requires
-end-quirks-requires c κs = search needs
 
 returns-3 : tie.Need-returns-3
 returns-3 c =
@@ -39,11 +30,5 @@ returns-4 c =
 pub later-quirks-spec : {M : Type 1} → statement M
 later-quirks-spec =
     tie.close
-    (tie.spec
-    stamp-quirks-requires
-    returns
-    scale-quirks-requires
-    returns-2
-    end-quirks-requires
-    returns-3
+    (tie.spec (λ c κs. search needs) returns (λ c κs. search needs) returns-2 (λ c κs. search needs) returns-3
     returns-4)

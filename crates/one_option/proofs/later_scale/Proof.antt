@@ -19,9 +19,6 @@ returns-2 c =
     let few : length (a .own .now) ≤ 1 = omega arith in
     sym (short-scale (a .wscale) (a .kind) (a .own .now) (c .before .if1 .left) few)
 
-shared-slice-read-t7 : tie.Need-shared-slice-read-t7
-shared-slice-read-t7 c = search needs
-
 returns-3 : tie.Need-returns-3
 returns-3 c =
     let a = c .before .before .before .args in
@@ -29,4 +26,5 @@ returns-3 c =
     rw (enough-scale (a .wscale) (a .kind) (a .own .now) (c .before .before .if1 .left) some)
 
 pub later-scale-spec : {M : Type 1} → statement M
-later-scale-spec = tie.close (tie.spec returns returns-2 shared-slice-read-t7 returns-3)
+later-scale-spec =
+    tie.close (tie.spec returns returns-2 (λ c. search needs) returns-3)

@@ -14,12 +14,6 @@ returns c =
     let few : length (a .own .now) ≤ 1 = omega arith in
     sym (quirks-of (a .syn) (a .quirks) (a .own .now) (opt 3 (a .own .now)) (scale-short (a .syn) (just (a .quirks)) (a .own .now) few))
 
-shared-slice-read-scale : tie.Need-shared-slice-read-scale
-shared-slice-read-scale c = search needs
-
-add-if-requires : tie.Need-add-if-requires
-add-if-requires c κs = search needs
-
 returns-2 : tie.Need-returns-2
 returns-2 c =
     let a = c .before .before .before .before .args in
@@ -27,4 +21,5 @@ returns-2 c =
     rw (quirks-of (a .syn) (a .quirks) (a .own .now) (opt 3 (a .own .now)) (scale-enough (a .syn) (just (a .quirks)) (a .own .now) some), c .add-if .ensures)
 
 pub scale-quirks-spec : {M : Type 1} → statement M
-scale-quirks-spec = tie.close (tie.spec returns shared-slice-read-scale add-if-requires returns-2)
+scale-quirks-spec =
+    tie.close (tie.spec returns (λ c. search needs) (λ c κs. search needs) returns-2)

@@ -15,30 +15,6 @@ returns c =
     let few : length (a .own .now) ≤ 4 = omega arith in
     sym (quirks-of (a .syn) (a .before) (a .own .now) (opt 8 (a .own .now)) (stamps-none (a .syn) (just (a .before)) (a .own .now) few))
 
-shared-slice-read-be16 : tie.Need-shared-slice-read-be16
-shared-slice-read-be16 c = search needs
-
-shared-slice-read-be16-2 : tie.Need-shared-slice-read-be16-2
-shared-slice-read-be16-2 c = search needs
-
-be16-requires : tie.Need-be16-requires
-be16-requires c κs = search needs
-
-shared-slice-read-be16-3 : tie.Need-shared-slice-read-be16-3
-shared-slice-read-be16-3 c = search needs
-
-shared-slice-read-be16-4 : tie.Need-shared-slice-read-be16-4
-shared-slice-read-be16-4 c = search needs
-
-be16-requires-2 : tie.Need-be16-requires-2
-be16-requires-2 c κs = search needs
-
-be32-requires : tie.Need-be32-requires
-be32-requires c κs = search needs
-
-add-if-requires : tie.Need-add-if-requires
-add-if-requires c κs = search needs
-
 returns-2 : tie.Need-returns-2
 unfolding be32 be16
 returns-2 c =
@@ -52,30 +28,6 @@ returns-2 c =
       c .before .before .before .be162 .ensures,
       c .before .before .before .before .before .before .be16 .ensures,
     )
-
-shared-slice-read-be16-5 : tie.Need-shared-slice-read-be16-5
-shared-slice-read-be16-5 c = search needs
-
-shared-slice-read-be16-6 : tie.Need-shared-slice-read-be16-6
-shared-slice-read-be16-6 c = search needs
-
-be16-requires-3 : tie.Need-be16-requires-3
-be16-requires-3 c κs = search needs
-
-shared-slice-read-be16-7 : tie.Need-shared-slice-read-be16-7
-shared-slice-read-be16-7 c = search needs
-
-shared-slice-read-be16-8 : tie.Need-shared-slice-read-be16-8
-shared-slice-read-be16-8 c = search needs
-
-be16-requires-4 : tie.Need-be16-requires-4
-be16-requires-4 c κs = search needs
-
-be32-requires-2 : tie.Need-be32-requires-2
-be32-requires-2 c κs = search needs
-
-add-if-requires-2 : tie.Need-add-if-requires-2
-add-if-requires-2 c κs = search needs
 
 returns-3 : tie.Need-returns-3
 unfolding be32 be16
@@ -97,23 +49,7 @@ returns-3 c =
 pub stamp-quirks-spec : {M : Type 1} → statement M
 stamp-quirks-spec =
     tie.close
-    (tie.spec
-    returns
-    shared-slice-read-be16
-    shared-slice-read-be16-2
-    be16-requires
-    shared-slice-read-be16-3
-    shared-slice-read-be16-4
-    be16-requires-2
-    be32-requires
-    add-if-requires
-    returns-2
-    shared-slice-read-be16-5
-    shared-slice-read-be16-6
-    be16-requires-3
-    shared-slice-read-be16-7
-    shared-slice-read-be16-8
-    be16-requires-4
-    be32-requires-2
-    add-if-requires-2
-    returns-3)
+    (tie.spec returns (λ c. search needs) (λ c. search needs) (λ c κs. search needs) (λ c. search needs)
+    (λ c. search needs) (λ c κs. search needs) (λ c κs. search needs) (λ c κs. search needs) returns-2
+    (λ c. search needs) (λ c. search needs) (λ c κs. search needs) (λ c. search needs) (λ c. search needs)
+    (λ c κs. search needs) (λ c κs. search needs) (λ c κs. search needs) returns-3)

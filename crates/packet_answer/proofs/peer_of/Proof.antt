@@ -12,4 +12,5 @@ unfolding peerOf
 returns-2 c = search cases
 
 pub peer-of-spec : {M : Type 1} → statement M
-peer-of-spec = tie.close (tie.spec returns returns-2)
+peer-of-spec =
+    tie.close (tie.spec returns returns-2)

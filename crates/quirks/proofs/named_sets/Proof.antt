@@ -10,4 +10,5 @@ unfolding namedSets empty fuzzyDeletable fuzzyAddable maskWhenObsV4 maskWhenObsV
 returns c = refl
 
 pub named-sets-spec : {M : Type 1} → statement M
-named-sets-spec = tie.close (tie.spec returns)
+named-sets-spec =
+    tie.close (tie.spec returns)

@@ -1,4 +1,4 @@
-use Rattle.report.proofs.Writing.{numbered-length}
+use Rattle.report.proofs.Writing.{numbered-length, numbered-put}
 use Rattle.report.specs.Text.{packetsWord}
 use Rattle.basis.specs.Bytes.{be16}
 use mathlib.Core.Path.{_∙_}
@@ -9,56 +9,25 @@ use borrow.Author.Needs.{needs}
 use Rattle.report.proofs.head_page.Statement.{statement}
 use Rattle.report.proofs.head_page.Tie as tie
 
-shared-slice-read-be16 : tie.Need-shared-slice-read-be16
-shared-slice-read-be16 c = search needs
-
-shared-slice-read-be16-2 : tie.Need-shared-slice-read-be16-2
-shared-slice-read-be16-2 c = search needs
-
-be16-requires : tie.Need-be16-requires
-be16-requires c κs = search needs
-
-slice-aggregate-put-numbered : tie.Need-slice-aggregate-put-numbered
-slice-aggregate-put-numbered c = search needs
-
-put-numbered-requires : tie.Need-put-numbered-requires
-put-numbered-requires c κs = search needs
-
-cast-t15 : tie.Need-cast-t15
-cast-t15 c = search needs
-
-shared-slice-read-be16-3 : tie.Need-shared-slice-read-be16-3
-shared-slice-read-be16-3 c = search needs
-
-shared-slice-read-be16-4 : tie.Need-shared-slice-read-be16-4
-shared-slice-read-be16-4 c = search needs
-
-be16-requires-2 : tie.Need-be16-requires-2
-be16-requires-2 c κs = search needs
-
-cast-t19 : tie.Need-cast-t19
-cast-t19 c = search needs
-
 put-lines-requires : tie.Need-put-lines-requires
-put-lines-requires c κs = omega (arith, c .before .before .before .before .put-numbered .ensures .0, numbered-length packetsWord (c .before .before .before .before .before .before .before .be16 .result))
+put-lines-requires c κs =
+    let put = c .before .before .before .before in
+    let line = numbered-put _ _ packetsWord _ _ _ (search needs) (put .put-numbered .ensures) in
+    omega (arith, line .0, numbered-length packetsWord (put .before .before .before .be16 .result))
 
 returns : tie.Need-returns
 unfolding be16
-returns c = head-paged (c .before .before .before .before .before .before .before .before .before .before .before .before .args .bundle .now) _ _ _ _ _ _ _ (c .before .before .before .before .before .before .before .before .be16 .ensures) (c .before .before .be162 .ensures) (c .before .before .before .before .before .put-numbered .ensures .0 ∙ zero-add _) (c .before .before .before .before .before .put-numbered .ensures .1) (c .put-lines .ensures)
+returns c =
+    let offset = c .before .before in
+    let put = offset .before .before .before in
+    let count = put .before .before .before in
+    let b = count .before .before .before .before .args .bundle .now in
+    let line = numbered-put _ _ packetsWord _ _ _ (search needs) (put .put-numbered .ensures) in
+    head-paged b _ _ _ _ _ _ _ (search needs) (count .be16 .ensures) (offset .be162 .ensures) (line .0 ∙ zero-add _) (line .1) (c .put-lines .ensures)
 
 pub head-page-spec : {M : Type 1} → statement M
 head-page-spec =
     tie.close
-    (tie.spec
-    shared-slice-read-be16
-    shared-slice-read-be16-2
-    be16-requires
-    slice-aggregate-put-numbered
-    put-numbered-requires
-    cast-t15
-    shared-slice-read-be16-3
-    shared-slice-read-be16-4
-    be16-requires-2
-    cast-t19
-    put-lines-requires
-    returns)
+    (tie.spec (λ c. search needs) (λ c. search needs) (λ c κs. search needs) (λ c. search needs) (λ c κs. search needs)
+    (λ c. search needs) (λ c. search needs) (λ c. search needs) (λ c κs. search needs) (λ c. search needs)
+    put-lines-requires returns)

@@ -3,11 +3,9 @@ use borrow.Author.Needs.{needs}
 use Rattle.report.proofs.next_page.Statement.{statement}
 use Rattle.report.proofs.next_page.Tie as tie
 
-put-lines-requires : tie.Need-put-lines-requires
-put-lines-requires c κs = search needs
-
 returns : tie.Need-returns
 returns c = paged _ _ _ _ (c .put-lines .ensures)
 
 pub next-page-spec : {M : Type 1} → statement M
-next-page-spec = tie.close (tie.spec put-lines-requires returns)
+next-page-spec =
+    tie.close (tie.spec (λ c κs. search needs) returns)

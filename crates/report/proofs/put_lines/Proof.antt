@@ -1,6 +1,8 @@
 use Rattle.report.proofs.Turns.{filled-full, no-room, no-packet, one-line, no-more}
 use Rattle.report.proofs.Writing.{line-length}
-use Rattle.report.specs.Pages.{Put, Filled, pageSize, pageFrom}
+use Rattle.text.specs.Written.{PutAll}
+use Rattle.text.proofs.Writing.{put-all}
+use Rattle.report.specs.Pages.{Filled, pageSize, pageFrom}
 use Rattle.report.specs.Text.{lineOf}
 use Rattle.report.specs.declared.Progress.{Progress}
 use Rattle.bundle.proofs.Packets.{packet-there, none-there}
@@ -25,32 +27,11 @@ abbrev μ-loop : tie.MeasureT-loop
 loop-holds : tie.Need-loop-holds Inv-loop μ-loop
 loop-holds c = (search needs, λ r p h. h)
 
-sub-if1 : tie.Need-sub-if1 Inv-loop μ-loop
-sub-if1 c = search needs
-
 returns : tie.Need-returns Inv-loop μ-loop
 returns c = let a = c .before .before .before .before .args in let l = c .before .before .loop in l .inv .1 _ _ (rw (no-room (a .bundle .now) (l .page) (l .filled) (l .at) (l .left) (c .before .loop-test .taken) (c .if1 .taken)) (filled-full (l .page) (l .filled) (l .left) (l .at)))
 
-packet-at-requires : tie.Need-packet-at-requires Inv-loop μ-loop
-packet-at-requires c κs = search needs
-
-enum-known-answer : tie.Need-enum-known-answer Inv-loop μ-loop
-enum-known-answer c = search needs
-
-enum-told : tie.Need-enum-told Inv-loop μ-loop
-enum-told c = search needs
-
 returns-2 : tie.Need-returns-2 Inv-loop μ-loop
 returns-2 c = let a = c .before .before .before .before .before .before .before .args in let l = c .before .before .before .before .before .loop in l .inv .1 _ _ (rw (no-packet (a .bundle .now) (l .page) (l .filled) (l .at) (l .left) (c .before .before .before .before .loop-test .taken) (omega (arith, c .before .before .before .if1 .left)) (none-there (a .bundle .now) (l .at) (sym (c .before .before .packet-at .ensures) ∙ c .enum-told .given .1))) (filled-full (l .page) (l .filled) 0 (l .at)))
-
-put-line-requires : tie.Need-put-line-requires Inv-loop μ-loop
-put-line-requires c κs = search needs
-
-sub-left : tie.Need-sub-left Inv-loop μ-loop
-sub-left c = search needs
-
-loop-less : tie.Need-loop-less Inv-loop μ-loop
-loop-less c = search needs
 
 loop-again : tie.Need-loop-again Inv-loop μ-loop
 loop-again c =
@@ -60,11 +41,12 @@ loop-again c =
     let found = packet-there (a .bundle .now) (l .at) _ _ (sym (c .before .before .before .before .before .packet-at .ensures) ∙ c .before .before .before .answer .given .1) in
     let line = answerAt (a .bundle .now) (l .at) in
     let room : 19 ≤ pageSize - l .filled = omega (arith, c .before .before .before .before .before .before .if1 .left) in
-    let done : Put (l .page) (l .filled) (lineOf line) (put .result) (put .last .0) = rw (sym (found .answer)) (put .ensures) in
     let whole : length (l .page) ≡ pageSize = search needs in
+    let done : PutAll (l .page) (l .filled) (lineOf line) (put .result) (put .last .0) =
+    put-all _ _ _ _ _ (omega (arith, line-length line)) (rw (sym (found .answer)) (put .ensures)) in
     let next : l .filled + length (lineOf line) ≤ pageSize = omega (arith, line-length line) in (
       rw (done .0) next,
-      λ r p h. l .inv .1 r p (one-line (a .bundle .now) (l .page) (l .filled) (l .at) (l .left) (c .before .before .before .before .before .before .before .loop-test .taken) room (found .lies) (rw whole (l .inv .0)) (put .last .0) p (put .result) r done (rw (sym (found .ends)) h)),
+      λ r p h. l .inv .1 r p (one-line (a .bundle .now) (l .page) (l .filled) (l .at) (l .left) (c .before .before .before .before .before .before .before .loop-test .taken) room (found .lies) whole (put .last .0) p (put .result) r done (rw (sym (found .ends)) h)),
     )
 
 returns-3 : tie.Need-returns-3 Inv-loop μ-loop
@@ -73,18 +55,5 @@ returns-3 c = let a = c .before .before .before .args in let l = c .before .loop
 pub put-lines-spec : {M : Type 1} → statement M
 put-lines-spec =
     tie.close
-    (tie.spec
-    Inv-loop
-    μ-loop
-    loop-holds
-    sub-if1
-    returns
-    packet-at-requires
-    enum-known-answer
-    enum-told
-    returns-2
-    put-line-requires
-    sub-left
-    loop-less
-    loop-again
-    returns-3)
+    (tie.spec Inv-loop μ-loop loop-holds (λ c. search needs) returns (λ c κs. search needs) (λ c. search needs)
+    (λ c. search needs) returns-2 (λ c κs. search needs) (λ c. search needs) (λ c. search needs) loop-again returns-3)

@@ -1,31 +1,16 @@
 -- `search::search_checked` meets its contract.
 use Rattle.search.proofs.Rows.{none-found}
 use Rattle.siglist.proofs.List.{header-areas, header-none}
-use Rattle.search.specs.Search.{numbersFrom, searchOver, searchAll}
-use Rattle.siglist.specs.List.{recordCount}
-use Rattle.matching.specs.Fit.{featuresOf}
+use Rattle.search.specs.Search.{searchOver, searchAll}
 use mathlib.Core.Path.{sym, _∙_}
 use borrow.Author.Needs.{needs}
 use Rattle.search.proofs.search_checked.Statement.{statement}
 use Rattle.search.proofs.search_checked.Tie as tie
 
-read-header-requires : tie.Need-read-header-requires
-read-header-requires c κs = search needs
-
-enum-known-areas : tie.Need-enum-known-areas
-enum-known-areas c = search needs
-
-enum-told : tie.Need-enum-told
-enum-told c = search needs
-
 returns : tie.Need-returns
 unfolding searchAll searchOver
 returns c =
-    let a = c .before .before .before .before .args in
-    sym (none-found (featuresOf (a .observed)) (a .observed .olayout .kinds) (a .observed .olayout .bytes) (a .list .now) (header-none (a .list .now) (sym (c .before .before .read-header .ensures) ∙ c .enum-told .given .1)) (numbersFrom 0 (recordCount (a .list .now))))
-
-features-of-requires : tie.Need-features-of-requires
-features-of-requires c κs = search needs
+    sym (none-found _ _ _ _ (header-none _ (sym (c .before .before .read-header .ensures) ∙ c .enum-told .given .1)) _)
 
 search-records-requires : tie.Need-search-records-requires
 search-records-requires c κs =
@@ -45,11 +30,5 @@ returns-2 c =
 pub search-checked-spec : {M : Type 1} → statement M
 search-checked-spec =
     tie.close
-    (tie.spec
-    read-header-requires
-    enum-known-areas
-    enum-told
-    returns
-    features-of-requires
-    search-records-requires
-    returns-2)
+    (tie.spec (λ c κs. search needs) (λ c. search needs) (λ c. search needs) returns (λ c κs. search needs)
+    search-records-requires returns-2)

@@ -1,5 +1,4 @@
 -- `siglist::read_header` meets its contract.
-use Rattle.siglist.proofs.List.{header-fits}
 use Rattle.siglist.specs.List.{headerOf}
 use borrow.Author.Tests.{not-true, not-false}
 use mathlib.Core.Path.{sym, _∙_}
@@ -7,20 +6,16 @@ use borrow.Author.Needs.{needs}
 use Rattle.siglist.proofs.read_header.Statement.{statement}
 use Rattle.siglist.proofs.read_header.Tie as tie
 
-list-fits-requires : tie.Need-list-fits-requires
-list-fits-requires c κs = search needs
-
 returns : tie.Need-returns
 unfolding headerOf
 returns c = rw (sym (c .before .list-fits .ensures) ∙ not-true (c .before .list-fits .result) (c .if1 .taken))
 
-areas-of-requires : tie.Need-areas-of-requires
-areas-of-requires c κs = header-fits (c .before .before .before .args .list .now) (sym (c .before .list-fits .ensures) ∙ not-false (c .before .list-fits .result) (c .if1 .left))
-
 returns-2 : tie.Need-returns-2
 unfolding headerOf
 returns-2 c =
-    rw (sym (c .before .before .list-fits .ensures) ∙ not-false (c .before .before .list-fits .result) (c .before .if1 .left), c .areas-of .ensures)
+    let fits = c .before .before .list-fits in
+    rw (sym (fits .ensures) ∙ not-false (fits .result) (c .before .if1 .left), c .areas-of .ensures)
 
 pub read-header-spec : {M : Type 1} → statement M
-read-header-spec = tie.close (tie.spec list-fits-requires returns areas-of-requires returns-2)
+read-header-spec =
+    tie.close (tie.spec (λ c κs. search needs) returns (λ c κs. search needs) returns-2)

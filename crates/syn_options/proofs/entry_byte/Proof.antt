@@ -5,9 +5,6 @@ use borrow.Author.Needs.{needs}
 use Rattle.syn_options.proofs.entry_byte.Statement.{statement}
 use Rattle.syn_options.proofs.entry_byte.Tie as tie
 
-cast-result : tie.Need-cast-result
-cast-result c = search needs
-
 returns : tie.Need-returns
 unfolding entryByte
 returns c = search cases
@@ -17,4 +14,5 @@ unfolding entryByte
 returns-2 c = search cases
 
 pub entry-byte-spec : {M : Type 1} → statement M
-entry-byte-spec = tie.close (tie.spec cast-result returns returns-2)
+entry-byte-spec =
+    tie.close (tie.spec (λ c. search needs) returns returns-2)

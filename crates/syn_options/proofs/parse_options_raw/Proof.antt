@@ -6,24 +6,16 @@ use borrow.Author.Needs.{needs}
 use Rattle.syn_options.proofs.parse_options_raw.Statement.{statement}
 use Rattle.syn_options.proofs.parse_options_raw.Tie as tie
 
-nothing-parsed-requires : tie.Need-nothing-parsed-requires
-nothing-parsed-requires c κs = search needs
-
 returns : tie.Need-returns
 unfolding parseOptionsRaw
-returns c = rw (c .nothing-parsed .ensures) (search cases)
-
-walk-options-requires : tie.Need-walk-options-requires
-walk-options-requires c κs = search needs
-
-parsed-requires : tie.Need-parsed-requires
-parsed-requires c κs = search needs
+returns c = rw (c .parsed .ensures, c .before .start-walk .ensures, empty-bits) (search cases)
 
 returns-2 : tie.Need-returns-2
 unfolding parseOptionsRaw
-returns-2 c = rw (c .parsed .ensures, c .before .walk-options .ensures, ← empty-bits) (search cases)
+returns-2 c = rw (c .parsed2 .ensures, c .before .walk-options .ensures, ← empty-bits) (search cases)
 
 pub parse-options-raw-spec : {M : Type 1} → statement M
 parse-options-raw-spec =
     tie.close
-    (tie.spec nothing-parsed-requires returns walk-options-requires parsed-requires returns-2)
+    (tie.spec (λ c κs. search needs) (λ c κs. search needs) returns (λ c κs. search needs) (λ c κs. search needs)
+    returns-2)

@@ -9,21 +9,6 @@ use borrow.Author.Needs.{needs}
 use Rattle.syn_options.proofs.walk_options.Statement.{statement}
 use Rattle.syn_options.proofs.walk_options.Tie as tie
 
-least-requires : tie.Need-least-requires
-least-requires c κs = search needs
-
-sub-walk-part : tie.Need-sub-walk-part
-sub-walk-part c = search needs
-
-part-walk-part-start : tie.Need-part-walk-part-start
-part-walk-part-start c = search needs
-
-part-walk-part-end : tie.Need-part-walk-part-end
-part-walk-part-end c = search needs
-
-walk-part-requires : tie.Need-walk-part-requires
-walk-part-requires c κs = search needs
-
 returns : tie.Need-returns
 unfolding walkOf
 returns c =
@@ -33,10 +18,5 @@ returns c =
 pub walk-options-spec : {M : Type 1} → statement M
 walk-options-spec =
     tie.close
-    (tie.spec
-    least-requires
-    sub-walk-part
-    part-walk-part-start
-    part-walk-part-end
-    walk-part-requires
+    (tie.spec (λ c κs. search needs) (λ c. search needs) (λ c. search needs) (λ c. search needs) (λ c κs. search needs)
     returns)

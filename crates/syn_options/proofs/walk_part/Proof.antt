@@ -1,13 +1,11 @@
 -- `syn_options::walk_part` meets its contract.
-use Rattle.one_option.specs.Options.{asked, optionsOf}
-use Rattle.basis.proofs.Bytes.{rest-of}
-use Rattle.basis.specs.Bytes.{byteAt}
+use Rattle.one_option.specs.declared.Seen.{Seen}
+use Rattle.one_option.specs.Options.{optionsOf}
+use Rattle.one_option.specs.See.{seeOption}
 use lib.ListN.{length, drop, length-set}
-use Prim.Native.Nat.{ℕ, _+_, _≤_, _-_, min}
+use Prim.Native.Nat.{_≤_, _-_}
 use mathlib.Core.Path.{_≡_, sym, _∙_, ap}
 use mathlib.Core.Bool.{Bool, false}
-use Rattle.one_option.specs.declared.Seen.{Seen}
-use Rattle.one_option.specs.See.{seeOption}
 use Rattle.syn_options.specs.Walk.{walkFrom}
 use Rattle.syn_options.proofs.Walk.{soFar, turn-stops, turn-goes-on, walk-ends}
 use borrow.Author.Needs.{needs}
@@ -16,179 +14,71 @@ use Rattle.syn_options.proofs.walk_part.Tie as tie
 
 abbrev Inv-loop : tie.InvT-loop
 Inv-loop options stop syn olayout₀ count₀ mss₀ wscale₀ shown₀ malformed₀ at₀ olayout count mss wscale shown malformed at =
+    let seen₀ : Seen = record { mss = mss₀; wscale = wscale₀; quirks = shown₀ } in
+    let seen : Seen = record { mss = mss; wscale = wscale; quirks = shown } in
     (at ≤ length options)
     × (count ≤ at)
     × (length (olayout .kinds) ≡ 40)
     × (length (olayout .bytes) ≡ 40)
     × (malformed ≡ false)
-    × (walkFrom stop syn (soFar (olayout .kinds) (olayout .bytes) count (record { mss = mss; wscale = wscale; quirks = shown }) false) (optionsOf (drop at options))
-    ≡ walkFrom stop syn (soFar (olayout₀ .kinds) (olayout₀ .bytes) count₀ (record { mss = mss₀; wscale = wscale₀; quirks = shown₀ }) false) (optionsOf options))
+    × (walkFrom stop syn (soFar (olayout .kinds) (olayout .bytes) count seen false) (optionsOf (drop at options))
+    ≡ walkFrom stop syn (soFar (olayout₀ .kinds) (olayout₀ .bytes) count₀ seen₀ false) (optionsOf options))
 
 abbrev μ-loop : tie.MeasureT-loop
 μ-loop options stop syn olayout₀ count₀ mss₀ wscale₀ shown₀ malformed₀ at₀ olayout count mss wscale shown malformed at =
     length options - at
 
-loop-holds : tie.Need-loop-holds Inv-loop μ-loop
-loop-holds c = search needs
-
-shared-slice-read-kind : tie.Need-shared-slice-read-kind Inv-loop μ-loop
-shared-slice-read-kind c = search needs
-
-add-start : tie.Need-add-start Inv-loop μ-loop
-add-start c = search needs
-
-sub-left : tie.Need-sub-left Inv-loop μ-loop
-sub-left c = search needs
-
-sub-asked-bytes : tie.Need-sub-asked-bytes Inv-loop μ-loop
-sub-asked-bytes c = search needs
-
-part-asked-bytes-start : tie.Need-part-asked-bytes-start Inv-loop μ-loop
-part-asked-bytes-start c = search needs
-
-part-asked-bytes-end : tie.Need-part-asked-bytes-end Inv-loop μ-loop
-part-asked-bytes-end c = search needs
-
-asked-bytes-requires : tie.Need-asked-bytes-requires Inv-loop μ-loop
-asked-bytes-requires c κs = search needs
-
-stops-requires : tie.Need-stops-requires Inv-loop μ-loop
-stops-requires c κs = search needs
-
-option-end-requires : tie.Need-option-end-requires Inv-loop μ-loop
-option-end-requires c κs = search needs
-
-element-write-olayout : tie.Need-element-write-olayout Inv-loop μ-loop
-element-write-olayout c = search needs
-
-sub-entry-byte : tie.Need-sub-entry-byte Inv-loop μ-loop
-sub-entry-byte c = search needs
-
-entry-byte-requires : tie.Need-entry-byte-requires Inv-loop μ-loop
-entry-byte-requires c κs = search needs
-
-element-write-olayout-2 : tie.Need-element-write-olayout-2 Inv-loop μ-loop
-element-write-olayout-2 c = search needs
-
-add-count : tie.Need-add-count Inv-loop μ-loop
-add-count c = search needs
-
-sub-later-mss : tie.Need-sub-later-mss Inv-loop μ-loop
-sub-later-mss c = search needs
-
-part-later-mss-start : tie.Need-part-later-mss-start Inv-loop μ-loop
-part-later-mss-start c = search needs
-
-part-later-mss-end : tie.Need-part-later-mss-end Inv-loop μ-loop
-part-later-mss-end c = search needs
-
-later-mss-requires : tie.Need-later-mss-requires Inv-loop μ-loop
-later-mss-requires c κs = search needs
-
-sub-later-scale : tie.Need-sub-later-scale Inv-loop μ-loop
-sub-later-scale c = search needs
-
-part-later-scale-start : tie.Need-part-later-scale-start Inv-loop μ-loop
-part-later-scale-start c = search needs
-
-part-later-scale-end : tie.Need-part-later-scale-end Inv-loop μ-loop
-part-later-scale-end c = search needs
-
-later-scale-requires : tie.Need-later-scale-requires Inv-loop μ-loop
-later-scale-requires c κs = search needs
-
-sub-later-quirks : tie.Need-sub-later-quirks Inv-loop μ-loop
-sub-later-quirks c = search needs
-
-part-later-quirks-start : tie.Need-part-later-quirks-start Inv-loop μ-loop
-part-later-quirks-start c = search needs
-
-part-later-quirks-end : tie.Need-part-later-quirks-end Inv-loop μ-loop
-part-later-quirks-end c = search needs
-
-later-quirks-requires : tie.Need-later-quirks-requires Inv-loop μ-loop
-later-quirks-requires c κs = search needs
-
-loop-less : tie.Need-loop-less Inv-loop μ-loop
-loop-less c = search needs
-
 loop-again : tie.Need-loop-again Inv-loop μ-loop
 unfolding seeOption
 loop-again c =
-    let l = c .before .before .before .before .before .before .before .before .before .before .before .before .before .before .loop in
-    let a = c .before .before .before .before .before .before .before .before .before .before .before .before .before .before .before .before .args in
-    let s = a .options .now in
+    let t = c .before .before .before .before .before .before .before .before .before in
+    let l = t .before .before .loop in
+    let a = t .before .before .before .before .before .before .args in
     let seen : Seen = record { mss = l .mss; wscale = l .wscale; quirks = l .shown } in
-    let n = c .before .before .before .before .before .before .before .before .before .before .asked-bytes .result in
-    let asks = c .before .before .before .before .before .before .before .before .before .before .asked-bytes .ensures ∙ ap (asked (byteAt s (l .at))) (rest-of s (l .at + 1)) in
-    let ends : c .before .before .before .before .before .before .before .option-end .result ≡ l .at + 1 + min n (length s - (l .at + 1)) =
-    c .before .before .before .before .before .before .before .option-end .ensures ∙ ap (λ (k : ℕ). l .at + 1 + min k (length s - (l .at + 1))) (sym asks) in
     let goes-on =
-    turn-goes-on (a .stop) (a .syn) (l .olayout .kinds) (l .olayout .bytes) (l .count) seen s (l .at) n (c .before .before .before .before .before .before .before .before .before .before .before .before .before .loop-test .taken) asks
-    (sym (c .before .before .before .before .before .before .before .before .before .stops .ensures) ∙ c .before .before .before .before .before .before .before .before .if1 .left) in (
+    turn-goes-on (a .stop) (a .syn) (l .olayout .kinds) (l .olayout .bytes) (l .count) seen (a .options .now) (l .at)
+    (t .before .loop-test .taken) (t .step-inside .result) (t .step-inside .ensures .0)
+    (sym (c .before .before .before .before .before .before .before .before .stops .ensures)
+    ∙ c .before .before .before .before .before .before .before .if1 .left) in
+    let later-mss = c .before .before .before .before .later-mss .ensures in
+    let entry-byte = c .before .before .before .before .before .before .entry-byte .ensures in (
       search needs,
       search needs,
       simp length-set (l .inv .2),
       simp length-set (l .inv .3),
       l .inv .4,
-      simp (c .later-quirks .ensures, c .before .before .later-scale .ensures, c .before .before .before .before .later-mss .ensures, c .before .before .before .before .before .before .entry-byte .ensures, ends) (goes-on ∙ l .inv .5),
+      simp (c .later-quirks .ensures, c .before .before .later-scale .ensures, later-mss, entry-byte) (goes-on ∙ l .inv .5),
     )
 
 returns : tie.Need-returns Inv-loop μ-loop
 returns c =
     let l = c .before .loop in
-    let a = c .before .before .before .args in
+    let a = c .before .before .before .before .before .args in
     let seen : Seen = record { mss = l .mss; wscale = l .wscale; quirks = l .shown } in
     ap (λ (m : Bool). soFar (l .olayout .kinds) (l .olayout .bytes) (l .count) seen m) (l .inv .4)
-    ∙ sym (walk-ends (a .stop) (a .syn) (soFar (l .olayout .kinds) (l .olayout .bytes) (l .count) seen false) (a .options .now) (l .at) (c .loop-test .left))
+    ∙ sym
+    (walk-ends (a .stop) (a .syn) (soFar (l .olayout .kinds) (l .olayout .bytes) (l .count) seen false) (a .options .now) (l .at)
+    (c .loop-test .left))
     ∙ l .inv .5
+    ∙ rw (c .before .before .before .start-walk .ensures)
 
 returns-2 : tie.Need-returns-2 Inv-loop μ-loop
 returns-2 c =
-    let l = c .before .before .before .before .before .before .loop in
-    let a = c .before .before .before .before .before .before .before .before .args in
-    let s = a .options .now in
+    let t = c .before .before in
+    let l = t .before .before .loop in
+    let a = t .before .before .before .before .before .before .args in
     let seen : Seen = record { mss = l .mss; wscale = l .wscale; quirks = l .shown } in
-    let asks = c .before .before .asked-bytes .ensures ∙ ap (asked (byteAt s (l .at))) (rest-of s (l .at + 1)) in
     sym
-    (turn-stops (a .stop) (a .syn) (l .olayout .kinds) (l .olayout .bytes) (l .count) seen s (l .at) (c .before .before .asked-bytes .result) (c .before .before .before .before .before .loop-test .taken) asks
-    (sym (c .before .stops .ensures) ∙ c .if1 .taken))
+    (turn-stops (a .stop) (a .syn) (l .olayout .kinds) (l .olayout .bytes) (l .count) seen (a .options .now) (l .at)
+    (t .before .loop-test .taken) (t .step-inside .result) (t .step-inside .ensures .0) (sym (c .before .stops .ensures) ∙ c .if1 .taken))
     ∙ l .inv .5
+    ∙ rw (t .before .before .before .before .start-walk .ensures)
 
 pub walk-part-spec : {M : Type 1} → statement M
 walk-part-spec =
     tie.close
-    (tie.spec
-    Inv-loop
-    μ-loop
-    loop-holds
-    shared-slice-read-kind
-    add-start
-    sub-left
-    sub-asked-bytes
-    part-asked-bytes-start
-    part-asked-bytes-end
-    asked-bytes-requires
-    stops-requires
-    option-end-requires
-    element-write-olayout
-    sub-entry-byte
-    entry-byte-requires
-    element-write-olayout-2
-    add-count
-    sub-later-mss
-    part-later-mss-start
-    part-later-mss-end
-    later-mss-requires
-    sub-later-scale
-    part-later-scale-start
-    part-later-scale-end
-    later-scale-requires
-    sub-later-quirks
-    part-later-quirks-start
-    part-later-quirks-end
-    later-quirks-requires
-    loop-less
-    loop-again
-    returns
-    returns-2)
+    (tie.spec Inv-loop μ-loop (λ c κs. search needs) (λ c. search needs) (λ c κs. search needs) (λ c κs. search needs)
+    (λ c. search needs) (λ c. search needs) (λ c. search needs) (λ c κs. search needs) (λ c. search needs)
+    (λ c. search needs) (λ c. search needs) (λ c. search needs) (λ c. search needs) (λ c κs. search needs)
+    (λ c. search needs) (λ c. search needs) (λ c. search needs) (λ c κs. search needs) (λ c. search needs)
+    (λ c. search needs) (λ c. search needs) (λ c κs. search needs) (λ c. search needs) loop-again returns returns-2)

@@ -8,9 +8,6 @@ use Rattle.termread.proofs.AnswerTests.{of-bits, zero-of-bits, not-zero
 use Rattle.termread.proofs.after_full.Statement.{statement}
 use Rattle.termread.proofs.after_full.Tie as tie
 
-slice-aggregate-read-some : tie.Need-slice-aggregate-read-some
-slice-aggregate-read-some c = search needs
-
 read-some-requires : tie.Need-read-some-requires
 read-some-requires c κs = (c .before .pre, omega arith)
 
@@ -36,4 +33,4 @@ returns-3 c =
 
 pub after-full-spec : {M : Type 1} → statement M
 after-full-spec =
-    tie.close (tie.spec slice-aggregate-read-some read-some-requires returns returns-2 returns-3)
+    tie.close (tie.spec (λ c. search needs) read-some-requires returns returns-2 returns-3)

@@ -16,9 +16,6 @@ returns-2 c =
     let start = c .before .before in
     cut-none (start .args .got) (zero-of-bits (start .args .got) (start .fits .got) (c .if2 .taken))
 
-goes-on-requires : tie.Need-goes-on-requires
-goes-on-requires c κs = search needs
-
 returns-3 : tie.Need-returns-3
 returns-3 c =
     let start = c .before .before .before in
@@ -27,4 +24,5 @@ returns-3 c =
     (not-zero-of-bits got (c .before .if2 .left))
 
 pub ends-at-spec : {M : Type 1} → statement M
-ends-at-spec = tie.close (tie.spec returns returns-2 goes-on-requires returns-3)
+ends-at-spec =
+    tie.close (tie.spec returns returns-2 (λ c κs. search needs) returns-3)

@@ -27,22 +27,10 @@ abbrev μ-loop : tie.MeasureT-loop
 loop-holds : tie.Need-loop-holds Inv-loop μ-loop
 loop-holds c = (search needs, refl, nothing-came)
 
-sub-rest : tie.Need-sub-rest Inv-loop μ-loop
-sub-rest c = search needs
-
-part-rest-start : tie.Need-part-rest-start Inv-loop μ-loop
-part-rest-start c = search needs
-
-part-rest-end : tie.Need-part-rest-end Inv-loop μ-loop
-part-rest-end c = search needs
-
 read-some-requires : tie.Need-read-some-requires Inv-loop μ-loop
 read-some-requires c κs =
     let at = c .before .before .before in
     (at .loop .inv .2, room (at .loop .buffer) (at .loop .count) (c .before .before .loop-test .taken))
-
-same-length : tie.Need-same-length Inv-loop μ-loop
-same-length c = search needs
 
 returns : tie.Need-returns Inv-loop μ-loop
 returns c =
@@ -53,9 +41,6 @@ returns c =
 
 count-requires : tie.Need-count-requires Inv-loop μ-loop
 count-requires c κs = tt
-
-same-length-2 : tie.Need-same-length-2 Inv-loop μ-loop
-same-length-2 c = search needs
 
 returns-2 : tie.Need-returns-2 Inv-loop μ-loop
 returns-2 c =
@@ -69,12 +54,6 @@ returns-2 c =
     let none = sym (count-of-bits (call .result) size _ (counted .result) (search needs) (search needs) (counted .ensures .1)) ∙ c .if2 .taken in
     let some = room (at .loop .buffer) from (at-if .before .before .before .before .before .before .loop-test .taken) in
     (search needs, (at .loop .inv .2, counts-none from size (call .result) (call .ensures) not-under some none))
-
-add-count : tie.Need-add-count Inv-loop μ-loop
-add-count c = search needs
-
-loop-less : tie.Need-loop-less Inv-loop μ-loop
-loop-less c = search needs
 
 loop-again : tie.Need-loop-again Inv-loop μ-loop
 loop-again c =
@@ -90,9 +69,6 @@ loop-again c =
 after-full-requires : tie.Need-after-full-requires Inv-loop μ-loop
 after-full-requires c κs = c .before .loop .inv .2
 
-same-length-3 : tie.Need-same-length-3 Inv-loop μ-loop
-same-length-3 c = search needs
-
 returns-3 : tie.Need-returns-3 Inv-loop μ-loop
 returns-3 c =
     let at = c .before .before in
@@ -103,22 +79,6 @@ returns-3 c =
 pub read-input-spec : {M : Type 1} → statement M
 read-input-spec =
     tie.close
-    (tie.spec
-    Inv-loop
-    μ-loop
-    loop-holds
-    sub-rest
-    part-rest-start
-    part-rest-end
-    read-some-requires
-    same-length
-    returns
-    count-requires
-    same-length-2
-    returns-2
-    add-count
-    loop-less
-    loop-again
-    after-full-requires
-    same-length-3
-    returns-3)
+    (tie.spec Inv-loop μ-loop loop-holds (λ c. search needs) (λ c. search needs) (λ c. search needs) read-some-requires
+    (λ c. search needs) returns count-requires (λ c. search needs) returns-2 (λ c. search needs) (λ c. search needs)
+    loop-again after-full-requires (λ c. search needs) returns-3)

@@ -7,12 +7,6 @@ use Rattle.termread.specs.Came.{read-said}
 use Rattle.termread.proofs.read_once.Statement.{statement}
 use Rattle.termread.proofs.read_once.Tie as tie
 
-read-requires : tie.Need-read-requires
-read-requires c κs = search needs
-
-same-length : tie.Need-same-length
-same-length c = search needs
-
 -- The only place where bytes come in: as many as `read` answered.
 returns : tie.Need-returns
 returns c =
@@ -22,4 +16,5 @@ returns c =
     (read-said (start .args .count) (length (now (start .args .buffer))) (read .result) (start .pre .0) (start .pre .1 .1) (read .ensures))
 
 pub read-once-spec : {M : Type 1} → statement M
-read-once-spec = tie.close (tie.spec read-requires same-length returns)
+read-once-spec =
+    tie.close (tie.spec (λ c κs. search needs) (λ c. search needs) returns)

@@ -34,9 +34,6 @@ loop-holds c =
 reads-again-requires : tie.Need-reads-again-requires Inv-loop μ-loop
 reads-again-requires c κs = tt
 
-same-length : tie.Need-same-length Inv-loop μ-loop
-same-length c = search needs
-
 returns : tie.Need-returns Inv-loop μ-loop
 returns c =
     let at = c .before .before .before in
@@ -56,12 +53,6 @@ read-once-requires-2 c κs =
       ),
     )
 
-add-turn : tie.Need-add-turn Inv-loop μ-loop
-add-turn c = search needs
-
-loop-less : tie.Need-loop-less Inv-loop μ-loop
-loop-less c = search needs
-
 loop-again : tie.Need-loop-again Inv-loop μ-loop
 loop-again c =
     let call = c .before .before .read-once2 in
@@ -71,9 +62,6 @@ loop-again c =
       search needs,
       read-of (start .args .count) (length (at .loop .buffer)) _ (call .result) (search needs) (search needs) (call .ensures),
     )
-
-same-length-2 : tie.Need-same-length-2 Inv-loop μ-loop
-same-length-2 c = search needs
 
 returns-2 : tie.Need-returns-2 Inv-loop μ-loop
 returns-2 c =
@@ -85,17 +73,5 @@ returns-2 c =
 pub read-some-spec : {M : Type 1} → statement M
 read-some-spec =
     tie.close
-    (tie.spec
-    Inv-loop
-    μ-loop
-    read-once-requires
-    loop-holds
-    reads-again-requires
-    same-length
-    returns
-    read-once-requires-2
-    add-turn
-    loop-less
-    loop-again
-    same-length-2
-    returns-2)
+    (tie.spec Inv-loop μ-loop read-once-requires loop-holds reads-again-requires (λ c. search needs) returns
+    read-once-requires-2 (λ c. search needs) (λ c. search needs) loop-again (λ c. search needs) returns-2)

@@ -11,9 +11,6 @@ returns c =
     let got = c .before .args .got in
     again-not got (of-bits (leZ (pos 0)) true got (c .before .fits .got) (c .if1 .taken))
 
-goes-on-requires : tie.Need-goes-on-requires
-goes-on-requires c κs = search needs
-
 returns-2 : tie.Need-returns-2
 returns-2 c =
     let start = c .before .before in
@@ -21,4 +18,5 @@ returns-2 c =
     again-failed got (c .goes-on .result) (of-bits (leZ (pos 0)) false got (start .fits .got) (c .before .if1 .left))
 
 pub reads-again-spec : {M : Type 1} → statement M
-reads-again-spec = tie.close (tie.spec returns goes-on-requires returns-2)
+reads-again-spec =
+    tie.close (tie.spec returns (λ c κs. search needs) returns-2)

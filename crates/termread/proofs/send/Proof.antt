@@ -22,18 +22,6 @@ loop-holds c = (search needs, search needs, subst Reached (omega arith) (c .befo
 returns : tie.Need-returns Inv-loop μ-loop
 returns c = subst Reached (omega (arith, c .if1 .taken)) (c .before .before .loop .inv .2)
 
-add-write-some : tie.Need-add-write-some Inv-loop μ-loop
-add-write-some c = search needs
-
-sub-write-some : tie.Need-sub-write-some Inv-loop μ-loop
-sub-write-some c = search needs
-
-part-write-some-start : tie.Need-part-write-some-start Inv-loop μ-loop
-part-write-some-start c = search needs
-
-part-write-some-end : tie.Need-part-write-some-end Inv-loop μ-loop
-part-write-some-end c = search needs
-
 write-some-requires : tie.Need-write-some-requires Inv-loop μ-loop
 write-some-requires c κs =
     let at = c .before .before .before in
@@ -42,40 +30,12 @@ write-some-requires c κs =
       part-follows _ (now (start .args .text)) (start .args .taken) (at .loop .from) (at .loop .inv .0) (start .pre .1 .0),
     )
 
-returns-2 : tie.Need-returns-2 Inv-loop μ-loop
-returns-2 c = search needs
-
-add-from : tie.Need-add-from Inv-loop μ-loop
-add-from c = search needs
-
-add-turn : tie.Need-add-turn Inv-loop μ-loop
-add-turn c = search needs
-
-loop-less : tie.Need-loop-less Inv-loop μ-loop
-loop-less c = search needs
-
 loop-again : tie.Need-loop-again Inv-loop μ-loop
 loop-again c = (search needs, search needs, subst Reached (omega arith) (c .before .write-some .ensures .1))
-
-returns-3 : tie.Need-returns-3 Inv-loop μ-loop
-returns-3 c = search needs
 
 pub send-spec : {M : Type 1} → statement M
 send-spec =
     tie.close
-    (tie.spec
-    Inv-loop
-    μ-loop
-    loop-holds
-    returns
-    add-write-some
-    sub-write-some
-    part-write-some-start
-    part-write-some-end
-    write-some-requires
-    returns-2
-    add-from
-    add-turn
-    loop-less
-    loop-again
-    returns-3)
+    (tie.spec Inv-loop μ-loop loop-holds returns (λ c. search needs) (λ c. search needs) (λ c. search needs)
+    (λ c. search needs) write-some-requires (λ c. search needs) (λ c. search needs) (λ c. search needs)
+    (λ c. search needs) loop-again (λ c. search needs))

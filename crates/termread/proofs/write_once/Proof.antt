@@ -7,9 +7,6 @@ use Rattle.termread.specs.Reached.{took}
 use Rattle.termread.proofs.write_once.Statement.{statement}
 use Rattle.termread.proofs.write_once.Tie as tie
 
-write-requires : tie.Need-write-requires
-write-requires c κs = search needs
-
 -- The only place where bytes become taken: as many as `write` answered.
 returns : tie.Need-returns
 returns c =
@@ -18,4 +15,5 @@ returns c =
     (took (start .args .taken) (length (now (start .args .text))) (c .write .result) (start .pre .0))
 
 pub write-once-spec : {M : Type 1} → statement M
-write-once-spec = tie.close (tie.spec write-requires returns)
+write-once-spec =
+    tie.close (tie.spec (λ c κs. search needs) returns)

@@ -19,9 +19,6 @@ Inv-loop bundle longer page₀ progress₀ taken₀ turn₀ page progress taken 
 abbrev μ-loop : tie.MeasureT-loop
 μ-loop bundle longer page₀ progress₀ taken₀ turn₀ page progress taken turn = 65536 - turn
 
-first-page-requires : tie.Need-first-page-requires Inv-loop μ-loop
-first-page-requires c κs = search needs
-
 loop-holds : tie.Need-loop-holds Inv-loop μ-loop
 loop-holds c =
     let call = c .first-page in
@@ -35,15 +32,6 @@ loop-holds c =
       none-yet,
       begun b (start .args .longer) page (call .last .1 .1 .0) (call .result) (call .ensures),
     )
-
-sub-send : tie.Need-sub-send Inv-loop μ-loop
-sub-send c = search needs
-
-part-send-start : tie.Need-part-send-start Inv-loop μ-loop
-part-send-start c = search needs
-
-part-send-end : tie.Need-part-send-end Inv-loop μ-loop
-part-send-end c = search needs
 
 send-requires : tie.Need-send-requires Inv-loop μ-loop
 send-requires c κs =
@@ -59,9 +47,6 @@ send-requires c κs =
       ),
     )
 
-returns : tie.Need-returns Inv-loop μ-loop
-returns c = search needs
-
 returns-2 : tie.Need-returns-2 Inv-loop μ-loop
 returns-2 c =
     let at-if = c .before .before in
@@ -75,18 +60,6 @@ returns-2 c =
     let all = not-false (sent .result) (at-if .if1 .left) in
     let reached = page-reached (sent .result) (at .loop .taken) page (p .filled) fits all (sent .ensures) in
     subst Reached (ended (now (start .args .bundle)) (start .args .longer) (at .loop .taken) page p fits (c .if2 .taken) (held .5)) reached
-
-add-taken : tie.Need-add-taken Inv-loop μ-loop
-add-taken c = search needs
-
-next-page-requires : tie.Need-next-page-requires Inv-loop μ-loop
-next-page-requires c κs = search needs
-
-add-turn : tie.Need-add-turn Inv-loop μ-loop
-add-turn c = search needs
-
-loop-less : tie.Need-loop-less Inv-loop μ-loop
-loop-less c = search needs
 
 loop-again : tie.Need-loop-again Inv-loop μ-loop
 loop-again c =
@@ -109,26 +82,9 @@ loop-again c =
       turned b (start .args .longer) (at .loop .taken) page page' p (call .result) fits (held .5) (call .ensures),
     )
 
-returns-3 : tie.Need-returns-3 Inv-loop μ-loop
-returns-3 c = search needs
-
 pub write-output-spec : {M : Type 1} → statement M
 write-output-spec =
     tie.close
-    (tie.spec
-    Inv-loop
-    μ-loop
-    first-page-requires
-    loop-holds
-    sub-send
-    part-send-start
-    part-send-end
-    send-requires
-    returns
-    returns-2
-    add-taken
-    next-page-requires
-    add-turn
-    loop-less
-    loop-again
-    returns-3)
+    (tie.spec Inv-loop μ-loop (λ c κs. search needs) loop-holds (λ c. search needs) (λ c. search needs)
+    (λ c. search needs) send-requires (λ c. search needs) returns-2 (λ c. search needs) (λ c κs. search needs)
+    (λ c. search needs) (λ c. search needs) loop-again (λ c. search needs))

@@ -11,15 +11,6 @@ use Rattle.termread.specs.Reached.{Reached}
 use Rattle.termread.proofs.write_some.Statement.{statement}
 use Rattle.termread.proofs.write_some.Tie as tie
 
-write-once-requires : tie.Need-write-once-requires
-write-once-requires c κs = search needs
-
-count-requires : tie.Need-count-requires
-count-requires c κs = search needs
-
-ends-at-requires : tie.Need-ends-at-requires
-ends-at-requires c κs = search needs
-
 returns : tie.Need-returns
 returns c =
     let got = c .before .before .write-once in
@@ -29,4 +20,5 @@ returns c =
     (search needs, subst (λ (n : ℕ). Reached (start .args .taken + n)) (sym said) (got .ensures))
 
 pub write-some-spec : {M : Type 1} → statement M
-write-some-spec = tie.close (tie.spec write-once-requires count-requires ends-at-requires returns)
+write-some-spec =
+    tie.close (tie.spec (λ c κs. search needs) (λ c κs. search needs) (λ c κs. search needs) returns)

@@ -9,9 +9,6 @@ returns : tie.Need-returns
 unfolding readingOf
 returns c = search cases
 
-guess-distance-requires : tie.Need-guess-distance-requires
-guess-distance-requires c κs = search needs
-
 returns-2 : tie.Need-returns-2
 unfolding readingOf
 returns-2 c = rw (← c .before .guess-distance .ensures) (search cases)
@@ -21,4 +18,5 @@ unfolding readingOf
 returns-3 c = rw (← c .before .guess-distance .ensures) (search cases)
 
 pub calculate-ttl-spec : {M : Type 1} → statement M
-calculate-ttl-spec = tie.close (tie.spec returns guess-distance-requires returns-2 returns-3)
+calculate-ttl-spec =
+    tie.close (tie.spec returns (λ c κs. search needs) returns-2 returns-3)

@@ -5,9 +5,6 @@ use Rattle.ttl.proofs.Laws.{initial-255, initial-128, initial-64, initi
 use Rattle.ttl.proofs.guess_distance.Statement.{statement}
 use Rattle.ttl.proofs.guess_distance.Tie as tie
 
-sub-result : tie.Need-sub-result
-sub-result c = search needs
-
 returns : tie.Need-returns
 unfolding guessOf
 returns c = search (needs, initial-255)
@@ -25,4 +22,5 @@ unfolding guessOf
 returns-4 c = search (needs, initial-32)
 
 pub guess-distance-spec : {M : Type 1} → statement M
-guess-distance-spec = tie.close (tie.spec sub-result returns returns-2 returns-3 returns-4)
+guess-distance-spec =
+    tie.close (tie.spec (λ c. search needs) returns returns-2 returns-3 returns-4)

@@ -10,12 +10,6 @@ returns : tie.Need-returns
 unfolding multiplierOf
 returns c = search cases
 
-enum-known-mss : tie.Need-enum-known-mss
-enum-known-mss c = search needs
-
-enum-told : tie.Need-enum-told
-enum-told c = search needs
-
 returns-2 : tie.Need-returns-2
 unfolding multiplierOf
 returns-2 c = rw (c .enum-told .given .1) (search cases)
@@ -23,18 +17,6 @@ returns-2 c = rw (c .enum-told .given .1) (search cases)
 returns-3 : tie.Need-returns-3
 unfolding multiplierOf
 returns-3 c = rw (c .before .before .mss .given .1) (search cases)
-
-is-v6-requires : tie.Need-is-v6-requires
-is-v6-requires c κs = search needs
-
-peer-size-requires : tie.Need-peer-size-requires
-peer-size-requires c κs = search needs
-
-divisors-requires : tie.Need-divisors-requires
-divisors-requires c κs = search needs
-
-first-multiple-requires : tie.Need-first-multiple-requires
-first-multiple-requires c κs = search needs
 
 returns-4 : tie.Need-returns-4
 unfolding multiplierOf
@@ -53,14 +35,5 @@ returns-4 c =
 pub detect-win-multi-spec : {M : Type 1} → statement M
 detect-win-multi-spec =
     tie.close
-    (tie.spec
-    returns
-    enum-known-mss
-    enum-told
-    returns-2
-    returns-3
-    is-v6-requires
-    peer-size-requires
-    divisors-requires
-    first-multiple-requires
-    returns-4)
+    (tie.spec returns (λ c. search needs) (λ c. search needs) returns-2 returns-3 (λ c κs. search needs)
+    (λ c κs. search needs) (λ c κs. search needs) (λ c κs. search needs) returns-4)

@@ -9,12 +9,10 @@ returns : tie.Need-returns
 unfolding divides
 returns c = search cases
 
-rem-result : tie.Need-rem-result
-rem-result c = search needs
-
 returns-2 : tie.Need-returns-2
 unfolding divides
 returns-2 c = search cases
 
 pub divides-spec : {M : Type 1} → statement M
-divides-spec = tie.close (tie.spec returns rem-result returns-2)
+divides-spec =
+    tie.close (tie.spec returns (λ c. search needs) returns-2)

@@ -16,18 +16,6 @@ Inv-loop wsize divisors i₀ i = (i ≤ 12) × (firstMultiple wsize (map holding
 abbrev μ-loop : tie.MeasureT-loop
 μ-loop wsize divisors i₀ i = 12 - i
 
-loop-holds : tie.Need-loop-holds Inv-loop μ-loop
-loop-holds c = search needs
-
-mul-divisor : tie.Need-mul-divisor Inv-loop μ-loop
-mul-divisor c = search needs
-
-array-copy-out-divisor : tie.Need-array-copy-out-divisor Inv-loop μ-loop
-array-copy-out-divisor c = search needs
-
-divides-requires : tie.Need-divides-requires Inv-loop μ-loop
-divides-requires c κs = search needs
-
 div-t13 : tie.Need-div-t13 Inv-loop μ-loop
 div-t13 c =
     let nonzero = divides-nonzero _ _ (sym (c .before .divides .ensures) ∙ c .if1 .taken) in
@@ -39,12 +27,6 @@ returns c =
     sym
     (sym (at-loop .loop .inv .1)
     ∙ turn-hit _ _ (at-loop .loop .i) (search needs) (sym (c .before .divides .ensures) ∙ c .if1 .taken))
-
-add-i : tie.Need-add-i Inv-loop μ-loop
-add-i c = search needs
-
-loop-less : tie.Need-loop-less Inv-loop μ-loop
-loop-less c = search needs
 
 loop-again : tie.Need-loop-again Inv-loop μ-loop
 loop-again c =
@@ -60,16 +42,5 @@ returns-2 c = sym (sym (c .before .loop .inv .1) ∙ turns-end _ _ (c .before .l
 pub first-multiple-spec : {M : Type 1} → statement M
 first-multiple-spec =
     tie.close
-    (tie.spec
-    Inv-loop
-    μ-loop
-    loop-holds
-    mul-divisor
-    array-copy-out-divisor
-    divides-requires
-    div-t13
-    returns
-    add-i
-    loop-less
-    loop-again
-    returns-2)
+    (tie.spec Inv-loop μ-loop (λ c. search needs) (λ c. search needs) (λ c. search needs) (λ c κs. search needs) div-t13
+    returns (λ c. search needs) (λ c. search needs) loop-again returns-2)

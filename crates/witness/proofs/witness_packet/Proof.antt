@@ -5,21 +5,9 @@ use borrow.Author.Needs.{needs}
 use Rattle.witness.proofs.witness_packet.Statement.{statement}
 use Rattle.witness.proofs.witness_packet.Tie as tie
 
-mss-of-requires : tie.Need-mss-of-requires
-mss-of-requires c κs = search needs
-
-read-packet-requires : tie.Need-read-packet-requires
-read-packet-requires c κs = search needs
-
-answer-number-requires : tie.Need-answer-number-requires
-answer-number-requires c κs = search needs
-
 returns : tie.Need-returns
 unfolding packetNumber readingNumber
 returns c = simp (← c .before .before .before .before .mss-of .ensures, ← c .before .before .before .read-packet .ensures, ← c .answer-number .ensures) (search cases)
-
-observation-number-requires : tie.Need-observation-number-requires
-observation-number-requires c κs = search needs
 
 returns-2 : tie.Need-returns-2
 unfolding packetNumber readingNumber
@@ -28,10 +16,5 @@ returns-2 c = simp (← c .before .before .before .before .mss-of .ensures, ← 
 pub witness-packet-spec : {M : Type 1} → statement M
 witness-packet-spec =
     tie.close
-    (tie.spec
-    mss-of-requires
-    read-packet-requires
-    answer-number-requires
-    returns
-    observation-number-requires
+    (tie.spec (λ c κs. search needs) (λ c κs. search needs) (λ c κs. search needs) returns (λ c κs. search needs)
     returns-2)

@@ -10,4 +10,5 @@ unfolding emptyObservation emptyLayout empty fromQuirks
 returns c = refl
 
 pub empty-spec : {M : Type 1} → statement M
-empty-spec = tie.close (tie.spec returns)
+empty-spec =
+    tie.close (tie.spec returns)

@@ -4,15 +4,9 @@ use borrow.Author.Needs.{needs}
 use Rattle.observable.proofs.TcpObservation.own_timestamp_is_nonzero.Statement.{statement}
 use Rattle.observable.proofs.TcpObservation.own_timestamp_is_nonzero.Tie as tie
 
-contains-requires : tie.Need-contains-requires
-contains-requires c κs = search needs
-
 returns : tie.Need-returns
 unfolding ownTimestampNonzero
 returns c = simp (← c .before .contains .ensures, c .if1 .taken)
-
-holds-kind-requires : tie.Need-holds-kind-requires
-holds-kind-requires c κs = search needs
 
 returns-2 : tie.Need-returns-2
 unfolding ownTimestampNonzero
@@ -20,4 +14,4 @@ returns-2 c = simp (← c .before .before .contains .ensures, c .before .if1 .le
 
 pub own-timestamp-is-nonzero-spec : {M : Type 1} → statement M
 own-timestamp-is-nonzero-spec =
-    tie.close (tie.spec contains-requires returns holds-kind-requires returns-2)
+    tie.close (tie.spec (λ c κs. search needs) returns (λ c κs. search needs) returns-2)

@@ -4,9 +4,6 @@ use borrow.Author.Needs.{needs}
 use Rattle.quirks.proofs.QuirkSet.add_if.Statement.{statement}
 use Rattle.quirks.proofs.QuirkSet.add_if.Tie as tie
 
-insert-requires : tie.Need-insert-requires
-insert-requires c κs = search needs
-
 returns : tie.Need-returns
 unfolding addIf
 returns c = simp (← c .insert .ensures, c .before .if1 .taken)
@@ -16,4 +13,5 @@ unfolding addIf
 returns-2 c = simp (c .if1 .left)
 
 pub add-if-spec : {M : Type 1} → statement M
-add-if-spec = tie.close (tie.spec insert-requires returns returns-2)
+add-if-spec =
+    tie.close (tie.spec (λ c κs. search needs) returns returns-2)

@@ -4,11 +4,9 @@ use borrow.Author.Needs.{needs}
 use Rattle.quirks.proofs.QuirkSet.contains.Statement.{statement}
 use Rattle.quirks.proofs.QuirkSet.contains.Tie as tie
 
-bit-requires : tie.Need-bit-requires
-bit-requires c κs = search needs
-
 returns : tie.Need-returns
 returns c = rw (c .before .bit .ensures) (masked _ _)
 
 pub contains-spec : {M : Type 1} → statement M
-contains-spec = tie.close (tie.spec bit-requires returns)
+contains-spec =
+    tie.close (tie.spec (λ c κs. search needs) returns)

@@ -9,4 +9,5 @@ unfolding difference
 returns c = search needs
 
 pub difference-spec : {M : Type 1} → statement M
-difference-spec = tie.close (tie.spec returns)
+difference-spec =
+    tie.close (tie.spec returns)

@@ -9,4 +9,5 @@ unfolding isEmpty
 returns c = search needs
 
 pub is-empty-spec : {M : Type 1} → statement M
-is-empty-spec = tie.close (tie.spec returns)
+is-empty-spec =
+    tie.close (tie.spec returns)

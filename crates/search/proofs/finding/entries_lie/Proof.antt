@@ -7,11 +7,9 @@ use Rattle.search.proofs.finding.entries_lie.Tie as tie
 returns : tie.Need-returns
 returns c = search cases
 
-add-result : tie.Need-add-result
-add-result c = search needs
-
 returns-2 : tie.Need-returns-2
 returns-2 c = search cases
 
 pub entries-lie-spec : {M : Type 1} → statement M
-entries-lie-spec = tie.close (tie.spec returns add-result returns-2)
+entries-lie-spec =
+    tie.close (tie.spec returns (λ c. search needs) (λ c. search needs) returns-2)

@@ -12,4 +12,5 @@ unfolding mssIf
 returns-2 c = simp (c .if1 .left)
 
 pub mss-of-spec : {M : Type 1} → statement M
-mss-of-spec = tie.close (tie.spec returns returns-2)
+mss-of-spec =
+    tie.close (tie.spec returns returns-2)

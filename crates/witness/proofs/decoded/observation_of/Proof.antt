@@ -4,63 +4,6 @@ use borrow.Author.Needs.{needs}
 use Rattle.witness.proofs.decoded.observation_of.Statement.{statement}
 use Rattle.witness.proofs.decoded.observation_of.Tie as tie
 
-byte-at-requires : tie.Need-byte-at-requires
-byte-at-requires c κs = search needs
-
-version-at-requires : tie.Need-version-at-requires
-version-at-requires c κs = search needs
-
-byte-at-requires-2 : tie.Need-byte-at-requires-2
-byte-at-requires-2 c κs = search needs
-
-byte-at-requires-3 : tie.Need-byte-at-requires-3
-byte-at-requires-3 c κs = search needs
-
-byte-at-requires-4 : tie.Need-byte-at-requires-4
-byte-at-requires-4 c κs = search needs
-
-ttl-at-requires : tie.Need-ttl-at-requires
-ttl-at-requires c κs = search needs
-
-byte-at-requires-5 : tie.Need-byte-at-requires-5
-byte-at-requires-5 c κs = search needs
-
-mss-at-requires : tie.Need-mss-at-requires
-mss-at-requires c κs = search needs
-
-pair-at-requires : tie.Need-pair-at-requires
-pair-at-requires c κs = search needs
-
-pair-at-requires-2 : tie.Need-pair-at-requires-2
-pair-at-requires-2 c κs = search needs
-
-byte-at-requires-6 : tie.Need-byte-at-requires-6
-byte-at-requires-6 c κs = search needs
-
-byte-at-requires-7 : tie.Need-byte-at-requires-7
-byte-at-requires-7 c κs = search needs
-
-scale-at-requires : tie.Need-scale-at-requires
-scale-at-requires c κs = search needs
-
-layout-at-requires : tie.Need-layout-at-requires
-layout-at-requires c κs = search needs
-
-quirks-at-requires : tie.Need-quirks-at-requires
-quirks-at-requires c κs = search needs
-
-byte-at-requires-8 : tie.Need-byte-at-requires-8
-byte-at-requires-8 c κs = search needs
-
-payload-at-requires : tie.Need-payload-at-requires
-payload-at-requires c κs = search needs
-
-mss-at-requires-2 : tie.Need-mss-at-requires-2
-mss-at-requires-2 c κs = search needs
-
-byte-at-requires-9 : tie.Need-byte-at-requires-9
-byte-at-requires-9 c κs = search needs
-
 returns : tie.Need-returns
 unfolding observationAt
 returns c =
@@ -89,24 +32,8 @@ returns c =
 pub observation-of-spec : {M : Type 1} → statement M
 observation-of-spec =
     tie.close
-    (tie.spec
-    byte-at-requires
-    version-at-requires
-    byte-at-requires-2
-    byte-at-requires-3
-    byte-at-requires-4
-    ttl-at-requires
-    byte-at-requires-5
-    mss-at-requires
-    pair-at-requires
-    pair-at-requires-2
-    byte-at-requires-6
-    byte-at-requires-7
-    scale-at-requires
-    layout-at-requires
-    quirks-at-requires
-    byte-at-requires-8
-    payload-at-requires
-    mss-at-requires-2
-    byte-at-requires-9
+    (tie.spec (λ c κs. search needs) (λ c κs. search needs) (λ c κs. search needs) (λ c κs. search needs)
+    (λ c κs. search needs) (λ c κs. search needs) (λ c κs. search needs) (λ c κs. search needs) (λ c κs. search needs)
+    (λ c κs. search needs) (λ c κs. search needs) (λ c κs. search needs) (λ c κs. search needs) (λ c κs. search needs)
+    (λ c κs. search needs) (λ c κs. search needs) (λ c κs. search needs) (λ c κs. search needs) (λ c κs. search needs)
     returns)

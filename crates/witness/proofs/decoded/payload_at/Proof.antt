@@ -13,4 +13,5 @@ unfolding payloadAt
 returns-2 c = search cases
 
 pub payload-at-spec : {M : Type 1} → statement M
-payload-at-spec = tie.close (tie.spec returns returns-2)
+payload-at-spec =
+    tie.close (tie.spec returns returns-2)

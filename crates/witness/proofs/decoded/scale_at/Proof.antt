@@ -13,4 +13,5 @@ unfolding scaleAt
 returns-2 c = search cases
 
 pub scale-at-spec : {M : Type 1} → statement M
-scale-at-spec = tie.close (tie.spec returns returns-2)
+scale-at-spec =
+    tie.close (tie.spec returns returns-2)

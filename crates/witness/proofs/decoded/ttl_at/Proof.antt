@@ -21,4 +21,5 @@ unfolding ttlAt
 returns-4 c = search cases
 
 pub ttl-at-spec : {M : Type 1} → statement M
-ttl-at-spec = tie.close (tie.spec returns returns-2 returns-3 returns-4)
+ttl-at-spec =
+    tie.close (tie.spec returns returns-2 returns-3 returns-4)

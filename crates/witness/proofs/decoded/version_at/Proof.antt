@@ -13,4 +13,5 @@ unfolding versionAt
 returns-2 c = search cases
 
 pub version-at-spec : {M : Type 1} → statement M
-version-at-spec = tie.close (tie.spec returns returns-2)
+version-at-spec =
+    tie.close (tie.spec returns returns-2)

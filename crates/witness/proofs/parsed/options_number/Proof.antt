@@ -5,15 +5,9 @@ use borrow.Author.Needs.{needs}
 use Rattle.witness.proofs.parsed.options_number.Statement.{statement}
 use Rattle.witness.proofs.parsed.options_number.Tie as tie
 
-options-answer-requires : tie.Need-options-answer-requires
-options-answer-requires c κs = search needs
-
 returns : tie.Need-returns
 unfolding readNumber
 returns c = search cases
-
-parsed-number-requires : tie.Need-parsed-number-requires
-parsed-number-requires c κs = search needs
 
 returns-2 : tie.Need-returns-2
 unfolding readNumber
@@ -21,4 +15,4 @@ returns-2 c = search cases
 
 pub options-number-spec : {M : Type 1} → statement M
 options-number-spec =
-    tie.close (tie.spec options-answer-requires returns parsed-number-requires returns-2)
+    tie.close (tie.spec (λ c κs. search needs) returns (λ c κs. search needs) returns-2)

@@ -13,4 +13,5 @@ unfolding firstOnly
 returns-2 c = search cases
 
 pub first-only-spec : {M : Type 1} → statement M
-first-only-spec = tie.close (tie.spec returns returns-2)
+first-only-spec =
+    tie.close (tie.spec returns returns-2)

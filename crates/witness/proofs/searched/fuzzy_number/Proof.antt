@@ -5,35 +5,17 @@ use borrow.Author.Needs.{needs}
 use Rattle.witness.proofs.searched.fuzzy_number.Statement.{statement}
 use Rattle.witness.proofs.searched.fuzzy_number.Tie as tie
 
-add-result : tie.Need-add-result
-add-result c = search needs
-
 returns : tie.Need-returns
 unfolding fuzzyNumber
 returns c = search cases
-
-hops-number-requires : tie.Need-hops-number-requires
-hops-number-requires c κs = search needs
 
 returns-2 : tie.Need-returns-2
 unfolding fuzzyNumber
 returns-2 c = search cases
 
-bits-requires : tie.Need-bits-requires
-bits-requires c κs = search needs
-
-wide32-requires : tie.Need-wide32-requires
-wide32-requires c κs = search needs
-
 returns-3 : tie.Need-returns-3
 unfolding fuzzyNumber
 returns-3 c = simp (← c .before .bits .ensures, ← c .wide32 .ensures) (search cases)
-
-bits-requires-2 : tie.Need-bits-requires-2
-bits-requires-2 c κs = search needs
-
-wide32-requires-2 : tie.Need-wide32-requires-2
-wide32-requires-2 c κs = search needs
 
 returns-4 : tie.Need-returns-4
 unfolding fuzzyNumber
@@ -46,15 +28,5 @@ returns-5 c = search cases
 pub fuzzy-number-spec : {M : Type 1} → statement M
 fuzzy-number-spec =
     tie.close
-    (tie.spec
-    add-result
-    returns
-    hops-number-requires
-    returns-2
-    bits-requires
-    wide32-requires
-    returns-3
-    bits-requires-2
-    wide32-requires-2
-    returns-4
-    returns-5)
+    (tie.spec (λ c. search needs) returns (λ c κs. search needs) returns-2 (λ c κs. search needs) (λ c κs. search needs)
+    returns-3 (λ c κs. search needs) (λ c κs. search needs) returns-4 returns-5)

@@ -3,18 +3,6 @@ use borrow.Author.Needs.{needs}
 use Rattle.witness.proofs.shown.scale_number.Statement.{statement}
 use Rattle.witness.proofs.shown.scale_number.Tie as tie
 
-enum-told : tie.Need-enum-told
-enum-told c = search needs
-
-enum-known-wscale : tie.Need-enum-known-wscale
-enum-known-wscale c = search needs
-
-cast-result : tie.Need-cast-result
-cast-result c = search needs
-
-add-result : tie.Need-add-result
-add-result c = search needs
-
 returns : tie.Need-returns
 returns c = simp (c .enum-told .given .1)
 
@@ -23,4 +11,5 @@ returns-2 c = simp (c .before .wscale .given .1)
 
 pub scale-number-spec : {M : Type 1} → statement M
 scale-number-spec =
-    tie.close (tie.spec enum-told enum-known-wscale cast-result add-result returns returns-2)
+    tie.close
+    (tie.spec (λ c. search needs) (λ c. search needs) (λ c. search needs) (λ c. search needs) returns returns-2)

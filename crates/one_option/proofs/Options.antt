@@ -1,0 +1,147 @@
+-- The options place by place: the option at a place, its own bytes, where it ends and what follows.
+use mathlib.Core.Path.{_≡_, refl, sym, _∙_, ap}
+use mathlib.Core.Bool.{true, false, _&&_}
+use mathlib.Core.List.{List, [], _∷_}
+use Prim.Native.Nat.{ℕ, zero, suc, _+_, _-_, _<_, _≤_, min, max}
+use native.Mathlib.Omega.{arith}
+use native.Mathlib.Nat.{add-zero, zero-min, suc-min-suc}
+use native.Mathlib.Numerals.{add-one}
+use native.Mathlib.Decide.{decLe}
+use lib.Dec.{ltb}
+use lib.ListN.{length, take, drop, length-take, length-drop}
+use lib.Seq.{drop-cons, drop-drop, drop-nil, take-nil, getD-take, getD-drop}
+use borrow.Author.Tests.{ltb-true, lt-ltb, le-ltb, ne-eqb}
+use Rattle.basis.specs.Bytes.{byteAt, part}
+use Rattle.basis.proofs.Tests.{and-left, and-right}
+use Rattle.one_option.specs.declared.OptionStep.{OptionStep}
+use Rattle.one_option.specs.Options.{Opt, asked, runsPast, shortLength, optionsAfter, optionsOf, optionAt, stepOf}
+
+-- ---- to skip or take more than there is is to skip or take what there is
+
+pub skipped : (k : ℕ) (s : List ℕ) → optionsAfter k s ≡ optionsOf (drop k s)
+unfolding optionsAfter
+skipped zero s = refl
+skipped (suc k) [] = refl
+skipped (suc k) (b ∷ rest) = skipped k rest
+
+drop-clipped : (k : ℕ) (s : List ℕ) → drop k s ≡ drop (min k (length s)) s
+drop-clipped zero s = rw zero-min
+drop-clipped (suc k) [] = sym (drop-nil (min (suc k) 0))
+drop-clipped (suc k) (b ∷ s) = rw suc-min-suc (drop-clipped k s)
+
+pub take-clipped : (k : ℕ) (s : List ℕ) → take k s ≡ take (min k (length s)) s
+take-clipped zero s = rw zero-min
+take-clipped (suc k) [] = sym (take-nil (min (suc k) 0))
+take-clipped (suc k) (b ∷ s) = rw suc-min-suc (ap (_∷_ b) (take-clipped k s))
+
+-- ---- what an option asks for, kind by kind
+
+module _ (kind : ℕ) (rest : List ℕ) where
+  asked-last : kind ≡ 0 → asked kind rest ≡ length rest
+  unfolding asked
+  asked-last e = rw e
+
+  asked-nop : kind ≡ 1 → asked kind rest ≡ 0
+  unfolding asked
+  asked-nop e = rw e
+
+  asked-sized : (kind ≡ 0 → ⊥) → (kind ≡ 1 → ⊥) → asked kind rest ≡ max (byteAt rest 0) 2 - 1
+  unfolding asked
+  asked-sized n0 n1 = rw (ne-eqb kind 0 n0, ne-eqb kind 1 n1)
+
+-- An option whose length byte is 0 or 1 has all that it asks for.
+pub never-both : (o : Opt) → shortLength o ≡ true → runsPast o ≡ false
+unfolding runsPast shortLength
+never-both o short =
+    let kind = ltb-true 1 (o .kind) (and-left _ _ short) in
+    let some = ltb-true 0 (length (o .own)) (and-left _ _ (and-right (ltb 1 (o .kind)) _ short)) in
+    let small = ltb-true (byteAt (o .own) 0) 2 (and-right (ltb 0 (length (o .own))) _ (and-right (ltb 1 (o .kind)) _ short)) in
+    rw (asked-sized (o .kind) (o .own) (λ e. omega arith) (λ e. omega arith))
+    (le-ltb (length (o .own)) (max (byteAt (o .own) 0) 2 - 1) (omega arith))
+
+-- ---- one step
+
+-- Its two tests in places of the string.
+module _ (at all b : ℕ) where
+  past-places : at < all → ltb (min (max b 2 - 1) (all - (at + 1))) (max b 2 - 1) ≡ ltb all (at + max b 2)
+  past-places inside =
+      elim (decLe (at + max b 2) all) [
+        | yes h ↦ rw (le-ltb (min (max b 2 - 1) (all - (at + 1))) (max b 2 - 1) (omega arith), le-ltb all (at + max b 2) h)
+        | no h ↦ rw (lt-ltb (min (max b 2 - 1) (all - (at + 1))) (max b 2 - 1) (omega arith), lt-ltb all (at + max b 2) (omega arith))
+      ]
+
+  byte-places : ltb 0 (min (max b 2 - 1) (all - (at + 1))) ≡ ltb (at + 1) all
+  byte-places =
+      elim (decLe all (at + 1)) [
+        | yes h ↦ rw (le-ltb 0 (min (max b 2 - 1) (all - (at + 1))) (omega arith), le-ltb (at + 1) all h)
+        | no h ↦ rw (lt-ltb 0 (min (max b 2 - 1) (all - (at + 1))) (omega arith), lt-ltb (at + 1) all (omega arith))
+      ]
+
+module _ (s : List ℕ) (at : ℕ) where
+  pub step-kind : stepOf s at .kind ≡ optionAt s at .kind
+  unfolding stepOf
+  step-kind = refl
+
+  -- Its own bytes.
+  pub own-part : part (at + 1) (stepOf s at .end) s ≡ optionAt s at .own
+  unfolding stepOf
+  own-part =
+      let n = asked (byteAt s at) (drop (at + 1) s) in
+      let cut : min (at + 1 + n) (length s) - (at + 1) ≡ min n (length (drop (at + 1) s)) = rw length-drop (omega arith) in
+      rw cut (sym (take-clipped n (drop (at + 1) s)))
+
+  -- Kind 0 at a place, or the string's end before it.
+  pub last-step
+      : (kind : ℕ) → kind ≡ 0 → byteAt s at ≡ 0 → record { kind = kind; end = length s; past = false; short = false } ≡ stepOf s at
+  unfolding stepOf runsPast shortLength
+  last-step kind k e =
+      let own = take (asked 0 (drop (at + 1) s)) (drop (at + 1) s) in
+      let ends : min (at + 1 + (length s - (at + 1))) (length s) ≡ length s = omega arith in
+      rw (k, e, asked-last 0 own refl, le-ltb (length own) (length own) (omega arith))
+      (rw (asked-last 0 (drop (at + 1) s) refl, length-drop, ends))
+
+-- It ends behind its kind byte, and within the string.
+pub step-lies
+    : (s : List ℕ) (at : ℕ) {step : OptionStep} → step ≡ stepOf s at → at < length s → (at < step .end) × (step .end ≤ length s)
+unfolding stepOf
+step-lies s at is inside = rw is (omega arith, omega arith)
+
+module _ (s : List ℕ) (at : ℕ) (inside : at < length s) where
+  -- The option at a place, and those after it.
+  pub options-from : optionsOf (drop at s) ≡ optionAt s at ∷ optionsOf (drop (stepOf s at .end) s)
+  unfolding stepOf optionsAfter
+  options-from =
+      let n = asked (byteAt s at) (drop (at + 1) s) in
+      ap optionsOf (drop-cons s at 0 inside ∙ ap (λ (k : ℕ). byteAt s at ∷ drop k s) (sym (add-one at)))
+      ∙ ap (_∷_ (optionAt s at))
+      (skipped n (drop (at + 1) s) ∙ ap optionsOf (drop-drop n (at + 1) s ∙ drop-clipped (at + 1 + n) s))
+
+  pub nop-step : byteAt s at ≡ 1 → record { kind = byteAt s at; end = at + 1; past = false; short = false } ≡ stepOf s at
+  unfolding stepOf runsPast shortLength
+  nop-step e =
+      let own = take (asked 1 (drop (at + 1) s)) (drop (at + 1) s) in
+      let ends : min (at + 1 + 0) (length s) ≡ at + 1 = omega arith in
+      rw (e, asked-nop 1 own refl, le-ltb (length own) 0 (omega arith), asked-nop 1 (drop (at + 1) s) refl, ends)
+
+  pub sized-step
+      : (byteAt s at ≡ 0 → ⊥)
+      → (byteAt s at ≡ 1 → ⊥)
+      → record {
+        kind = byteAt s at;
+        end = min (at + max (byteAt s (at + 1)) 2) (length s);
+        past = ltb (length s) (at + max (byteAt s (at + 1)) 2);
+        short = ltb (at + 1) (length s) && ltb (byteAt s (at + 1)) 2;
+      }
+      ≡ stepOf s at
+  unfolding stepOf runsPast shortLength
+  sized-step n0 n1 =
+      let b = byteAt s (at + 1) in
+      let m = max (byteAt s (at + 1)) 2 - 1 in
+      let left = drop (at + 1) s in
+      let next : byteAt left 0 ≡ b = getD-drop (at + 1) s 0 0 ∙ ap (byteAt s) (add-zero (at + 1)) in
+      let asks : asked (byteAt s at) left ≡ m = asked-sized (byteAt s at) left n0 n1 ∙ ap (λ (x : ℕ). max x 2 - 1) next in
+      let length-byte : byteAt (take m left) 0 ≡ b = getD-take m left 0 0 (omega arith) ∙ next in
+      let size : length (take m left) ≡ min m (length s - (at + 1)) = rw (length-take, length-drop) in
+      let ends : at + 1 + m ≡ at + max b 2 = omega arith in
+      rw (asks, asked-sized (byteAt s at) (take m left) n0 n1, length-byte, size, ends)
+      (rw (past-places at (length s) b inside, lt-ltb 1 (byteAt s at) (omega arith), byte-places at (length s) b))

@@ -1,0 +1,3 @@
+pub mod Back
+pub mod Table
+pub mod Unique

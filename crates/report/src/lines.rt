@@ -1,0 +1,67 @@
+// The lines of the answers, put into a page from a place on; each function hands back the place behind what it put.
+ghost use mathlib.Core.List.{_++_};
+ghost use Rattle.text.specs.Decimal.{decimal, newline};
+ghost use Rattle.text.specs.Written.{Put};
+ghost use Rattle.report.specs.Text.{foundText, lineOf};
+use found::Found;
+use packet_answer::PacketAnswer;
+use refusals::Refusal;
+use refusals::refusal_number;
+use text::put_byte;
+use text::put_decimal;
+use text::put_word;
+
+// A number, and the end of the line.
+fn put_number(page: &mut [u8], at: usize, n: u16) -> usize
+    ensures { λ r. ⌜ Put (now (page .entry)) at (decimal n ++ newline) r (now (page .exit)) ⌝ }
+{
+    let end = put_decimal(page, at, n);
+    put_byte(page, end, b'\n')
+}
+
+// A word, a number behind it, and the end of the line.
+pub(crate) fn put_numbered(page: &mut [u8], at: usize, word: &[u8], n: u16) -> usize
+    ensures { λ r. ⌜ Put (now (page .entry)) at (now (word .entry) ++ decimal n ++ newline) r (now (page .exit)) ⌝ }
+{
+    let next = put_word(page, at, word);
+    put_number(page, next, n)
+}
+
+// What was found, and the end of the line.
+fn put_found(page: &mut [u8], at: usize, found: Found) -> usize
+    ensures { λ r. ⌜ Put (now (page .entry)) at (foundText found ++ newline) r (now (page .exit)) ⌝ }
+{
+    match found {
+        Found::None => put_word(page, at, b"none\n"),
+        Found::Exact(label) => {
+            let next = put_word(page, at, b"exact ");
+            put_number(page, next, label)
+        }
+        Found::Fuzzy(label, _) => {
+            let next = put_word(page, at, b"fuzzy ");
+            put_number(page, next, label)
+        }
+    }
+}
+
+pub(crate) fn put_line(page: &mut [u8], at: usize, answer: PacketAnswer) -> usize
+    ensures { λ r. ⌜ Put (now (page .entry)) at (lineOf answer) r (now (page .exit)) ⌝ }
+{
+    match answer {
+        PacketAnswer::Syn(found) => {
+            let next = put_word(page, at, b"syn ");
+            put_found(page, next, found)
+        }
+        PacketAnswer::SynAck(found) => {
+            let next = put_word(page, at, b"synack ");
+            put_found(page, next, found)
+        }
+        PacketAnswer::Nothing => put_word(page, at, b"nothing\n"),
+        PacketAnswer::Refused(refusal) => put_numbered(
+            page,
+            at,
+            b"refused ",
+            refusal_number(Refusal::Packet(refusal)) as u16,
+        ),
+    }
+}

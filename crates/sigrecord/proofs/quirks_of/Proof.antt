@@ -1,0 +1,15 @@
+-- `sigrecord::quirks_of` meets its contract.
+use Rattle.sigrecord.specs.Record.{signatureOf}
+use Rattle.basis.specs.Bytes.{be32}
+use borrow.Author.Needs.{needs}
+use Rattle.sigrecord.proofs.quirks_of.Statement.{statement}
+use Rattle.sigrecord.proofs.quirks_of.Tie as tie
+
+returns : tie.Need-returns
+unfolding signatureOf be32
+returns c = cc
+
+pub quirks-of-spec : {M : Type 1} → statement M
+quirks-of-spec =
+    tie.close
+    (tie.spec (λ c κs. search needs) (λ c κs. search needs) (λ c κs. search needs) (λ c κs. search needs) returns)

@@ -1,0 +1,53 @@
+-- `sigrecord::window_of` meets its contract.
+use Rattle.sigrecord.specs.Record.{windowOf, signatureOf}
+use Rattle.basis.proofs.Rules.{cases}
+use borrow.Author.Needs.{needs}
+use Rattle.sigrecord.proofs.window_of.Statement.{statement}
+use Rattle.sigrecord.proofs.window_of.Tie as tie
+
+returns : tie.Need-returns
+unfolding signatureOf windowOf
+returns c = simp (← c .before .before .byte-at .ensures, ← c .before .be16-at .ensures) (search cases)
+
+returns-2 : tie.Need-returns-2
+unfolding signatureOf windowOf
+returns-2 c = simp (← c .before .before .before .byte-at .ensures, ← c .before .before .be16-at .ensures) (search cases)
+
+returns-3 : tie.Need-returns-3
+unfolding signatureOf windowOf
+returns-3 c =
+    let at-be16-at = c .before .before .before in
+    let at-byte-at = at-be16-at .before in
+    simp (
+      ← at-byte-at .byte-at .ensures,
+      ← at-be16-at .be16-at .ensures,
+    )
+    (search cases)
+
+returns-4 : tie.Need-returns-4
+unfolding signatureOf windowOf
+returns-4 c =
+    let at-be16-at = c .before .before .before .before in
+    let at-byte-at = at-be16-at .before in
+    simp (
+      ← at-byte-at .byte-at .ensures,
+      ← at-be16-at .be16-at .ensures,
+    )
+    (search cases)
+
+returns-5 : tie.Need-returns-5
+unfolding signatureOf windowOf
+returns-5 c =
+    let at-be16-at = c .before .before .before .before in
+    let at-byte-at = at-be16-at .before in
+    simp (
+      ← at-byte-at .byte-at .ensures,
+      ← at-be16-at .be16-at .ensures,
+    )
+    (search cases)
+
+pub window-of-spec : {M : Type 1} → statement M
+window-of-spec =
+    tie.close
+    (tie.spec (λ c κs. search needs) (λ c κs. search needs) returns returns-2 returns-3 (λ c. search needs) returns-4
+    (λ c. search needs) returns-5)
