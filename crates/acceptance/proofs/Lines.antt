@@ -1,9 +1,9 @@
 -- Every line is read back, so lines that print different things differ; and every word has its letters.
 use mathlib.Core.Path.{_≡_, refl, sym, _∙_, ap}
 use mathlib.Core.Bool.{Bool, true, false, cond, true≢false}
-use mathlib.Core.List.{List, [], _∷_, _++_}
+use mathlib.Core.List.{List, _++_}
 use mathlib.Core.Logic.{_↔_}
-use Prim.Native.Nat.{ℕ, _<_, _≤_}
+use Prim.Native.Nat.{ℕ, _<_}
 use native.Mathlib.Omega.{arith}
 use lib.Dec.{eqb}
 use lib.ListN.{drop}
@@ -28,8 +28,8 @@ use Rattle.gateway.proofs.Room.{FoundFits, PacketFits}
 use Rattle.gateway.proofs.Fits.{packet-fits}
 use Rattle.text.specs.Decimal.{width, decimal, newline}
 use Rattle.text.proofs.Decimal.{digitsRead, read-back}
-use Rattle.report.specs.Text.{packetsWord, refusedWord, nothingWord, synWord, synackWord, noneWord, exactWord, fuzzyWord, foundText, answerText, lineOf, headLine, refusedLine}
-use Rattle.acceptance.specs.Lines.{PrintedFound, Printed, printedFound, printed, TwoBytes, LabelFits, Words, Lines}
+use Rattle.report.specs.Text.{refusedWord, nothingWord, synWord, synackWord, noneWord, exactWord, fuzzyWord, foundText, answerText, lineOf, headLine, refusedLine}
+use Rattle.acceptance.specs.Lines.{PrintedFound, Printed, printed, TwoBytes, LabelFits, Words, Lines}
 
 -- ---- a line, read back
 

@@ -12,9 +12,7 @@ use Rattle.observable.specs.Observation.{emptyObservation}
 use Rattle.ip.specs.declared.IpFacts.{IpFacts}
 use Rattle.ip.specs.declared.IpRead.{IpRead}
 use Rattle.refusals.specs.declared.PacketRefusal.{PacketRefusal}
-use Rattle.refusals.specs.declared.PacketRefusal.the-variants as refusal
 use Rattle.refusals.specs.declared.Refusal.the-variants as table
-use Rattle.refusals.specs.Refusals.{packetNumber}
 use Rattle.refusals.proofs.Back.{numbered}
 use Rattle.ip.specs.Ip.{ipv4Facts, ipv6Facts}
 use Rattle.ip.proofs.Ip.{Given, given}

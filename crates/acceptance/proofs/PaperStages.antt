@@ -1,11 +1,9 @@
 -- The stages that a whole answer is made of, on paper: the IP stage meets rows 1 to 6, a list's header row 9.
 use mathlib.Core.Path.{_≡_, refl, _∙_, ap, subst}
-use mathlib.Core.Bool.{Bool, true, false, cond, not}
+use mathlib.Core.Bool.{Bool, true, false, cond}
 use mathlib.Core.List.{List, [], _∷_, _++_}
 use Prim.Native.Nat.{ℕ, _<_}
 use native.Mathlib.Omega.{arith}
-use Rattle.rfc.specs.Rfc791 as v4
-use Rattle.rfc.specs.Rfc8200 as v6
 use Rattle.rfc.specs.Rfc9293.{control}
 use Rattle.tcp.specs.declared.Mss.the-variants as mss
 use Rattle.ip.specs.declared.IpRead.{IpRead}

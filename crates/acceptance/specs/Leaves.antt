@@ -46,7 +46,6 @@ use Rattle.window_size.proofs.detect_win_multi as detect-win-multi'
 use Rattle.ip_options.specs.IpOptions.{ipv4OptionLength, ipv6ExtensionLength}
 use Rattle.ip_options.proofs.calculate_ipv4_length as calculate-ipv4-length'
 use Rattle.ip_options.proofs.calculate_ipv6_length as calculate-ipv6-length'
-use Rattle.observable.proofs.TcpObservation.empty as empty'
 use Rattle.acceptance.specs.Promised.{Answers}
 
 pub record RefusalNumbers : Type 0 where

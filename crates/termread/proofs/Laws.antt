@@ -9,7 +9,7 @@ use lib.ListN.{length, take, drop, take-append-drop, length-drop, length-append}
 use lib.Seq.{length-take-le, take-all, take-append-seam, drop-append-seam, drop-append-le, drop-drop}
 use Rattle.bundle.specs.Answers.{answersFrom}
 use Rattle.text.specs.Written.{written}
-use Rattle.report.specs.Pages.{Paged, pageSize, pageFrom, linesOf, firstPage, nextPage, allPages, outputOfInput}
+use Rattle.report.specs.Pages.{Paged, pageSize, linesOf, firstPage, nextPage, allPages, outputOfInput}
 use Rattle.report.specs.declared.Progress.{Progress}
 use Rattle.report.proofs.Whole.{page-and-rest, later-pages, all-pages, first-page-within, next-page-within}
 use Rattle.termread.specs.Reached.{Reached, ReachedIf}

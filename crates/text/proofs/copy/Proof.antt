@@ -1,7 +1,7 @@
 use Rattle.text.proofs.Writing.{copied, copy-turn}
 use lib.Seq.{paste, paste-zero}
 use lib.ListN.{length}
-use Prim.Native.Nat.{_≤_, _-_, _+_}
+use Prim.Native.Nat.{_≤_, _-_}
 use native.Mathlib.Omega.{arith}
 use mathlib.Core.Path.{_≡_, refl, _∙_}
 use borrow.Author.Needs.{needs}
