@@ -36,7 +36,7 @@ def beside(tried, public):
     rows = {}
     for edit in tried:
         kind, name = edit.kind()
-        if kind != "function" or name not in public:
+        if name and (kind != "function" or name not in public):
             rows.setdefault((kind, name), []).append(edit.name)
     said = []
     for kind in ("law", "definition", "function"):
@@ -54,7 +54,7 @@ def block(crate, promises):
     rows = ""
     for promise in promises:
         f = promise.function
-        wrong = ", ".join(edit.name for edit in tried if edit.of[0] == f.path()) or "-"
+        wrong = ", ".join(edit.name for edit in tried if edit.of == [f.path()]) or "-"
         rows += f"| `{crate}::{f.path()}` | {shown(promise)} | `{theorem(promise, promises)}` | {wrong} |\n"
     table = HEAD + rows if rows else ""
     other = beside(tried, {promise.function.path() for promise in promises})

@@ -30,8 +30,8 @@ class Edit:
                 self.pairs.append((self.files[-1] if self.files else "", old, value))
 
     def kind(self):
-        """`law`, `definition` or `function`; and the name that follows."""
-        word, _, name = self.of[0].partition(" ")
+        """`law`, `definition` or `function`; and the name that follows. An edit that does not say has none."""
+        word, _, name = (self.of or [""])[0].partition(" ")
         return (word, name) if name else ("function", word)
 
 
