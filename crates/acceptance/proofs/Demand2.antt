@@ -17,7 +17,8 @@ use Rattle.window_size.proofs.First.{exactly-if, the-first}
 use Rattle.observable.specs.declared.TcpObservation.{TcpObservation}
 use Rattle.observable.specs.Observation.{emptyLayout, emptyObservation}
 use Rattle.one_option.specs.Options.{asked, runsPast, optionsAfter}
-use Rattle.one_option.specs.See.{laterMss, laterScale, trailingNonzero, excessiveScaling, ownTimestampZero, peerTimestampNonzero, laterQuirks, seeOption}
+use Rattle.one_option.specs.See.{laterMss, laterScale, trailingNonzero, excessiveScaling, ownTimestampZero, peerTimestampNonzero}
+use Rattle.one_option.specs.See.{laterQuirks, seeOption}
 use Rattle.syn_options.specs.Walk.{entryByte, putEntry, walkFrom, walkOf}
 use Rattle.refusals.specs.declared.PacketRefusal.the-variants as refusal
 use Rattle.refusals.specs.declared.ListRefusal.the-variants as why
@@ -109,7 +110,8 @@ unfolding searchList checkList listFits emptyObservation emptyLayout be16
 nothing-fits = refl
 
 shut-out : ShutOut
-unfolding emptyObservation walkOf walkFrom optionsAfter asked runsPast putEntry entryByte seeOption laterMss laterScale laterQuirks trailingNonzero excessiveScaling ownTimestampZero peerTimestampNonzero anyNonzero addIf with bitOf placeOf empty fromQuirks be16 be32
+unfolding emptyObservation walkOf walkFrom optionsAfter asked runsPast putEntry entryByte seeOption laterMss laterScale laterQuirks
+    trailingNonzero excessiveScaling ownTimestampZero peerTimestampNonzero anyNonzero addIf with bitOf placeOf empty fromQuirks be16 be32
 shut-out =
     record {
       refuses-all = λ h.
@@ -143,4 +145,5 @@ shut-out =
     }
 
 pub demand2 : Demand2
-demand2 = record { multiplier = multiplier-theorem; observation = the-observation; single = single-fit; values = values; shutOut = shut-out }
+demand2 =
+    record { multiplier = multiplier-theorem; observation = the-observation; single = single-fit; values = values; shutOut = shut-out }

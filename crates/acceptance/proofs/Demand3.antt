@@ -16,7 +16,8 @@ use Rattle.packet_answer.specs.declared.PacketAnswer.{PacketAnswer}
 use Rattle.packet_answer.specs.Packet.{peerOf, answerOf, afterReading}
 use Rattle.bundle.specs.declared.BundleCheck.{BundleCheck}
 use Rattle.bundle.specs.declared.BundleCheck.the-variants as check
-use Rattle.bundle.specs.Bundle.{packetCount, packetsOffset, listOf, packetBytes, packetPeer, packetEnd, packetFits, packetsFit, listLies, bundleFits, checkBundle}
+use Rattle.bundle.specs.Bundle.{packetCount, packetsOffset, listOf, packetBytes, packetPeer, packetEnd, packetFits, packetsFit, listLies}
+use Rattle.bundle.specs.Bundle.{bundleFits, checkBundle}
 use Rattle.bundle.specs.Answers.{answerAt, packetLies, answersFrom, bundleAnswer}
 use Rattle.report.specs.Text.{lineOf}
 use Rattle.report.specs.Pages.{outputOf, outputOfInput}
@@ -27,7 +28,8 @@ use Rattle.acceptance.proofs.Overlap.{overlap}
 use Rattle.one_option.specs.Options.{optionsOf}
 use Rattle.alike.specs.Ip.{AlikeIpv4, AlikeIpv6}
 use Rattle.alike.specs.Packets.{Alike}
-use Rattle.alike.proofs.Equivalence.{row-refl, row-sym, row-trans, ipv4-sym, ipv4-trans, ipv6-sym, ipv6-trans, tcp-refl, tcp-sym, tcp-trans, alike-refl, alike-sym, alike-trans}
+use Rattle.alike.proofs.Equivalence.{row-refl, row-sym, row-trans, ipv4-sym, ipv4-trans, ipv6-sym, ipv6-trans, tcp-refl, tcp-sym, tcp-trans}
+use Rattle.alike.proofs.Equivalence.{alike-refl, alike-sym, alike-trans}
 use Rattle.alike.proofs.Exact.{exact, free-byte}
 use Rattle.alike.proofs.TcpExact.{exact-tcp}
 use Rattle.alike.proofs.OptionsDiffer.{exact-options}

@@ -52,7 +52,10 @@ module _ (o : TcpObservation) (l : List ℕ) where
   unfolding places
   few = numbers-length 0 (recordCount l)
 
-  fit-here : (k : ℕ) → k < length places → fitAt (featuresOf o) (o .olayout .kinds) (o .olayout .bytes) l (getD places k 0) ≡ fitOfRecord o l k
+  fit-here
+      : (k : ℕ)
+      → k < length places
+      → fitAt (featuresOf o) (o .olayout .kinds) (o .olayout .bytes) l (getD places k 0) ≡ fitOfRecord o l k
   fit-here k h = ap (fitOfRecord o l) (here k h)
 
   as-outcome : {x : Found} → order.Outcome (featuresOf o) (o .olayout .kinds) (o .olayout .bytes) l places x → Outcome o l x

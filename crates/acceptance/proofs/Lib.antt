@@ -19,6 +19,8 @@ pub mod PacketRefusals
 pub mod PaperRows
 pub mod PaperStages
 pub mod PaperTold
+pub mod Promised
+pub mod Promises
 pub mod Refusals
 pub mod Stages
 pub mod Unchecked

@@ -28,7 +28,8 @@ use Rattle.gateway.proofs.Room.{FoundFits, PacketFits}
 use Rattle.gateway.proofs.Fits.{packet-fits}
 use Rattle.text.specs.Decimal.{width, decimal, newline}
 use Rattle.text.proofs.Decimal.{digitsRead, read-back}
-use Rattle.report.specs.Text.{refusedWord, nothingWord, synWord, synackWord, noneWord, exactWord, fuzzyWord, foundText, answerText, lineOf, headLine, refusedLine}
+use Rattle.report.specs.Text.{refusedWord, nothingWord, synWord, synackWord, noneWord, exactWord, fuzzyWord, foundText, answerText, lineOf}
+use Rattle.report.specs.Text.{headLine, refusedLine}
 use Rattle.acceptance.specs.Lines.{PrintedFound, Printed, printed, TwoBytes, LabelFits, Words, Lines}
 
 -- ---- a line, read back

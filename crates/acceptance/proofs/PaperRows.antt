@@ -29,7 +29,8 @@ use Rattle.bundle.specs.declared.BundleCheck.the-variants as bundle
 use Rattle.bundle.specs.Bundle.{listOf, checkBundle, bundleRefusal}
 use Rattle.gateway.specs.Code.{afterList, gatewayAnswer}
 use Rattle.acceptance.specs.Refusals.{First, PacketRow, packetOrder, Refused, Gives, Answered, ListRow}
-use Rattle.acceptance.specs.OnPaper.{alone, paperOf, answerPaper, packetPaper, optionsPaper, listPaper, searchPaper, bundlePaper, gatewayPaper, Also, IsRow, GatewayRow, Rows, TheTable}
+use Rattle.acceptance.specs.OnPaper.{alone, paperOf, answerPaper, packetPaper, optionsPaper, listPaper, searchPaper, bundlePaper}
+use Rattle.acceptance.specs.OnPaper.{gatewayPaper, Also, IsRow, GatewayRow, Rows, TheTable}
 use Rattle.acceptance.proofs.Refusals.{refusals}
 use Rattle.acceptance.proofs.PaperStages.{others, under-7, ip-row, header-row}
 

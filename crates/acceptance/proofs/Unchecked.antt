@@ -113,7 +113,8 @@ search-unchecked =
           sym
           (without (featuresOf o) (o .olayout .kinds) (o .olayout .bytes) l
           (good-ones (featuresOf o) (o .olayout .kinds) (o .olayout .bytes) l (numbersFrom 0 (recordCount l))));
-      does-not-fit = λ o l e. none-found (featuresOf o) (o .olayout .kinds) (o .olayout .bytes) l (unfit l e) (numbersFrom 0 (recordCount l));
+      does-not-fit =
+          λ o l e. none-found (featuresOf o) (o .olayout .kinds) (o .olayout .bytes) l (unfit l e) (numbersFrom 0 (recordCount l));
       layout-too-long = λ o l long.
           none-fits (featuresOf o) (o .olayout .kinds) (o .olayout .bytes) l
           (long-fits-not (featuresOf o) (o .olayout .kinds) (o .olayout .bytes) l long) (numbersFrom 0 (recordCount l));

@@ -78,8 +78,10 @@ pub record TheObservation (p : List ℕ) (peer : Mss) : Type 0 where
   pub no-guess : (t : ℕ) → readPacket p peer .observation .ittl ≡ ttl.Guess t → ⊥
   -- "A layout has at most 40 entries"; "two byte arrays of 40 and a count, entries past it 0"
   pub at-most-40 : readPacket p peer .observation .olayout .count ≤ 40
-  pub kinds-past : (i : ℕ) → readPacket p peer .observation .olayout .count ≤ i → byteAt (readPacket p peer .observation .olayout .kinds) i ≡ 0
-  pub bytes-past : (i : ℕ) → readPacket p peer .observation .olayout .count ≤ i → byteAt (readPacket p peer .observation .olayout .bytes) i ≡ 0
+  pub kinds-past
+      : (i : ℕ) → readPacket p peer .observation .olayout .count ≤ i → byteAt (readPacket p peer .observation .olayout .kinds) i ≡ 0
+  pub bytes-past
+      : (i : ℕ) → readPacket p peer .observation .olayout .count ≤ i → byteAt (readPacket p peer .observation .olayout .bytes) i ≡ 0
   -- "Seventeen bits": no other is shown
   pub of-seventeen : SubsetByPlaces (readPacket p peer .observation .quirks) seventeen
   -- "`OptBad` is never set, `PeerTimestampNonZero` on a SYN only."

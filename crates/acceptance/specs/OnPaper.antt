@@ -121,7 +121,8 @@ pub record Rows : Type 0 where
       : (p : List ℕ) (peer : ℕ) (l : List ℕ)
       → IsRow (GatewayRow p l) (9 ∷ 10 ∷ packetOrder) p l (gatewayPaper (gatewayAnswer p peer l))
 
--- The table of both documents as it stands on paper: the refusals by name, as `everyRefusal` lists them, have these numbers and return this.
+-- The table of both documents as it stands on paper: the refusals by name, as `everyRefusal` lists them, have these numbers and return
+-- this.
 abbrev pub papersOf : List Refusal → List Paper
 papersOf [] = []
 papersOf (r ∷ rest) = refusalPaper r ∷ papersOf rest

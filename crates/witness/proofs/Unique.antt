@@ -1,21 +1,22 @@
--- Exactly one result meets each function's own contract.
-use Prim.Native.Nat.{ℕ}
+-- Exactly one result meets each public function's own contract.
+-- tools/promises makes this file from the contracts, and the gate holds it to them.
 use mathlib.Core.List.{List}
+use Prim.Native.Nat.{ℕ}
 use contract.Lifetimes.{Lfts}
 use denote.Ref.{RefT, now}
 use Rattle.basis.specs.Unique.{ExactlyOne}
 use Rattle.basis.proofs.Unique.{equation}
-use Rattle.witness.specs.Reading.{packetNumber, plainOf, optionsNumber}
-use Rattle.witness.specs.Searching.{witnessHops, foundNumber, searchNumber}
 use Rattle.flow.specs.declared.Reading.{Reading}
 use Rattle.found.specs.declared.Found.{Found}
 use Rattle.witness.specs.declared.Plain.{Plain}
-use Rattle.witness.proofs.witness_packet.Reads as witness-packet'
-use Rattle.witness.proofs.witness_options.Reads as witness-options'
-use Rattle.witness.proofs.witness_search.Reads as witness-search'
-use Rattle.witness.proofs.witness_hops.Reads as witness-hops'
-use Rattle.witness.proofs.whole.plain_of.Reads as plain-of'
+use Rattle.witness.specs.Reading.{optionsNumber, packetNumber, plainOf}
+use Rattle.witness.specs.Searching.{foundNumber, searchNumber, witnessHops}
 use Rattle.witness.proofs.searched.found_number.Reads as found-number'
+use Rattle.witness.proofs.whole.plain_of.Reads as plain-of'
+use Rattle.witness.proofs.witness_hops.Reads as witness-hops'
+use Rattle.witness.proofs.witness_options.Reads as witness-options'
+use Rattle.witness.proofs.witness_packet.Reads as witness-packet'
+use Rattle.witness.proofs.witness_search.Reads as witness-search'
 
 pub witness-packet-one
     : (κs : Lfts 1) (packet : RefT (List ℕ)) (peer which : ℕ)
@@ -32,14 +33,13 @@ pub witness-search-one
     → ExactlyOne ℕ (λ (r : ℕ). witness-search'.Post κs (observation, (list, (which, tt))) r (observation, (list, (which, tt))))
 witness-search-one κs observation list which = equation (searchNumber (now observation) (now list) which)
 
-pub witness-hops-one
-    : (κs : Lfts 1) (ttls : RefT (List ℕ)) → ExactlyOne ℕ (λ (r : ℕ). witness-hops'.Post κs (ttls, tt) r (ttls, tt))
+pub witness-hops-one : (κs : Lfts 1) (ttls : RefT (List ℕ)) → ExactlyOne ℕ (λ (r : ℕ). witness-hops'.Post κs (ttls, tt) r (ttls, tt))
 witness-hops-one κs ttls = equation (witnessHops (now ttls))
 
-pub plain-of-one : (κs : Lfts 0) (reading : Reading) → ExactlyOne Plain (λ (r : Plain). plain-of'.Post κs (reading, tt) r (reading, tt))
-plain-of-one κs reading = equation (plainOf reading)
-
 pub found-number-one
-    : (κs : Lfts 0) (found : Found) (which : ℕ)
-    → ExactlyOne ℕ (λ (r : ℕ). found-number'.Post κs (found, (which, tt)) r (found, (which, tt)))
-found-number-one κs found which = equation (foundNumber found which)
+    : (found : Found) (which : ℕ)
+    → ExactlyOne ℕ (λ (r : ℕ). found-number'.Post tt (found, (which, tt)) r (found, (which, tt)))
+found-number-one found which = equation (foundNumber found which)
+
+pub plain-of-one : (reading : Reading) → ExactlyOne Plain (λ (r : Plain). plain-of'.Post tt (reading, tt) r (reading, tt))
+plain-of-one reading = equation (plainOf reading)
