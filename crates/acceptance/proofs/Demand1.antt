@@ -184,6 +184,7 @@ of-siglist : Siglist
 of-siglist =
     record {
       read-header = λ κs l. answered tt (siglist.read-header-one κs l) (λ m. m) refl;
+      entries-lie = λ a first count. answered tt (siglist.entries-lie-one a first count) (λ m. m) refl;
       record-at = λ κs l a i.
           let u = siglist.record-at-one κs l a i in
           record {

@@ -50,9 +50,10 @@ use Rattle.matching.proofs.olayout_matches as olayout-matches'
 use Rattle.matching.proofs.features_of as features-of'
 use Rattle.matching.proofs.tolerance as tolerance'
 use Rattle.siglist.specs.declared.Areas.{Areas}
-use Rattle.siglist.specs.List.{headerOf, recordOf, checkList}
+use Rattle.siglist.specs.List.{headerOf, recordOf, entriesLie, checkList}
 use Rattle.siglist.proofs.read_header as read-header'
 use Rattle.siglist.proofs.record_at as record-at'
+use Rattle.siglist.proofs.entries_lie as entries-lie'
 use Rattle.siglist.proofs.check_list as check-list'
 use Rattle.matching.specs.declared.SignatureFit.{SignatureFit}
 use Rattle.found.specs.declared.Hit.{Hit}
@@ -188,6 +189,10 @@ pub record Siglist : Type 0 where
       : (κs : Lfts 1) (list : RefT (List ℕ)) (areas : Areas) (i : ℕ)
       → PartAnswers record-at'.signature κs (record-at'.Reads.Pre κs) (record-at'.Reads.Post κs)
       (list, (areas, (i, tt))) (recordOf (now list) areas i)
+  pub entries-lie
+      : (areas : Areas) (first count : ℕ)
+      → Answers entries-lie'.signature tt (entries-lie'.Reads.Pre tt) (entries-lie'.Reads.Post tt)
+      (areas, (first, (count, tt))) (entriesLie (areas .entries) first count)
   pub check-list
       : (κs : Lfts 1) (list : RefT (List ℕ))
       → Answers check-list'.signature κs (check-list'.Reads.Pre κs) (check-list'.Reads.Post κs)

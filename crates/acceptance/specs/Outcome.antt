@@ -1,5 +1,5 @@
--- What a search's answer says of the records of its list (document 01, "The signature list"): "the first exact record in list order; else the
--- first fuzzy one, with its reason; else none". A record is named by its number in the list, from 0, and by its label.
+-- What a search's answer says of the records of its list (document 01, "The signature list"): "the first exact record in list order;
+-- else the first fuzzy one, with its reason; else none". A record is named by its number in the list, from 0, and by its label.
 use mathlib.Core.Path.{_≡_}
 use mathlib.Core.List.{List}
 use Prim.Native.Nat.{ℕ, _<_}

@@ -14,5 +14,8 @@ use Rattle.packet_answer.proofs.peer_of.Reads as peer-of'
 pub peer-of-one : (n : ℕ) → ExactlyOne Mss (λ (r : Mss). peer-of'.Post tt (n, tt) r (n, tt))
 peer-of-one n = equation (peerOf n)
 
-pub answer-packet-one : (κs : Lfts 2) (packet : RefT (List ℕ)) (peer : Mss) (list : RefT (List ℕ)) → ExactlyOne PacketAnswer (λ (r : PacketAnswer). answer-packet'.Post κs (packet, (peer, (list, tt))) r (packet, (peer, (list, tt))))
+pub answer-packet-one
+    : (κs : Lfts 2) (packet : RefT (List ℕ)) (peer : Mss) (list : RefT (List ℕ))
+    → ExactlyOne PacketAnswer
+    (λ (r : PacketAnswer). answer-packet'.Post κs (packet, (peer, (list, tt))) r (packet, (peer, (list, tt))))
 answer-packet-one κs packet peer list = equation (answerOf (now packet) peer (now list))

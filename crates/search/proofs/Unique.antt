@@ -13,8 +13,12 @@ use Rattle.search.proofs.search_checked.Reads as search-checked'
 use Rattle.search.proofs.search.Reads as search'
 
 module _ (κs : Lfts 1) (list : RefT (List ℕ)) where
-  pub search-checked-one : (o : TcpObservation) → ExactlyOne Found (λ (r : Found). search-checked'.Post κs (o, (list, tt)) r (o, (list, tt)))
+  pub search-checked-one
+      : (o : TcpObservation)
+      → ExactlyOne Found (λ (r : Found). search-checked'.Post κs (o, (list, tt)) r (o, (list, tt)))
   search-checked-one o = equation (searchAll o (now list))
 
-  pub search-one : (o : TcpObservation) → ExactlyOne SearchAnswer (λ (r : SearchAnswer). search'.Post κs (o, (list, tt)) r (o, (list, tt)))
+  pub search-one
+      : (o : TcpObservation)
+      → ExactlyOne SearchAnswer (λ (r : SearchAnswer). search'.Post κs (o, (list, tt)) r (o, (list, tt)))
   search-one o = equation (searchList o (now list))

@@ -13,7 +13,7 @@ use Rattle.matching.specs.Fit.{featuresOf, fitOf}
 use Rattle.found.specs.declared.Hit.{Hit}
 use Rattle.found.specs.declared.Found.{Found}
 use Rattle.found.specs.declared.Found.the-variants as found
-use Rattle.found.specs.Least.{Place, nowhere, at, firstLeast, numbersFrom}
+use Rattle.found.specs.Least.{Place, nowhere, at, prefer, firstLeast, numbersFrom}
 use Rattle.found.specs.Rank.{foundOf, rankOf}
 use Rattle.refusals.specs.declared.Refusal.the-variants as refusal
 use Rattle.refusals.specs.Refusals.{Verdict, listRefused, numberOf}
@@ -50,6 +50,13 @@ foundAt f kinds bytes l (at i) = candidateAt f kinds bytes l i
 -- The search of a row of record numbers: what is read at the first number of least rank.
 unfoldable pub searchRow : Features → List ℕ → List ℕ → List ℕ → List ℕ → Found
 searchRow f kinds bytes l is = foundAt f kinds bytes l (firstLeast (rankAt f kinds bytes l) is)
+
+-- The search of all records, in list order, and what it holds after record i.
+abbrev pub searchRecords : Features → List ℕ → List ℕ → List ℕ → Found
+searchRecords f kinds bytes l = searchRow f kinds bytes l (numbersFrom 0 (recordCount l))
+
+abbrev pub heldAfter : Found → Features → List ℕ → List ℕ → List ℕ → ℕ → Found
+heldAfter held f kinds bytes l i = prefer rankOf held (candidateAt f kinds bytes l i)
 
 -- The search of a row of record numbers for an observation, and the plain search: of all records in list order.
 unfoldable pub searchOver : List ℕ → TcpObservation → List ℕ → Found
