@@ -5,8 +5,9 @@ use Prim.Native.Nat.{ℕ}
 use contract.Lifetimes.{Lfts}
 use denote.Ref.{RefT, now}
 use Rattle.siglist.specs.declared.Areas.{Areas}
-use Rattle.siglist.specs.List.{checkList, headerOf, recordOf}
+use Rattle.siglist.specs.List.{checkList, entriesLie, headerOf, recordOf}
 use Rattle.siglist.proofs.check_list as check-list'
+use Rattle.siglist.proofs.entries_lie as entries-lie'
 use Rattle.siglist.proofs.read_header as read-header'
 use Rattle.siglist.proofs.record_at as record-at'
 use Rattle.acceptance.specs.Promised.{Answers, PartAnswers}
@@ -19,6 +20,10 @@ pub record Promises : Type 0 where
       : (κs : Lfts 1) (list : RefT (List ℕ)) (areas : Areas) (i : ℕ)
       → PartAnswers record-at'.signature κs (record-at'.Reads.Pre κs) (record-at'.Reads.Post κs)
       (list, (areas, (i, tt))) (recordOf (now list) areas i)
+  pub entries-lie-one
+      : (areas : Areas) (first count : ℕ)
+      → Answers entries-lie'.signature tt (entries-lie'.Reads.Pre tt) (entries-lie'.Reads.Post tt)
+      (areas, (first, (count, tt))) (entriesLie (areas .entries) first count)
   pub check-list-one
       : (κs : Lfts 1) (list : RefT (List ℕ))
       → Answers check-list'.signature κs (check-list'.Reads.Pre κs) (check-list'.Reads.Post κs) (list, tt) (checkList (now list))

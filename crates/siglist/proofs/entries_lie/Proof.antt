@@ -1,8 +1,8 @@
--- `search::entries_lie` meets its contract.
+-- `siglist::entries_lie` meets its contract.
 use Rattle.basis.proofs.Rules.{cases}
 use borrow.Author.Needs.{needs}
-use Rattle.search.proofs.finding.entries_lie.Statement.{statement}
-use Rattle.search.proofs.finding.entries_lie.Tie as tie
+use Rattle.siglist.proofs.entries_lie.Statement.{statement}
+use Rattle.siglist.proofs.entries_lie.Tie as tie
 
 returns : tie.Need-returns
 returns c = search cases
