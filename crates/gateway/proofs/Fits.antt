@@ -1,4 +1,4 @@
--- Every number of a gateway's answer fits its bytes, so no two different answers of a gateway share a code.
+-- Every number of a gateway's answer fits its field, so no two different answers of a gateway share a struct.
 use mathlib.Core.Path.{_≡_, refl}
 use mathlib.Core.Bool.{Bool, true, false, _&&_}
 use mathlib.Core.List.{List}
@@ -24,7 +24,7 @@ use Rattle.found.specs.Least.{Place, nowhere, at}
 use Rattle.found.specs.Rank.{foundOf}
 use Rattle.search.specs.Search.{fitAt, candidateAt, foundAt, searchRow, searchOver, searchAll}
 use Rattle.packet_answer.specs.Packet.{peerOf, judged, answerOf}
-use Rattle.gateway.specs.Code.{fieldsOf, codeOf, afterList, gatewayAnswer}
+use Rattle.gateway.specs.Answer.{partsOf, afterList, gatewayAnswer}
 use Rattle.gateway.specs.Decode.{AllBytes}
 use Rattle.gateway.proofs.Room.{FoundFits, PacketFits, AnswerFits}
 use Rattle.gateway.proofs.ReadBack.{injective}
@@ -38,7 +38,7 @@ found-one : (label : ℕ) (x : SignatureFit) → label < 65536 → FitSmall x �
 unfolding foundOf
 found-one label fit.None hl hx = tt
 found-one label fit.Exact hl hx = hl
-found-one label (fit.Fuzzy r) hl hx = (hl, hx .0, hx .1, hx .2)
+found-one label (fit.Fuzzy r) hl hx = (hl, hx)
 
 module _ (l : List ℕ) (lent : AllBytes l) where
   -- A record of a byte string is one.
@@ -114,14 +114,14 @@ pub answers-fit : (p : List ℕ) (peer : ℕ) (l : List ℕ) → AllBytes p → 
 unfolding gatewayAnswer
 answers-fit p peer l hp hl = after-list (checkList l) p (peerOf peer) l hp hl (list-fits l hl)
 
--- No two different answers of a gateway share a code.
-pub codes-differ
+-- No two different answers of a gateway share a struct.
+pub structs-differ
     : (p q : List ℕ) (m n : ℕ) (l k : List ℕ)
     → AllBytes p
     → AllBytes q
     → AllBytes l
     → AllBytes k
-    → codeOf (fieldsOf (gatewayAnswer p m l)) ≡ codeOf (fieldsOf (gatewayAnswer q n k))
+    → partsOf (gatewayAnswer p m l) ≡ partsOf (gatewayAnswer q n k)
     → gatewayAnswer p m l ≡ gatewayAnswer q n k
-codes-differ p q m n l k hp hq hl hk e =
+structs-differ p q m n l k hp hq hl hk e =
     injective (gatewayAnswer p m l) (gatewayAnswer q n k) (answers-fit p m l hp hl) (answers-fit q n k hq hk) e

@@ -1,7 +1,8 @@
--- The numbers of an answer fit the bytes that a code has for them.
+-- The numbers of an answer fit the fields that a struct has for them.
 use Prim.Native.Nat.{_<_}
 use Rattle.quirks.specs.Quirks.{bitsOf}
 use Rattle.refusals.specs.Refusals.{packetValue, listValue}
+use Rattle.matching.specs.declared.FuzzyReason.{FuzzyReason}
 use Rattle.matching.specs.declared.Hops.{Hops}
 use Rattle.matching.specs.declared.Hops.the-variants as hops
 use Rattle.found.specs.declared.Found.{Found}
@@ -15,11 +16,13 @@ abbrev pub HopsFit : Hops → Type 0
 HopsFit hops.InRange = Unit {0}
 HopsFit (hops.OutOfRange d) = d < 256
 
+abbrev pub ReasonFits : FuzzyReason → Type 0
+ReasonFits r = (bitsOf (r .added) < 256) × (bitsOf (r .missing) < 256) × HopsFit (r .hops)
+
 abbrev pub FoundFits : Found → Type 0
 FoundFits found.None = Unit {0}
 FoundFits (found.Exact label) = label < 65536
-FoundFits (found.Fuzzy label reason) =
-    (label < 65536) × (bitsOf (reason .added) < 256) × (bitsOf (reason .missing) < 256) × HopsFit (reason .hops)
+FoundFits (found.Fuzzy label reason) = (label < 65536) × ReasonFits reason
 
 abbrev pub PacketFits : PacketAnswer → Type 0
 PacketFits (packet.Syn f) = FoundFits f
