@@ -9,7 +9,7 @@ use Rattle.refusals.proofs.Back.{back}
 use Rattle.matching.specs.declared.FuzzyReason.{FuzzyReason}
 use Rattle.matching.specs.declared.Hops.{Hops}
 use Rattle.matching.specs.declared.Hops.the-variants as hops
-use Rattle.found.specs.declared.Found.{Found}
+use Rattle.found.specs.declared.Hit.{Hit}
 use Rattle.found.specs.declared.Found.the-variants as found
 use Rattle.packet_answer.specs.declared.PacketAnswer.the-variants as packet
 use Rattle.gateway.specs.declared.GatewayAnswer.{GatewayAnswer}
@@ -22,19 +22,19 @@ hops-back : (h : Hops) → cond (eqb (flagsOf h % 2) 0) hops.InRange (hops.OutOf
 hops-back hops.InRange = refl
 hops-back (hops.OutOfRange d) = refl
 
-reason-back : (kind label number : ℕ) (r : FuzzyReason) → ReasonFits r → reasonFrom (fuzzy kind label number r) ≡ r
-reason-back kind label number r h = rw (hops-back (r .hops), mod-eq-of-lt (h .0), mod-eq-of-lt (h .1))
+reason-back : (kind : ℕ) (hit : Hit) (r : FuzzyReason) → ReasonFits r → reasonFrom (fuzzy kind hit r) ≡ r
+reason-back kind hit r h = rw (hops-back (r .hops), mod-eq-of-lt (h .0), mod-eq-of-lt (h .1))
 
 pub read-back : (a : GatewayAnswer) → AnswerFits a → answerFrom (partsOf a) ≡ a
 unfolding partsOf packetParts foundParts
 read-back (gateway.Packet (packet.Syn found.None)) h = refl
-read-back (gateway.Packet (packet.Syn (found.Exact label))) h = refl
-read-back (gateway.Packet (packet.Syn (found.Fuzzy label reason))) h =
-    ap (λ (r : FuzzyReason). gateway.Packet (packet.Syn (found.Fuzzy label r))) (reason-back 1 label 0 reason (h .1))
+read-back (gateway.Packet (packet.Syn (found.Exact hit))) h = refl
+read-back (gateway.Packet (packet.Syn (found.Fuzzy hit reason))) h =
+    ap (λ (r : FuzzyReason). gateway.Packet (packet.Syn (found.Fuzzy hit r))) (reason-back 1 hit reason (h .1))
 read-back (gateway.Packet (packet.SynAck found.None)) h = refl
-read-back (gateway.Packet (packet.SynAck (found.Exact label))) h = refl
-read-back (gateway.Packet (packet.SynAck (found.Fuzzy label reason))) h =
-    ap (λ (r : FuzzyReason). gateway.Packet (packet.SynAck (found.Fuzzy label r))) (reason-back 2 label 0 reason (h .1))
+read-back (gateway.Packet (packet.SynAck (found.Exact hit))) h = refl
+read-back (gateway.Packet (packet.SynAck (found.Fuzzy hit reason))) h =
+    ap (λ (r : FuzzyReason). gateway.Packet (packet.SynAck (found.Fuzzy hit r))) (reason-back 2 hit reason (h .1))
 read-back (gateway.Packet packet.Nothing) h = refl
 read-back (gateway.Packet (packet.Refused r)) h = ap refusedAs (back (refusal.Packet r))
 read-back (gateway.List r) h = rw (mod-eq-of-lt h) (ap refusedAs (back (refusal.List r)))

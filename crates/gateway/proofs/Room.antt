@@ -5,6 +5,7 @@ use Rattle.refusals.specs.Refusals.{packetValue, listValue}
 use Rattle.matching.specs.declared.FuzzyReason.{FuzzyReason}
 use Rattle.matching.specs.declared.Hops.{Hops}
 use Rattle.matching.specs.declared.Hops.the-variants as hops
+use Rattle.found.specs.declared.Hit.{Hit}
 use Rattle.found.specs.declared.Found.{Found}
 use Rattle.found.specs.declared.Found.the-variants as found
 use Rattle.packet_answer.specs.declared.PacketAnswer.{PacketAnswer}
@@ -19,10 +20,13 @@ HopsFit (hops.OutOfRange d) = d < 256
 abbrev pub ReasonFits : FuzzyReason → Type 0
 ReasonFits r = (bitsOf (r .added) < 256) × (bitsOf (r .missing) < 256) × HopsFit (r .hops)
 
+abbrev pub HitFits : Hit → Type 0
+HitFits h = (h .label < 65536) × (h .number < 65536)
+
 abbrev pub FoundFits : Found → Type 0
 FoundFits found.None = Unit {0}
-FoundFits (found.Exact label) = label < 65536
-FoundFits (found.Fuzzy label reason) = (label < 65536) × ReasonFits reason
+FoundFits (found.Exact hit) = HitFits hit
+FoundFits (found.Fuzzy hit reason) = HitFits hit × ReasonFits reason
 
 abbrev pub PacketFits : PacketAnswer → Type 0
 PacketFits (packet.Syn f) = FoundFits f

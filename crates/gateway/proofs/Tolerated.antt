@@ -152,7 +152,7 @@ judge-small (ttlfit.OutOfRange d) quirksfit.Rejected ht hq = tt
 judge-small (ttlfit.OutOfRange d) (quirksfit.Tolerated q) ht hq = (hq .0, hq .1, ht)
 
 -- A fit that a test may turn to nothing.
-pub or-none : (t : Bool) (x : SignatureFit) → FitSmall x → FitSmall (cond t x fit.None)
+or-none : (t : Bool) (x : SignatureFit) → FitSmall x → FitSmall (cond t x fit.None)
 or-none true x h = h
 or-none false x h = tt
 

@@ -12,6 +12,7 @@ use Rattle.matching.specs.declared.Hops.{Hops}
 use Rattle.matching.specs.declared.Hops.the-variants as hops
 use Rattle.siglist.specs.declared.ListAnswer.{ListAnswer}
 use Rattle.siglist.specs.declared.ListAnswer.the-variants as list
+use Rattle.found.specs.declared.Hit.{Hit}
 use Rattle.found.specs.declared.Found.{Found}
 use Rattle.found.specs.declared.Found.the-variants as found
 use Rattle.packet_answer.specs.declared.PacketAnswer.the-variants as packet
@@ -61,8 +62,8 @@ no-distance : (h : Hops) → flagsOf h ≡ 0 → hopsOf h ≡ 0
 no-distance hops.InRange e = refl
 no-distance (hops.OutOfRange d) e = absurd (omega arith)
 
-fuzzy-zeros : (kind label number : ℕ) (r : FuzzyReason) → Zeros (fuzzy kind label number r)
-fuzzy-zeros kind label number r =
+fuzzy-zeros : (kind : ℕ) (hit : Hit) (r : FuzzyReason) → Zeros (fuzzy kind hit r)
+fuzzy-zeros kind hit r =
     record {
       tolerated = refl;
       examined = refl;
@@ -78,8 +79,8 @@ fuzzy-zeros kind label number r =
 found-zeros : (kind : ℕ) (f : Found) → Zeros (foundParts kind f)
 unfolding foundParts
 found-zeros kind found.None = plain-zeros 3 kind 0 0 (λ h i j. absurd (j refl)) (λ h i. (refl, refl))
-found-zeros kind (found.Exact label) = plain-zeros 1 kind label 0 (λ h i j. absurd (h refl)) (λ h i. absurd (h refl))
-found-zeros kind (found.Fuzzy label reason) = fuzzy-zeros kind label 0 reason
+found-zeros kind (found.Exact hit) = plain-zeros 1 kind (hit .label) (hit .number) (λ h i j. absurd (h refl)) (λ h i. absurd (h refl))
+found-zeros kind (found.Fuzzy hit reason) = fuzzy-zeros kind hit reason
 
 -- Only refusals 7 and 10 return anything.
 packet-alone : (r : PacketRefusal) → (packetNumber r ≡ 7 → ⊥) → packetValue r ≡ 0

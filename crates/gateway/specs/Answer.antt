@@ -11,6 +11,7 @@ use Rattle.matching.specs.declared.Hops.the-variants as hops
 use Rattle.siglist.specs.declared.ListAnswer.{ListAnswer}
 use Rattle.siglist.specs.declared.ListAnswer.the-variants as list
 use Rattle.siglist.specs.List.{checkList}
+use Rattle.found.specs.declared.Hit.{Hit}
 use Rattle.found.specs.declared.Found.{Found}
 use Rattle.found.specs.declared.Found.the-variants as found
 use Rattle.packet_answer.specs.declared.PacketAnswer.{PacketAnswer}
@@ -69,15 +70,15 @@ abbrev pub flagsOf : Hops → ℕ
 flagsOf hops.InRange = 0
 flagsOf (hops.OutOfRange d) = 1
 
-abbrev pub fuzzy : ℕ → ℕ → ℕ → FuzzyReason → Answer
-fuzzy kind label number reason =
+abbrev pub fuzzy : ℕ → Hit → FuzzyReason → Answer
+fuzzy kind hit reason =
     record {
       outcome = 2;
       kind = kind;
       refusal = 0;
       tolerated = 0;
-      label = label;
-      number = number;
+      label = hit .label;
+      number = hit .number;
       examined = 0;
       value = 0;
       added = bitsOf (reason .added) % 256;
@@ -90,8 +91,8 @@ fuzzy kind label number reason =
 
 unfoldable pub foundParts : ℕ → Found → Answer
 foundParts kind found.None = plain 3 kind 0 0
-foundParts kind (found.Exact label) = plain 1 kind label 0
-foundParts kind (found.Fuzzy label reason) = fuzzy kind label 0 reason
+foundParts kind (found.Exact hit) = plain 1 kind (hit .label) (hit .number)
+foundParts kind (found.Fuzzy hit reason) = fuzzy kind hit reason
 
 unfoldable pub packetParts : PacketAnswer → Answer
 packetParts (packet.Syn f) = foundParts 1 f

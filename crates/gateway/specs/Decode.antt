@@ -10,6 +10,7 @@ use Rattle.refusals.specs.declared.Refusal.{Refusal}
 use Rattle.refusals.specs.Refusals.{refusalFrom, byKind}
 use Rattle.matching.specs.declared.FuzzyReason.{FuzzyReason}
 use Rattle.matching.specs.declared.Hops.the-variants as hops
+use Rattle.found.specs.declared.Hit.{Hit}
 use Rattle.found.specs.declared.Found.{Found}
 use Rattle.found.specs.declared.Found.the-variants as found
 use Rattle.packet_answer.specs.declared.PacketAnswer.the-variants as packet
@@ -25,10 +26,13 @@ reasonFrom a =
       missing = setOf (a .missing);
     }
 
+abbrev pub hitFrom : Answer → Hit
+hitFrom a = record { label = a .label; number = a .number }
+
 abbrev pub foundFrom : Answer → Found
 foundFrom a =
-    cond (eqb (a .outcome) 1) (found.Exact (a .label))
-    (cond (eqb (a .outcome) 2) (found.Fuzzy (a .label) (reasonFrom a)) found.None)
+    cond (eqb (a .outcome) 1) (found.Exact (hitFrom a))
+    (cond (eqb (a .outcome) 2) (found.Fuzzy (hitFrom a) (reasonFrom a)) found.None)
 
 -- A refusal of a packet or a list. No answer of a gateway has another; it would be read as a list's, since an answer it is not.
 abbrev pub refusedAs : Refusal → GatewayAnswer

@@ -6,6 +6,7 @@ ghost use Rattle.packet_answer.specs.Packet.{peerOf, answerOf};
 ghost use Rattle.gateway.specs.Answer.{plain, refused, hopsOf, flagsOf, fuzzy, foundParts, packetParts, partsOf};
 ghost use Rattle.gateway.specs.Answer.{gatewayAnswer, listParts};
 use found::Found;
+use found::Hit;
 use matching::FuzzyReason;
 use matching::Hops;
 use packet_answer::PacketAnswer;
@@ -107,8 +108,8 @@ fn low_byte(n: u32) -> u8
     (n % 256) as u8
 }
 
-fn fuzzy(kind: u8, label: u16, number: u16, reason: FuzzyReason) -> Answer
-    ensures { λ r. ⌜ r ≡ fuzzy kind label number reason ⌝ }
+fn fuzzy(kind: u8, hit: Hit, reason: FuzzyReason) -> Answer
+    ensures { λ r. ⌜ r ≡ fuzzy kind hit reason ⌝ }
 {
     let hops = reason.hops;
     let added = reason.added;
@@ -118,8 +119,8 @@ fn fuzzy(kind: u8, label: u16, number: u16, reason: FuzzyReason) -> Answer
         kind,
         refusal: 0,
         tolerated: 0,
-        label,
-        number,
+        label: hit.label,
+        number: hit.number,
         examined: 0,
         value: 0,
         added: low_byte(added.bits()),
@@ -134,8 +135,8 @@ fn found_parts(kind: u8, found: Found) -> Answer
 {
     match found {
         Found::None => plain(3, kind, 0, 0),
-        Found::Exact(label) => plain(1, kind, label, 0),
-        Found::Fuzzy(label, reason) => fuzzy(kind, label, 0, reason),
+        Found::Exact(hit) => plain(1, kind, hit.label, hit.number),
+        Found::Fuzzy(hit, reason) => fuzzy(kind, hit, reason),
     }
 }
 
