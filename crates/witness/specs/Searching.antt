@@ -36,8 +36,8 @@ fuzzyNumber label r w =
 
 abbrev pub foundNumber : Found → ℕ → ℕ
 foundNumber found.None w = firstOnly 65536 w
-foundNumber (found.Exact label) w = firstOnly (131072 + label) w
-foundNumber (found.Fuzzy label reason) w = fuzzyNumber label reason w
+foundNumber (found.Exact hit) w = firstOnly (131072 + hit .label) w
+foundNumber (found.Fuzzy hit reason) w = fuzzyNumber (hit .label) reason w
 
 unfoldable pub listShown : ListRefusal → ℕ → ℕ
 listShown r w = cond (eqb w 0) (listNumber r) (cond (eqb w 1) (listValue r) 0)

@@ -57,8 +57,8 @@ pub fn found_number(found: Found, which: u32) -> u64
 {
     match found {
         Found::None => first_only(65536, which),
-        Found::Exact(label) => first_only(131072 + (label as u64), which),
-        Found::Fuzzy(label, reason) => fuzzy_number(label, reason, which),
+        Found::Exact(hit) => first_only(131072 + (hit.label as u64), which),
+        Found::Fuzzy(hit, reason) => fuzzy_number(hit.label, reason, which),
     }
 }
 

@@ -7,7 +7,7 @@ returns : tie.Need-returns
 returns c = simp (c .before .enum-told .given .1, ← c .first-only .ensures)
 
 returns-2 : tie.Need-returns-2
-returns-2 c = simp (c .before .before .found .given .1, ← c .first-only2 .ensures)
+returns-2 c = simp (c .before .before .before .found .given .1, ← c .first-only2 .ensures)
 
 returns-3 : tie.Need-returns-3
 returns-3 c = simp (c .before .before .found2 .given .1, ← c .fuzzy-number .ensures)
