@@ -88,7 +88,7 @@ told a b ha hb = (
   λ e. line-printed a ∙ ap linePrinted e ∙ sym (line-printed b),
 )
 
--- The labels of what fits a code fit.
+-- The labels of what fits a struct fit.
 found-fits : (f : Found) → FoundFits f → TwoBytes f
 found-fits (found.Exact label) h = h
 found-fits (found.Fuzzy label reason) h = h .0

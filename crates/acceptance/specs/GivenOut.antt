@@ -24,7 +24,7 @@ use Rattle.report.specs.declared.Progress.{Progress}
 use Rattle.report.specs.Pages.{pageSize, firstPage, nextPage, allPages, outputOfInput}
 use Rattle.report.proofs.first_page as first-page'
 use Rattle.report.proofs.next_page as next-page'
-use Rattle.gateway.specs.Code.{packetFields, fieldsOf, codeOf, gatewayAnswer, listCode}
+use Rattle.gateway.specs.Answer.{packetParts, partsOf, gatewayAnswer, listParts}
 use Rattle.gateway.proofs.termread_check_list as termread-check-list'
 use Rattle.gateway.proofs.termread_answer_checked as termread-answer-checked'
 use Rattle.gateway.proofs.termread_answer as termread-answer'
@@ -81,12 +81,12 @@ pub record Gateway : Type 0 where
   pub check-list
       : (κs : Lfts 1) (list : RefT (List ℕ))
       → Answers termread-check-list'.signature κs (termread-check-list'.Reads.Pre κs) (termread-check-list'.Reads.Post κs)
-      (list, tt) (listCode (checkList (now list)))
+      (list, tt) (listParts (checkList (now list)))
   pub answer-checked
       : (κs : Lfts 2) (packet : RefT (List ℕ)) (peer : ℕ) (list : RefT (List ℕ))
       → Answers termread-answer-checked'.signature κs (termread-answer-checked'.Reads.Pre κs) (termread-answer-checked'.Reads.Post κs)
-      (packet, (peer, (list, tt))) (codeOf (packetFields (answerOf (now packet) (peerOf peer) (now list))))
+      (packet, (peer, (list, tt))) (packetParts (answerOf (now packet) (peerOf peer) (now list)))
   pub answer
       : (κs : Lfts 2) (packet : RefT (List ℕ)) (peer : ℕ) (list : RefT (List ℕ))
       → Answers termread-answer'.signature κs (termread-answer'.Reads.Pre κs) (termread-answer'.Reads.Post κs)
-      (packet, (peer, (list, tt))) (codeOf (fieldsOf (gatewayAnswer (now packet) peer (now list))))
+      (packet, (peer, (list, tt))) (partsOf (gatewayAnswer (now packet) peer (now list)))

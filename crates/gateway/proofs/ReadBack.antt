@@ -12,9 +12,7 @@ use Rattle.matching.specs.declared.Hops.the-variants as hops
 use Rattle.found.specs.declared.Hit.{Hit}
 use Rattle.found.specs.declared.Found.the-variants as found
 use Rattle.packet_answer.specs.declared.PacketAnswer.the-variants as packet
-use Rattle.gateway.specs.declared.GatewayAnswer.{GatewayAnswer}
-use Rattle.gateway.specs.declared.GatewayAnswer.the-variants as gateway
-use Rattle.gateway.specs.Answer.{hopsOf, flagsOf, fuzzy, foundParts, packetParts, partsOf}
+use Rattle.gateway.specs.Answer.{GatewayAnswer, hopsOf, flagsOf, fuzzy, foundParts, packetParts, refusedList, partsOf}
 use Rattle.gateway.specs.Decode.{reasonFrom, refusedAs, answerFrom}
 use Rattle.gateway.proofs.Room.{ReasonFits, AnswerFits}
 
@@ -26,18 +24,18 @@ reason-back : (kind : ℕ) (hit : Hit) (r : FuzzyReason) → ReasonFits r → re
 reason-back kind hit r h = rw (hops-back (r .hops), mod-eq-of-lt (h .0), mod-eq-of-lt (h .1))
 
 pub read-back : (a : GatewayAnswer) → AnswerFits a → answerFrom (partsOf a) ≡ a
-unfolding partsOf packetParts foundParts
-read-back (gateway.Packet (packet.Syn found.None)) h = refl
-read-back (gateway.Packet (packet.Syn (found.Exact hit))) h = refl
-read-back (gateway.Packet (packet.Syn (found.Fuzzy hit reason))) h =
-    ap (λ (r : FuzzyReason). gateway.Packet (packet.Syn (found.Fuzzy hit r))) (reason-back 1 hit reason (h .1))
-read-back (gateway.Packet (packet.SynAck found.None)) h = refl
-read-back (gateway.Packet (packet.SynAck (found.Exact hit))) h = refl
-read-back (gateway.Packet (packet.SynAck (found.Fuzzy hit reason))) h =
-    ap (λ (r : FuzzyReason). gateway.Packet (packet.SynAck (found.Fuzzy hit r))) (reason-back 2 hit reason (h .1))
-read-back (gateway.Packet packet.Nothing) h = refl
-read-back (gateway.Packet (packet.Refused r)) h = ap refusedAs (back (refusal.Packet r))
-read-back (gateway.List r) h = rw (mod-eq-of-lt h) (ap refusedAs (back (refusal.List r)))
+unfolding packetParts foundParts refusedList
+read-back (GatewayAnswer.answered (packet.Syn found.None)) h = refl
+read-back (GatewayAnswer.answered (packet.Syn (found.Exact hit))) h = refl
+read-back (GatewayAnswer.answered (packet.Syn (found.Fuzzy hit reason))) h =
+    ap (λ (r : FuzzyReason). GatewayAnswer.answered (packet.Syn (found.Fuzzy hit r))) (reason-back 1 hit reason (h .1))
+read-back (GatewayAnswer.answered (packet.SynAck found.None)) h = refl
+read-back (GatewayAnswer.answered (packet.SynAck (found.Exact hit))) h = refl
+read-back (GatewayAnswer.answered (packet.SynAck (found.Fuzzy hit reason))) h =
+    ap (λ (r : FuzzyReason). GatewayAnswer.answered (packet.SynAck (found.Fuzzy hit r))) (reason-back 2 hit reason (h .1))
+read-back (GatewayAnswer.answered packet.Nothing) h = refl
+read-back (GatewayAnswer.answered (packet.Refused r)) h = ap refusedAs (back (refusal.Packet r))
+read-back (GatewayAnswer.list-refused r) h = rw (mod-eq-of-lt h) (ap refusedAs (back (refusal.List r)))
 
 -- No two different answers share a struct.
 pub injective : (a b : GatewayAnswer) → AnswerFits a → AnswerFits b → partsOf a ≡ partsOf b → a ≡ b

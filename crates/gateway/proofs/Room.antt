@@ -10,8 +10,7 @@ use Rattle.found.specs.declared.Found.{Found}
 use Rattle.found.specs.declared.Found.the-variants as found
 use Rattle.packet_answer.specs.declared.PacketAnswer.{PacketAnswer}
 use Rattle.packet_answer.specs.declared.PacketAnswer.the-variants as packet
-use Rattle.gateway.specs.declared.GatewayAnswer.{GatewayAnswer}
-use Rattle.gateway.specs.declared.GatewayAnswer.the-variants as gateway
+use Rattle.gateway.specs.Answer.{GatewayAnswer}
 
 abbrev pub HopsFit : Hops → Type 0
 HopsFit hops.InRange = Unit {0}
@@ -35,5 +34,5 @@ PacketFits packet.Nothing = Unit {0}
 PacketFits (packet.Refused r) = packetValue r < 256
 
 abbrev pub AnswerFits : GatewayAnswer → Type 0
-AnswerFits (gateway.Packet a) = PacketFits a
-AnswerFits (gateway.List r) = listValue r < 65536
+AnswerFits (GatewayAnswer.answered a) = PacketFits a
+AnswerFits (GatewayAnswer.list-refused r) = listValue r < 65536

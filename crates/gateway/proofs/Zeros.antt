@@ -16,9 +16,7 @@ use Rattle.found.specs.declared.Hit.{Hit}
 use Rattle.found.specs.declared.Found.{Found}
 use Rattle.found.specs.declared.Found.the-variants as found
 use Rattle.packet_answer.specs.declared.PacketAnswer.the-variants as packet
-use Rattle.gateway.specs.declared.GatewayAnswer.{GatewayAnswer}
-use Rattle.gateway.specs.declared.GatewayAnswer.the-variants as gateway
-use Rattle.gateway.specs.Answer.{plain, refused, hopsOf, flagsOf, fuzzy, foundParts, packetParts, partsOf, listParts}
+use Rattle.gateway.specs.Answer.{GatewayAnswer, plain, refused, hopsOf, flagsOf, fuzzy, foundParts, packetParts, refusedList, partsOf, listParts}
 use Rattle.gateway.specs.Zeros.{Zeros}
 
 plain-zeros
@@ -100,15 +98,15 @@ list-alone (bad.BadRecord i) h = absurd (h refl)
 
 -- Of every answer.
 pub zeros : (a : GatewayAnswer) → Zeros (partsOf a)
-unfolding partsOf packetParts
-zeros (gateway.Packet (packet.Syn f)) = found-zeros 1 f
-zeros (gateway.Packet (packet.SynAck f)) = found-zeros 2 f
-zeros (gateway.Packet packet.Nothing) = plain-zeros 4 0 0 0 (λ h i j. refl) (λ h i. (refl, refl))
-zeros (gateway.Packet (packet.Refused r)) = refused-zeros (packetNumber r) (packetValue r) (λ h i. packet-alone r h)
-zeros (gateway.List r) = refused-zeros (listNumber r) (listValue r % 65536) (λ h i. list-alone r i)
+unfolding packetParts refusedList
+zeros (GatewayAnswer.answered (packet.Syn f)) = found-zeros 1 f
+zeros (GatewayAnswer.answered (packet.SynAck f)) = found-zeros 2 f
+zeros (GatewayAnswer.answered packet.Nothing) = plain-zeros 4 0 0 0 (λ h i j. refl) (λ h i. (refl, refl))
+zeros (GatewayAnswer.answered (packet.Refused r)) = refused-zeros (packetNumber r) (packetValue r) (λ h i. packet-alone r h)
+zeros (GatewayAnswer.list-refused r) = refused-zeros (listNumber r) (listValue r % 65536) (λ h i. list-alone r i)
 
 -- Of what is said of a list.
 pub list-zeros : (a : ListAnswer) → Zeros (listParts a)
 unfolding listParts
 list-zeros list.Good = plain-zeros 0 0 0 0 (λ h i j. refl) (λ h i. (refl, refl))
-list-zeros (list.Refused r) = zeros (gateway.List r)
+list-zeros (list.Refused r) = zeros (GatewayAnswer.list-refused r)

@@ -4,6 +4,7 @@ use Prim.Native.Nat.{ℕ, _%_}
 use mathlib.Core.List.{List}
 use Rattle.quirks.specs.Quirks.{bitsOf}
 use Rattle.tcp.specs.declared.Mss.{Mss}
+use Rattle.refusals.specs.declared.ListRefusal.{ListRefusal}
 use Rattle.refusals.specs.Refusals.{packetNumber, listNumber, packetValue, listValue, Verdict, listRefused}
 use Rattle.matching.specs.declared.FuzzyReason.{FuzzyReason}
 use Rattle.matching.specs.declared.Hops.{Hops}
@@ -17,8 +18,6 @@ use Rattle.found.specs.declared.Found.the-variants as found
 use Rattle.packet_answer.specs.declared.PacketAnswer.{PacketAnswer}
 use Rattle.packet_answer.specs.declared.PacketAnswer.the-variants as packet
 use Rattle.packet_answer.specs.Packet.{peerOf, answerOf, packetVerdict}
-use Rattle.gateway.specs.declared.GatewayAnswer.{GatewayAnswer}
-use Rattle.gateway.specs.declared.GatewayAnswer.the-variants as gateway
 use Rattle.gateway.specs.declared.Answer.{Answer}
 
 -- ---- the fields
@@ -100,17 +99,24 @@ packetParts (packet.SynAck f) = foundParts 2 f
 packetParts packet.Nothing = plain 4 0 0 0
 packetParts (packet.Refused r) = refused (packetNumber r) (packetValue r)
 
+unfoldable pub refusedList : ListRefusal → Answer
+refusedList r = refused (listNumber r) (listValue r % 65536)
+
 -- The answer of a packet, or why its list is refused.
-unfoldable pub partsOf : GatewayAnswer → Answer
-partsOf (gateway.Packet a) = packetParts a
-partsOf (gateway.List r) = refused (listNumber r) (listValue r % 65536)
+pub data GatewayAnswer : Type 0 where
+  answered : PacketAnswer → GatewayAnswer
+  list-refused : ListRefusal → GatewayAnswer
+
+abbrev pub partsOf : GatewayAnswer → Answer
+partsOf (GatewayAnswer.answered a) = packetParts a
+partsOf (GatewayAnswer.list-refused r) = refusedList r
 
 -- ---- what the exported functions answer
 
 -- A list that is not checked yet is refused before its packet is read, as a bundle's is.
 abbrev pub afterList : ListAnswer → List ℕ → Mss → List ℕ → GatewayAnswer
-afterList list.Good p peer l = gateway.Packet (answerOf p peer l)
-afterList (list.Refused r) p peer l = gateway.List r
+afterList list.Good p peer l = GatewayAnswer.answered (answerOf p peer l)
+afterList (list.Refused r) p peer l = GatewayAnswer.list-refused r
 
 unfoldable pub gatewayAnswer : List ℕ → ℕ → List ℕ → GatewayAnswer
 gatewayAnswer p peer l = afterList (checkList l) p (peerOf peer) l
@@ -118,9 +124,9 @@ gatewayAnswer p peer l = afterList (checkList l) p (peerOf peer) l
 -- Of a list: all 0 if it is well formed, or its refusal.
 unfoldable pub listParts : ListAnswer → Answer
 listParts list.Good = plain 0 0 0 0
-listParts (list.Refused r) = partsOf (gateway.List r)
+listParts (list.Refused r) = refusedList r
 
 -- Which refusal of the table the answer is, if any.
 abbrev pub gatewayVerdict : GatewayAnswer → Verdict
-gatewayVerdict (gateway.Packet a) = packetVerdict a
-gatewayVerdict (gateway.List r) = listRefused r
+gatewayVerdict (GatewayAnswer.answered a) = packetVerdict a
+gatewayVerdict (GatewayAnswer.list-refused r) = listRefused r

@@ -14,9 +14,8 @@ use Rattle.found.specs.declared.Hit.{Hit}
 use Rattle.found.specs.declared.Found.{Found}
 use Rattle.found.specs.declared.Found.the-variants as found
 use Rattle.packet_answer.specs.declared.PacketAnswer.the-variants as packet
-use Rattle.gateway.specs.declared.GatewayAnswer.{GatewayAnswer}
-use Rattle.gateway.specs.declared.GatewayAnswer.the-variants as gateway
 use Rattle.gateway.specs.declared.Answer.{Answer}
+use Rattle.gateway.specs.Answer.{GatewayAnswer}
 
 abbrev pub reasonFrom : Answer → FuzzyReason
 reasonFrom a =
@@ -36,13 +35,13 @@ foundFrom a =
 
 -- A refusal of a packet or a list. No answer of a gateway has another; it would be read as a list's, since an answer it is not.
 abbrev pub refusedAs : Refusal → GatewayAnswer
-refusedAs r = byKind (λ why. gateway.Packet (packet.Refused why)) gateway.List (gateway.List list.DoesNotFit) r
+refusedAs r = byKind (λ why. GatewayAnswer.answered (packet.Refused why)) GatewayAnswer.list-refused (GatewayAnswer.list-refused list.DoesNotFit) r
 
 abbrev pub answerFrom : Answer → GatewayAnswer
 answerFrom a =
     cond (eqb (a .outcome) 5) (refusedAs (refusalFrom (a .refusal) (a .value)))
-    (cond (eqb (a .outcome) 4) (gateway.Packet packet.Nothing)
-    (gateway.Packet (cond (eqb (a .kind) 1) (packet.Syn (foundFrom a)) (packet.SynAck (foundFrom a)))))
+    (cond (eqb (a .outcome) 4) (GatewayAnswer.answered packet.Nothing)
+    (GatewayAnswer.answered (cond (eqb (a .kind) 1) (packet.Syn (foundFrom a)) (packet.SynAck (foundFrom a)))))
 
 -- What a lent byte string is: each of its numbers is a byte.
 abbrev pub AllBytes : List ℕ → Type 0

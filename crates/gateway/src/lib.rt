@@ -1,9 +1,8 @@
 // What a gateway in C or Rust links: each answer as a struct of sixteen bytes.
 ghost use mathlib.Core.Path.{_≡_};
-ghost use Prim.Native.Nat.{_%_};
 ghost use Rattle.siglist.specs.List.{checkList};
 ghost use Rattle.packet_answer.specs.Packet.{peerOf, answerOf};
-ghost use Rattle.gateway.specs.Answer.{plain, refused, hopsOf, flagsOf, fuzzy, foundParts, packetParts, partsOf};
+ghost use Rattle.gateway.specs.Answer.{plain, refused, hopsOf, flagsOf, fuzzy, foundParts, packetParts, refusedList, partsOf};
 ghost use Rattle.gateway.specs.Answer.{gatewayAnswer, listParts};
 use found::Found;
 use found::Hit;
@@ -19,12 +18,6 @@ use refusals::packet_value;
 use refusals::refusal_number;
 use siglist::ListAnswer;
 use siglist::check_list;
-
-// The answer of a packet, or why its list is refused.
-pub enum GatewayAnswer {
-    Packet(PacketAnswer),
-    List(ListRefusal),
-}
 
 // An answer for C: sixteen bytes, returned in two registers (specs/Answer.antt; include/termread.h has the same struct). What a later request
 // fills is 0 until then.
@@ -102,12 +95,6 @@ fn flags_of(hops: Hops) -> u8
     }
 }
 
-fn low_byte(n: u32) -> u8
-    ensures { λ r. ⌜ r ≡ n % 256 ⌝ }
-{
-    (n % 256) as u8
-}
-
 fn fuzzy(kind: u8, hit: Hit, reason: FuzzyReason) -> Answer
     ensures { λ r. ⌜ r ≡ fuzzy kind hit reason ⌝ }
 {
@@ -123,8 +110,8 @@ fn fuzzy(kind: u8, hit: Hit, reason: FuzzyReason) -> Answer
         number: hit.number,
         examined: 0,
         value: 0,
-        added: low_byte(added.bits()),
-        missing: low_byte(missing.bits()),
+        added: (added.bits() % 256) as u8,
+        missing: (missing.bits() % 256) as u8,
         hops: hops_of(hops),
         flags: flags_of(hops),
     }
@@ -151,13 +138,10 @@ fn packet_parts(answer: PacketAnswer) -> Answer
     }
 }
 
-fn parts_of(answer: GatewayAnswer) -> Answer
-    ensures { λ r. ⌜ r ≡ partsOf answer ⌝ }
+fn refused_list(refusal: ListRefusal) -> Answer
+    ensures { λ r. ⌜ r ≡ refusedList refusal ⌝ }
 {
-    match answer {
-        GatewayAnswer::Packet(packet) => packet_parts(packet),
-        GatewayAnswer::List(refusal) => refused(refusal_number(Refusal::List(refusal)), (list_value(refusal) % 65536) as u16),
-    }
+    refused(refusal_number(Refusal::List(refusal)), (list_value(refusal) % 65536) as u16)
 }
 
 // ---- what is exported
@@ -169,7 +153,7 @@ pub extern "C" fn termread_check_list(list: &[u8]) -> Answer
 {
     match check_list(list) {
         ListAnswer::Good => plain(0, 0, 0, 0),
-        ListAnswer::Refused(refusal) => parts_of(GatewayAnswer::List(refusal)),
+        ListAnswer::Refused(refusal) => refused_list(refusal),
     }
 }
 
@@ -181,19 +165,13 @@ pub extern "C" fn termread_answer_checked(packet: &[u8], peer: u16, list: &[u8])
     packet_parts(answer_packet(packet, peer_of(peer), list))
 }
 
-fn gateway_answer(packet: &[u8], peer: u16, list: &[u8]) -> GatewayAnswer
-    ensures { λ r. ⌜ r ≡ gatewayAnswer (now (packet .entry)) peer (now (list .entry)) ⌝ }
-{
-    match check_list(list) {
-        ListAnswer::Good => GatewayAnswer::Packet(answer_packet(packet, peer_of(peer), list)),
-        ListAnswer::Refused(refusal) => GatewayAnswer::List(refusal),
-    }
-}
-
 // The answer of a packet against a list that was not checked: refusals 9 and 10 come before the packet's.
 #[no_mangle]
 pub extern "C" fn termread_answer(packet: &[u8], peer: u16, list: &[u8]) -> Answer
     ensures { λ r. ⌜ r ≡ partsOf (gatewayAnswer (now (packet .entry)) peer (now (list .entry))) ⌝ }
 {
-    parts_of(gateway_answer(packet, peer, list))
+    match check_list(list) {
+        ListAnswer::Good => packet_parts(answer_packet(packet, peer_of(peer), list)),
+        ListAnswer::Refused(refusal) => refused_list(refusal),
+    }
 }

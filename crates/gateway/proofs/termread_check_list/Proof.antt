@@ -10,7 +10,9 @@ returns c = rw (sym (c .before .before .before .check-list .ensures) ∙ c .befo
 
 returns-2 : tie.Need-returns-2
 unfolding listParts
-returns-2 c = rw (sym (c .before .before .before .before .check-list .ensures) ∙ c .before .before .refusal .given .1, c .parts-of .ensures)
+returns-2 c =
+    let at = c .before .before in
+    rw (sym (at .before .before .check-list .ensures) ∙ at .refusal .given .1, c .refused-list .ensures)
 
 pub termread-check-list-spec : {M : Type 1} → statement M
 termread-check-list-spec =
