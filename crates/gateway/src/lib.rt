@@ -134,14 +134,20 @@ fn packet_parts(answer: PacketAnswer) -> Answer
         PacketAnswer::Syn(found) => found_parts(1, found),
         PacketAnswer::SynAck(found) => found_parts(2, found),
         PacketAnswer::Nothing => plain(4, 0, 0, 0),
-        PacketAnswer::Refused(refusal) => refused(refusal_number(Refusal::Packet(refusal)), packet_value(refusal) as u16),
+        PacketAnswer::Refused(refusal) => refused(
+            refusal_number(Refusal::Packet(refusal)),
+            packet_value(refusal) as u16,
+        ),
     }
 }
 
 fn refused_list(refusal: ListRefusal) -> Answer
     ensures { λ r. ⌜ r ≡ refusedList refusal ⌝ }
 {
-    refused(refusal_number(Refusal::List(refusal)), (list_value(refusal) % 65536) as u16)
+    refused(
+        refusal_number(Refusal::List(refusal)),
+        (list_value(refusal) % 65536) as u16,
+    )
 }
 
 // ---- what is exported
