@@ -89,10 +89,10 @@ told a b ha hb = (
   λ e. line-printed a ∙ ap linePrinted e ∙ sym (line-printed b),
 )
 
--- The labels of what fits a code fit.
+-- The labels of what fits a struct fit.
 found-fits : (f : Found) → FoundFits f → TwoBytes f
-found-fits (found.Exact hit) h = h
-found-fits (found.Fuzzy hit reason) h = h .0
+found-fits (found.Exact hit) h = h .0
+found-fits (found.Fuzzy hit reason) h = h .0 .0
 found-fits found.None h = tt
 
 label-fits : (a : PacketAnswer) → PacketFits a → LabelFits a

@@ -1,2 +1,3 @@
-pub mod Code
+pub mod Answer
 pub mod Decode
+pub mod Zeros

@@ -6,7 +6,7 @@ use contract.Lifetimes.{Lfts}
 use denote.Ref.{RefT, now}
 use Rattle.siglist.specs.List.{checkList}
 use Rattle.packet_answer.specs.Packet.{answerOf, peerOf}
-use Rattle.gateway.specs.Code.{codeOf, fieldsOf, gatewayAnswer, listCode, packetFields}
+use Rattle.gateway.specs.Answer.{gatewayAnswer, listParts, packetParts, partsOf}
 use Rattle.gateway.proofs.termread_answer as termread-answer'
 use Rattle.gateway.proofs.termread_answer_checked as termread-answer-checked'
 use Rattle.gateway.proofs.termread_check_list as termread-check-list'
@@ -16,12 +16,12 @@ pub record Promises : Type 0 where
   pub termread-check-list-one
       : (κs : Lfts 1) (list : RefT (List ℕ))
       → Answers termread-check-list'.signature κs (termread-check-list'.Reads.Pre κs) (termread-check-list'.Reads.Post κs)
-      (list, tt) (listCode (checkList (now list)))
+      (list, tt) (listParts (checkList (now list)))
   pub termread-answer-checked-one
       : (κs : Lfts 2) (packet : RefT (List ℕ)) (peer : ℕ) (list : RefT (List ℕ))
       → Answers termread-answer-checked'.signature κs (termread-answer-checked'.Reads.Pre κs) (termread-answer-checked'.Reads.Post κs)
-      (packet, (peer, (list, tt))) (codeOf (packetFields (answerOf (now packet) (peerOf peer) (now list))))
+      (packet, (peer, (list, tt))) (packetParts (answerOf (now packet) (peerOf peer) (now list)))
   pub termread-answer-one
       : (κs : Lfts 2) (packet : RefT (List ℕ)) (peer : ℕ) (list : RefT (List ℕ))
       → Answers termread-answer'.signature κs (termread-answer'.Reads.Pre κs) (termread-answer'.Reads.Post κs)
-      (packet, (peer, (list, tt))) (codeOf (fieldsOf (gatewayAnswer (now packet) peer (now list))))
+      (packet, (peer, (list, tt))) (partsOf (gatewayAnswer (now packet) peer (now list)))
