@@ -60,7 +60,7 @@ class Promise:
         words = set(WORD.findall(self.said))
         if result in words or ".exit" in words:
             raise Unfit("its result stands on both sides of its contract")
-        if words & {"≡", "×", "⊎", "→", "↔", "⊤", "⊥"}:
+        if words & {"≡", "×", "⊎", "→", "↔", "⊤", "⊥", "⌜", "⌝"}:
             raise Unfit("its contract is not one equation")
         self.terms = [self.plain(term) for term in self.terms]
 
