@@ -18,7 +18,7 @@ typedef struct {
 } Bytes;
 
 /* So many bytes are taken at most. */
-enum { BYTES_MOST = 16 * 1024 * 1024 };
+enum { BYTES_MOST = 1024 * 1024 * 1024 };
 
 /* A command answers a line on standard output, without the newline: 1. If the line is not of its form it writes nothing: 0. */
 #define COMMAND(name, modes) int answer_##name(Line *line);
