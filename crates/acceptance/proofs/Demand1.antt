@@ -200,7 +200,7 @@ of-found : Findings
 of-found =
     record {
       is-none = λ f. answered tt (found.is-none-one f) (λ m. m) refl;
-      found-of = λ label f. answered tt (found.found-of-one label f) (λ m. m) refl;
+      found-of = λ hit f. answered tt (found.found-of-one hit f) (λ m. m) refl;
       rank-of = λ f. answered tt (found.rank-of-one f) (λ m. m) refl;
       prefer-found = λ held other. answered tt (found.prefer-found-one held other) (λ m. m) refl;
     }

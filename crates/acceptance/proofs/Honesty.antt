@@ -1,28 +1,16 @@
 -- The three answers stay three: what each means.
 use mathlib.Core.Path.{_≡_, refl, sym, _∙_, ap}
-use mathlib.Core.Bool.{Bool, true, false, cond}
 use mathlib.Core.List.{List}
-use Prim.Native.Nat.{ℕ, _%_, _<_}
+use Prim.Native.Nat.{ℕ, _%_}
 use native.Mathlib.Omega.{arith}
-use lib.Dec.{ltb}
-use lib.ListN.{length, getD}
 use Rattle.tcp.specs.declared.Mss.{Mss}
-use Rattle.observable.specs.declared.TcpObservation.{TcpObservation}
 use Rattle.refusals.specs.declared.PacketRefusal.{PacketRefusal}
 use Rattle.flow.specs.declared.Answer.the-variants as reading
 use Rattle.flow.specs.Reading.{readPacket}
 use Rattle.matching.specs.Fit.{featuresOf}
-use Rattle.siglist.specs.declared.ListAnswer.{ListAnswer}
-use Rattle.siglist.specs.declared.ListAnswer.the-variants as list
-use Rattle.siglist.specs.List.{recordCount, checkList}
 use Rattle.found.specs.declared.Found.{Found}
 use Rattle.found.specs.declared.Found.the-variants as found
-use Rattle.search.specs.declared.SearchAnswer.{SearchAnswer}
-use Rattle.search.specs.declared.SearchAnswer.the-variants as answer
-use Rattle.found.specs.Least.{numbersFrom}
-use Rattle.found.proofs.Least.{numbers-length, numbers-at}
-use Rattle.search.specs.Search.{fitAt, searchOver, searchAll, afterListCheck, searchList}
-use Rattle.search.proofs.Order as order
+use Rattle.search.specs.Search.{searchOver, searchAll}
 use Rattle.search.proofs.Rows.{longer-row}
 use Rattle.packet_answer.specs.declared.PacketAnswer.{PacketAnswer}
 use Rattle.packet_answer.specs.declared.PacketAnswer.the-variants as packet
@@ -30,64 +18,13 @@ use Rattle.packet_answer.specs.Packet.{peerOf, answerOf}
 use Rattle.gateway.specs.declared.GatewayAnswer.{GatewayAnswer}
 use Rattle.gateway.specs.declared.GatewayAnswer.the-variants as gateway
 use Rattle.gateway.specs.Code.{foundFields, packetFields, fieldsOf, gatewayAnswer}
-use Rattle.gateway.specs.Decode.{AllBytes, fieldsFrom, answerFrom}
+use Rattle.gateway.specs.Decode.{AllBytes, packetHeld, fieldsFrom, answerFrom}
 use Rattle.gateway.proofs.Room.{PacketFits}
 use Rattle.gateway.proofs.ReadBack as back
 use Rattle.gateway.proofs.Fits.{packet-fits, answers-fit, codes-differ}
-use Rattle.acceptance.specs.Honesty.{fitOfRecord, Outcome, whichOf, outcomeOf, checkedAnswer, checkedCode, Honesty}
+use Rattle.acceptance.specs.Honesty.{whichOf, outcomeOf, checkedAnswer, checkedCode, Honesty}
+use Rattle.acceptance.proofs.Outcome.{answered, search-outcome}
 use Rattle.acceptance.proofs.Fit.{exact-to, exact-from, fuzzy-to, fuzzy-from}
-
--- ---- a search
-
-module _ (o : TcpObservation) (l : List ℕ) where
-  places : List ℕ
-  places = numbersFrom 0 (recordCount l)
-
-  -- A record at a place of the row is the record of that number.
-  here : (k : ℕ) → k < length places → getD places k 0 ≡ k
-  unfolding places
-  here k h = numbers-at 0 (recordCount l) k (omega (arith, numbers-length 0 (recordCount l))) ∙ omega arith
-
-  few : length places ≡ recordCount l
-  unfolding places
-  few = numbers-length 0 (recordCount l)
-
-  fit-here : (k : ℕ) → k < length places → fitAt (featuresOf o) (o .olayout .kinds) (o .olayout .bytes) l (getD places k 0) ≡ fitOfRecord o l k
-  fit-here k h = ap (fitOfRecord o l) (here k h)
-
-  as-outcome : {x : Found} → order.Outcome (featuresOf o) (o .olayout .kinds) (o .olayout .bytes) l places x → Outcome o l x
-  as-outcome (order.Outcome.first-exact k h e before) =
-      let size = few in
-      rw (here k h)
-      (Outcome.first-exact k (omega arith) (sym (fit-here k h) ∙ e) (λ j b x. before j b (fit-here j (omega arith) ∙ x)))
-  as-outcome (order.Outcome.first-fuzzy k r h e before exact) =
-      let size = few in
-      rw (here k h)
-      (Outcome.first-fuzzy k r (omega arith) (sym (fit-here k h) ∙ e)
-      (λ j b. sym (fit-here j (omega arith)) ∙ before j b)
-      (λ j b x. exact j (omega arith) (fit-here j (omega arith) ∙ x)))
-  as-outcome (order.Outcome.none before) =
-      let size = few in
-      Outcome.none (λ i b. sym (fit-here i (omega arith)) ∙ before i (omega arith))
-
-  found-outcome : Outcome o l (searchAll o l)
-  unfolding searchAll searchOver places
-  found-outcome = as-outcome (order.outcome (featuresOf o) (o .olayout .kinds) (o .olayout .bytes) l places)
-
-  after-found : (a : ListAnswer) (x : Found) → afterListCheck a o l ≡ answer.Found x → Outcome o l x
-  after-found list.Good x e = let same : searchAll o l ≡ x = cc in rw (← same) found-outcome
-  after-found (list.Refused r) x e = let z : _≡_ {A = ℕ} 0 1 = cc in absurd (omega arith)
-
-  search-outcome : (x : Found) → searchList o l ≡ answer.Found x → Outcome o l x
-  unfolding searchList
-  search-outcome x = by-count (ltb 40 (o .olayout .count))
-    where
-      by-count
-          : (t : Bool)
-          → cond {A = SearchAnswer} t answer.LayoutTooLong (afterListCheck (checkList l) o l) ≡ answer.Found x
-          → Outcome o l x
-      by-count true e = let z : _≡_ {A = ℕ} 0 1 = cc in absurd (omega arith)
-      by-count false e = after-found (checkList l) x e
 
 -- ---- a packet's answer
 
@@ -117,8 +54,8 @@ module _ (p : List ℕ) (peer : Mss) (l : List ℕ) where
 found-outcome-of : (kind : ℕ) (f : Found) → foundFields kind f .outcome ≡ whichOf f
 unfolding foundFields
 found-outcome-of kind found.None = refl
-found-outcome-of kind (found.Exact label) = refl
-found-outcome-of kind (found.Fuzzy label reason) = refl
+found-outcome-of kind (found.Exact hit) = refl
+found-outcome-of kind (found.Fuzzy hit reason) = refl
 
 -- The outcome among an answer's fields is what the answer is.
 outcome-of : (a : GatewayAnswer) → fieldsOf a .outcome ≡ outcomeOf a
@@ -137,7 +74,7 @@ module _ (p : List ℕ) (peer : ℕ) (l : List ℕ) (hp : AllBytes p) (hl : AllB
   checked-fits : PacketFits (checkedAnswer p peer l)
   checked-fits = packet-fits p (peerOf peer) l hp hl
 
-  checked-read-back : answerFrom (fieldsFrom (checkedCode p peer l)) ≡ gateway.Packet (checkedAnswer p peer l)
+  checked-read-back : answerFrom (fieldsFrom (checkedCode p peer l)) ≡ gateway.Packet (packetHeld (checkedAnswer p peer l))
   unfolding fieldsOf
   checked-read-back = back.read-back (gateway.Packet (checkedAnswer p peer l)) checked-fits
 
@@ -153,10 +90,10 @@ checked-codes-differ
     → AllBytes l
     → AllBytes k
     → checkedCode p m l ≡ checkedCode q n k
-    → checkedAnswer p m l ≡ checkedAnswer q n k
+    → packetHeld (checkedAnswer p m l) ≡ packetHeld (checkedAnswer q n k)
 unfolding fieldsOf
 checked-codes-differ p q m n l k hp hq hl hk e =
-    unwrapped (checkedAnswer p m l) (checkedAnswer q n k)
+    unwrapped (packetHeld (checkedAnswer p m l)) (packetHeld (checkedAnswer q n k))
     (back.injective (gateway.Packet (checkedAnswer p m l)) (gateway.Packet (checkedAnswer q n k))
     (packet-fits p (peerOf m) l hp hl)
     (packet-fits q (peerOf n) k hq hk)
@@ -170,7 +107,7 @@ honesty =
       fuzzy = λ f ks bs s n es r. (fuzzy-to f ks bs s n es r, fuzzy-from f ks bs s n es r);
       search = search-outcome;
       longer-row = λ o l is js. longer-row (featuresOf o) (o .olayout .kinds) (o .olayout .bytes) l is js;
-      answered = found-outcome;
+      answered = answered;
       syn-answer = syn-answer;
       syn-ack-answer = syn-ack-answer;
       nothing-answer = nothing-answer;

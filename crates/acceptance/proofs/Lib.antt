@@ -13,6 +13,7 @@ pub mod Lines
 pub mod NotFree
 pub mod Observation
 pub mod OnPaper
+pub mod Outcome
 pub mod Overlap
 pub mod PacketGives
 pub mod PacketRefusals

@@ -41,7 +41,7 @@ use Rattle.found.specs.Least.{prefer, leastFrom, firstLeast, numbersFrom}
 use Rattle.found.specs.Rank.{foundOf}
 use Rattle.search.specs.Search.{fitAt, candidateAt, rankAt, foundAt, searchRow, searchOver, searchAll, searchList}
 use Rattle.alike.proofs.Packets.{read-alike}
-use Rattle.acceptance.specs.Values.{packetA, exampleList}
+use Rattle.acceptance.specs.Values.{packetA, exampleList, theRecord}
 use Rattle.acceptance.specs.NotFree.{ReadApart, AnsweredApart, stamped, overIpv6, noLength, noLengthIpv6, NotFree}
 use Rattle.acceptance.proofs.Values.{values}
 
@@ -81,7 +81,7 @@ firstKind r = byteAt (r .observation .olayout .kinds) 0
 -- An answer that is another than packet A's.
 not-exact
     : (p : List ℕ)
-    → (searchList (readPacket p mss.Absent .observation) exampleList ≡ answer.Found (found.Exact 7) → ⊥)
+    → (searchList (readPacket p mss.Absent .observation) exampleList ≡ answer.Found (found.Exact theRecord) → ⊥)
     → AnsweredApart packetA p
 not-exact p differs same = differs (sym same ∙ values .search .exact)
 

@@ -32,6 +32,7 @@ use Rattle.matching.specs.Fit.{featuresOf, fitOf}
 use Rattle.siglist.specs.declared.ListAnswer.the-variants as list
 use Rattle.sigrecord.specs.Record.{signatureOf, entryCount, labelOf}
 use Rattle.siglist.specs.List.{recordCount, recordAt, entriesOf, checkList}
+use Rattle.found.specs.declared.Hit.{Hit}
 use Rattle.found.specs.declared.Found.{Found}
 use Rattle.found.specs.declared.Found.the-variants as found
 use Rattle.search.specs.declared.SearchAnswer.{SearchAnswer}
@@ -94,11 +95,11 @@ pub record TheObservation (p : List ℕ) (peer : Mss) : Type 0 where
 
 -- ---- the single fit
 
--- What a search finds in one record, by its label and its fit.
-abbrev pub ofOne : ℕ → SignatureFit → Found
-ofOne label fit.None = found.None
-ofOne label fit.Exact = found.Exact label
-ofOne label (fit.Fuzzy reason) = found.Fuzzy label reason
+-- What a search finds in one record, by its label and number and its fit.
+abbrev pub ofOne : Hit → SignatureFit → Found
+ofOne hit fit.None = found.None
+ofOne hit fit.Exact = found.Exact hit
+ofOne hit (fit.Fuzzy reason) = found.Fuzzy hit reason
 
 -- "a single fit is the search of a list of one record"
 abbrev pub SingleFit : Type 0
@@ -109,7 +110,7 @@ SingleFit =
     → recordCount l ≡ 1
     → searchList o l
     ≡ answer.Found
-    (ofOne (labelOf (recordAt l 0))
+    (ofOne (record { label = labelOf (recordAt l 0); number = 0 })
     (fitOf (featuresOf o) (o .olayout .kinds) (o .olayout .bytes) (signatureOf (recordAt l 0)) (entryCount (recordAt l 0))
     (entriesOf l (recordAt l 0))))
 

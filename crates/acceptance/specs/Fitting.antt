@@ -55,6 +55,7 @@ use Rattle.siglist.proofs.read_header as read-header'
 use Rattle.siglist.proofs.record_at as record-at'
 use Rattle.siglist.proofs.check_list as check-list'
 use Rattle.matching.specs.declared.SignatureFit.{SignatureFit}
+use Rattle.found.specs.declared.Hit.{Hit}
 use Rattle.found.specs.declared.Found.{Found}
 use Rattle.found.specs.Least.{prefer}
 use Rattle.found.specs.Rank.{foundOf, rankOf, isNone}
@@ -198,9 +199,9 @@ pub record Findings : Type 0 where
       → Answers is-none'.signature tt (is-none'.Reads.Pre tt) (is-none'.Reads.Post tt)
       (f, tt) (isNone f)
   pub found-of
-      : (label : ℕ) (f : SignatureFit)
+      : (hit : Hit) (f : SignatureFit)
       → Answers found-of'.signature tt (found-of'.Reads.Pre tt) (found-of'.Reads.Post tt)
-      (label, (f, tt)) (foundOf label f)
+      (hit, (f, tt)) (foundOf hit f)
   pub rank-of
       : (f : Found)
       → Answers rank-of'.signature tt (rank-of'.Reads.Pre tt) (rank-of'.Reads.Post tt)

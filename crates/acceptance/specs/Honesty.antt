@@ -20,26 +20,25 @@ use Rattle.matching.specs.declared.Hops.the-variants as hops
 use Rattle.matching.specs.declared.QuirksFit.{QuirksFit}
 use Rattle.matching.specs.declared.QuirksFit.the-variants as quirksfit
 use Rattle.sigrecord.specs.declared.Signature.{Signature}
-use Rattle.matching.specs.declared.SignatureFit.{SignatureFit}
 use Rattle.matching.specs.declared.SignatureFit.the-variants as fit
 use Rattle.matching.specs.declared.Tolerated.{Tolerated}
 use Rattle.matching.specs.Gates.{layoutMatches}
 use Rattle.matching.specs.Tolerance.{maskedQuirks, quirksFit}
-use Rattle.matching.specs.Fit.{featuresOf, scalarGates, fitOf}
-use Rattle.sigrecord.specs.Record.{labelOf}
-use Rattle.siglist.specs.List.{recordCount, recordAt}
+use Rattle.matching.specs.Fit.{scalarGates, fitOf}
+use Rattle.found.specs.declared.Hit.{Hit}
 use Rattle.found.specs.declared.Found.{Found}
 use Rattle.found.specs.declared.Found.the-variants as found
 use Rattle.found.specs.Rank.{rankOf}
 use Rattle.search.specs.declared.SearchAnswer.the-variants as answer
-use Rattle.search.specs.Search.{fitAt, searchOver, searchAll, searchList}
+use Rattle.search.specs.Search.{searchOver, searchAll, searchList}
 use Rattle.packet_answer.specs.declared.PacketAnswer.{PacketAnswer}
 use Rattle.packet_answer.specs.declared.PacketAnswer.the-variants as packet
 use Rattle.packet_answer.specs.Packet.{peerOf, answerOf}
 use Rattle.gateway.specs.declared.GatewayAnswer.{GatewayAnswer}
 use Rattle.gateway.specs.declared.GatewayAnswer.the-variants as gateway
 use Rattle.gateway.specs.Code.{packetFields, fieldsOf, codeOf, gatewayAnswer}
-use Rattle.gateway.specs.Decode.{AllBytes, fieldsFrom, answerFrom}
+use Rattle.gateway.specs.Decode.{AllBytes, packetHeld, held, fieldsFrom, answerFrom}
+use Rattle.acceptance.specs.Outcome.{Outcome}
 
 -- "Nothing tolerated": the TTL is in range, and no quirk is added or missing.
 pub data NothingTolerated : TtlFit → QuirksFit → Type 0 where
@@ -83,34 +82,10 @@ pub record FitsFuzzily (f : Features) (kinds bytes : List ℕ) (s : Signature) (
     pub tolerated
         : ToleratedWith (ttlFit (f .ttl) (s .ittl)) (quirksFit (f .quirks) (maskedQuirks (s .quirks) (s .version) (f .version))) reason
 
--- How record i of a list fits an observation; what is not a well-formed record of the list does not fit.
-abbrev pub fitOfRecord : TcpObservation → List ℕ → ℕ → SignatureFit
-fitOfRecord o l i = fitAt (featuresOf o) (o .olayout .kinds) (o .olayout .bytes) l i
-
-abbrev pub labelAt : List ℕ → ℕ → ℕ
-labelAt l i = labelOf (recordAt l i)
-
--- "the first exact record in list order; else the first fuzzy one, with its reason; else none"
-pub data Outcome (o : TcpObservation) (l : List ℕ) : Found → Type 0 where
-  first-exact
-      : (i : ℕ)
-      → i < recordCount l
-      → fitOfRecord o l i ≡ fit.Exact
-      → ((j : ℕ) → j < i → fitOfRecord o l j ≡ fit.Exact → ⊥)
-      → Outcome o l (found.Exact (labelAt l i))
-  first-fuzzy
-      : (i : ℕ) (reason : FuzzyReason)
-      → i < recordCount l
-      → fitOfRecord o l i ≡ fit.Fuzzy reason
-      → ((j : ℕ) → j < i → fitOfRecord o l j ≡ fit.None)
-      → ((j : ℕ) → j < recordCount l → fitOfRecord o l j ≡ fit.Exact → ⊥)
-      → Outcome o l (found.Fuzzy (labelAt l i) reason)
-  none : ((i : ℕ) → i < recordCount l → fitOfRecord o l i ≡ fit.None) → Outcome o l found.None
-
 -- Which of the three a search's answer is: 1 exact, 2 fuzzy, 3 none.
 abbrev pub whichOf : Found → ℕ
-whichOf (found.Exact label) = 1
-whichOf (found.Fuzzy label reason) = 2
+whichOf (found.Exact hit) = 1
+whichOf (found.Fuzzy hit reason) = 2
 whichOf found.None = 3
 
 -- Of a gateway's answer: one of the three, or 4 (neither SYN nor SYN+ACK), or 5 (refused).
@@ -142,15 +117,16 @@ pub record Honesty : Type 0 where
   pub fuzzy
       : (f : Features) (kinds bytes : List ℕ) (s : Signature) (count : ℕ) (entries : List ℕ) (reason : FuzzyReason)
       → (fitOf f kinds bytes s count entries ≡ fit.Fuzzy reason) ↔ FitsFuzzily f kinds bytes s count entries reason
-  -- What a search finds is one of the three outcomes.
+  -- What a search finds: the first exact record of its list, else the first fuzzy one with its reason, else none.
   pub search : (o : TcpObservation) (l : List ℕ) (x : Found) → searchList o l ≡ answer.Found x → Outcome o l x
   -- Over a longer row of record numbers a search finds the same, or what has strictly less rank: exact before fuzzy before none.
   pub longer-row
       : (o : TcpObservation) (l is js : List ℕ)
       → (searchOver (is ++ js) o l ≡ searchOver is o l) ⊎ (rankOf (searchOver (is ++ js) o l) < rankOf (searchOver is o l))
-  -- What the program and the gateway answer of a SYN or SYN+ACK is the search for its observation, and is one of the three outcomes
-  -- on any list, checked or not.
-  pub answered : (o : TcpObservation) (l : List ℕ) → Outcome o l (searchAll o l)
+  -- What the program and the gateway answer of a SYN or SYN+ACK is the search for its observation. It is an answer exactly when the
+  -- records are so, on any list, checked or not: this record, by number and label, exactly when it is the first exact one, or the first
+  -- fuzzy one where none is exact; none exactly when no record fits.
+  pub answered : (o : TcpObservation) (l : List ℕ) (x : Found) → (searchAll o l ≡ x) ↔ Outcome o l x
   pub syn-answer
       : (p : List ℕ) (peer : Mss) (l : List ℕ)
       → readPacket p peer .answer ≡ reading.Syn
@@ -167,16 +143,16 @@ pub record Honesty : Type 0 where
       → readPacket p peer .answer ≡ reading.Refused r
       → answerOf p peer l ≡ packet.Refused r
   -- No two of the three answers are one.
-  pub exact-not-fuzzy : (a b : ℕ) (r : FuzzyReason) → found.Exact a ≡ found.Fuzzy b r → ⊥
-  pub exact-not-none : (a : ℕ) → found.Exact a ≡ found.None → ⊥
-  pub fuzzy-not-none : (a : ℕ) (r : FuzzyReason) → found.Fuzzy a r ≡ found.None → ⊥
-  -- Nothing of an answer is lost in its number: the answer is read back from it.
+  pub exact-not-fuzzy : (a b : Hit) (r : FuzzyReason) → found.Exact a ≡ found.Fuzzy b r → ⊥
+  pub exact-not-none : (a : Hit) → found.Exact a ≡ found.None → ⊥
+  pub fuzzy-not-none : (a : Hit) (r : FuzzyReason) → found.Fuzzy a r ≡ found.None → ⊥
+  -- Nothing of an answer but the record's number is lost in its code: the rest is read back from it.
   pub read-back
       : (p : List ℕ) (peer : ℕ) (l : List ℕ)
       → AllBytes p
       → AllBytes l
-      → answerFrom (fieldsFrom (codeAt p peer l)) ≡ gatewayAnswer p peer l
-  -- No two different answers of the gateway share a number.
+      → answerFrom (fieldsFrom (codeAt p peer l)) ≡ held (gatewayAnswer p peer l)
+  -- Two answers of the gateway that share a code differ in the record's number at most.
   pub codes-differ
       : (p q : List ℕ) (m n : ℕ) (l k : List ℕ)
       → AllBytes p
@@ -184,7 +160,7 @@ pub record Honesty : Type 0 where
       → AllBytes l
       → AllBytes k
       → codeAt p m l ≡ codeAt q n k
-      → gatewayAnswer p m l ≡ gatewayAnswer q n k
+      → held (gatewayAnswer p m l) ≡ held (gatewayAnswer q n k)
   -- The lowest byte of the number is the outcome, so it alone tells the three apart.
   pub lowest-byte
       : (p : List ℕ) (peer : ℕ) (l : List ℕ)
@@ -196,7 +172,7 @@ pub record Honesty : Type 0 where
       : (p : List ℕ) (peer : ℕ) (l : List ℕ)
       → AllBytes p
       → AllBytes l
-      → answerFrom (fieldsFrom (checkedCode p peer l)) ≡ gateway.Packet (checkedAnswer p peer l)
+      → answerFrom (fieldsFrom (checkedCode p peer l)) ≡ gateway.Packet (packetHeld (checkedAnswer p peer l))
   pub checked-codes-differ
       : (p q : List ℕ) (m n : ℕ) (l k : List ℕ)
       → AllBytes p
@@ -204,7 +180,7 @@ pub record Honesty : Type 0 where
       → AllBytes l
       → AllBytes k
       → checkedCode p m l ≡ checkedCode q n k
-      → checkedAnswer p m l ≡ checkedAnswer q n k
+      → packetHeld (checkedAnswer p m l) ≡ packetHeld (checkedAnswer q n k)
   pub checked-lowest-byte
       : (p : List ℕ) (peer : ℕ) (l : List ℕ)
       → AllBytes p

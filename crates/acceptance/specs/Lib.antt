@@ -11,6 +11,7 @@ pub mod Lent
 pub mod Lines
 pub mod NotFree
 pub mod OnPaper
+pub mod Outcome
 pub mod Overlap
 pub mod Promised
 pub mod Reader

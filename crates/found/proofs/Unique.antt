@@ -4,6 +4,7 @@ use mathlib.Core.Bool.{Bool}
 use Rattle.basis.specs.Unique.{ExactlyOne}
 use Rattle.basis.proofs.Unique.{equation}
 use Rattle.matching.specs.declared.SignatureFit.{SignatureFit}
+use Rattle.found.specs.declared.Hit.{Hit}
 use Rattle.found.specs.declared.Found.{Found}
 use Rattle.found.specs.Least.{prefer}
 use Rattle.found.specs.Rank.{foundOf, rankOf, isNone}
@@ -16,9 +17,9 @@ pub is-none-one : (fit : SignatureFit) → ExactlyOne Bool (λ (r : Bool). is-no
 is-none-one fit = equation (isNone fit)
 
 pub found-of-one
-    : (label : ℕ) (fit : SignatureFit)
-    → ExactlyOne Found (λ (r : Found). found-of'.Post tt (label, (fit, tt)) r (label, (fit, tt)))
-found-of-one label fit = equation (foundOf label fit)
+    : (hit : Hit) (fit : SignatureFit)
+    → ExactlyOne Found (λ (r : Found). found-of'.Post tt (hit, (fit, tt)) r (hit, (fit, tt)))
+found-of-one hit fit = equation (foundOf hit fit)
 
 pub rank-of-one : (found : Found) → ExactlyOne ℕ (λ (r : ℕ). rank-of'.Post tt (found, tt) r (found, tt))
 rank-of-one found = equation (rankOf found)

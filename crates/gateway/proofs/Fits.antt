@@ -1,4 +1,4 @@
--- Every number of a gateway's answer fits its bytes, so no two different answers of a gateway share a code.
+-- Every number of a gateway's answer fits its bytes, so two answers of a gateway that share a code differ in the record's number at most.
 use mathlib.Core.Path.{_≡_, refl}
 use mathlib.Core.Bool.{Bool, true, false, _&&_}
 use mathlib.Core.List.{List}
@@ -17,15 +17,16 @@ use Rattle.matching.specs.Fit.{featuresOf, fitOf}
 use Rattle.refusals.specs.Refusals.{listValue}
 use Rattle.siglist.specs.declared.ListAnswer.{ListAnswer}
 use Rattle.siglist.specs.declared.ListAnswer.the-variants as list
-use Rattle.sigrecord.specs.Record.{signatureOf, entryCount, labelOf}
+use Rattle.sigrecord.specs.Record.{signatureOf, entryCount}
 use Rattle.siglist.specs.List.{recordCount, listFits, recordStart, recordAt, entriesOf, recordGood, checkList}
 use Rattle.siglist.proofs.FirstBad.{Checked, does-not-fit, first-bad-named}
+use Rattle.found.specs.declared.Hit.{Hit}
 use Rattle.found.specs.Least.{Place, nowhere, at}
 use Rattle.found.specs.Rank.{foundOf}
-use Rattle.search.specs.Search.{fitAt, candidateAt, foundAt, searchRow, searchOver, searchAll}
+use Rattle.search.specs.Search.{fitAt, hitAt, candidateAt, foundAt, searchRow, searchOver, searchAll}
 use Rattle.packet_answer.specs.Packet.{peerOf, judged, answerOf}
 use Rattle.gateway.specs.Code.{fieldsOf, codeOf, afterList, gatewayAnswer}
-use Rattle.gateway.specs.Decode.{AllBytes}
+use Rattle.gateway.specs.Decode.{AllBytes, held}
 use Rattle.gateway.proofs.Room.{FoundFits, PacketFits, AnswerFits}
 use Rattle.gateway.proofs.ReadBack.{injective}
 use Rattle.gateway.proofs.Given.{part-bytes, two-bytes, RefusedFits, reading-fits}
@@ -34,11 +35,11 @@ use Rattle.gateway.proofs.Tolerated.{FitSmall, or-none, fit-small}
 -- ---- the search
 
 -- What is found in one record fits.
-found-one : (label : ℕ) (x : SignatureFit) → label < 65536 → FitSmall x → FoundFits (foundOf label x)
+found-one : (hit : Hit) (x : SignatureFit) → hit .label < 65536 → FitSmall x → FoundFits (foundOf hit x)
 unfolding foundOf
-found-one label fit.None hl hx = tt
-found-one label fit.Exact hl hx = hl
-found-one label (fit.Fuzzy r) hl hx = (hl, hx .0, hx .1, hx .2)
+found-one hit fit.None hl hx = tt
+found-one hit fit.Exact hl hx = hl
+found-one hit (fit.Fuzzy r) hl hx = (hl, hx .0, hx .1, hx .2)
 
 module _ (l : List ℕ) (lent : AllBytes l) where
   -- A record of a byte string is one.
@@ -58,7 +59,7 @@ module _ (l : List ℕ) (lent : AllBytes l) where
   unfolding foundAt candidateAt
   read-fits f kinds bytes nowhere = tt
   read-fits f kinds bytes (at i) =
-      found-one (labelOf (recordAt l i)) (fitAt f kinds bytes l i) (two-bytes (recordAt l i) 22 (record-bytes i))
+      found-one (hitAt l i) (fitAt f kinds bytes l i) (two-bytes (recordAt l i) 22 (record-bytes i))
       (record-small f kinds bytes i)
 
   found-fits : (r : Reading) → FoundFits (searchAll (r .observation) l)
@@ -114,7 +115,7 @@ pub answers-fit : (p : List ℕ) (peer : ℕ) (l : List ℕ) → AllBytes p → 
 unfolding gatewayAnswer
 answers-fit p peer l hp hl = after-list (checkList l) p (peerOf peer) l hp hl (list-fits l hl)
 
--- No two different answers of a gateway share a code.
+-- Two answers of a gateway that share a code differ in the record's number at most.
 pub codes-differ
     : (p q : List ℕ) (m n : ℕ) (l k : List ℕ)
     → AllBytes p
@@ -122,6 +123,6 @@ pub codes-differ
     → AllBytes l
     → AllBytes k
     → codeOf (fieldsOf (gatewayAnswer p m l)) ≡ codeOf (fieldsOf (gatewayAnswer q n k))
-    → gatewayAnswer p m l ≡ gatewayAnswer q n k
+    → held (gatewayAnswer p m l) ≡ held (gatewayAnswer q n k)
 codes-differ p q m n l k hp hq hl hk e =
     injective (gatewayAnswer p m l) (gatewayAnswer q n k) (answers-fit p m l hp hl) (answers-fit q n k hq hk) e

@@ -1,4 +1,5 @@
--- Every code is read back: so no two answers share one, and the lowest byte tells the outcome.
+-- Every code is read back: so no two answers share one unless they differ in the record's number alone, and the lowest byte tells the
+-- outcome.
 use mathlib.Core.Path.{_≡_, refl, sym, _∙_, ap}
 use Prim.Native.Nat.{ℕ, _+_, _*_, _/_, _%_, _<_}
 use native.Mathlib.Omega.{arith}
@@ -17,7 +18,7 @@ use Rattle.gateway.specs.declared.GatewayAnswer.{GatewayAnswer}
 use Rattle.gateway.specs.declared.GatewayAnswer.the-variants as gateway
 use Rattle.gateway.specs.declared.Fields.{Fields}
 use Rattle.gateway.specs.Code.{plain, hopsOf, farOf, foundFields, packetFields, fieldsOf, codeOf}
-use Rattle.gateway.specs.Decode.{fieldsFrom, foundFrom, refusedAs, answerFrom}
+use Rattle.gateway.specs.Decode.{foundHeld, held, fieldsFrom, foundFrom, refusedAs, answerFrom}
 use Rattle.gateway.proofs.Room.{HopsFit, FoundFits, AnswerFits}
 
 -- ---- the bytes of a number
@@ -75,8 +76,8 @@ hops-small (hops.OutOfRange d) h = h
 found-fit : (kind : ℕ) (f : Found) → kind < 256 → FoundFits f → Fit (foundFields kind f)
 unfolding foundFields
 found-fit kind found.None k h = plain-fit 3 kind 0 (omega arith) k (omega arith)
-found-fit kind (found.Exact label) k h = plain-fit 1 kind label (omega arith) k h
-found-fit kind (found.Fuzzy label reason) k h =
+found-fit kind (found.Exact hit) k h = plain-fit 1 kind (hit .label) (omega arith) k h
+found-fit kind (found.Fuzzy hit reason) k h =
     record {
       outcome = omega arith;
       kind = k;
@@ -100,34 +101,34 @@ hops-back : (h : Hops) → cond (eqb (farOf h) 0) hops.InRange (hops.OutOfRange 
 hops-back hops.InRange = refl
 hops-back (hops.OutOfRange d) = refl
 
-found-back : (kind : ℕ) (f : Found) → FoundFits f → foundFrom (foundFields kind f) ≡ f
+found-back : (kind : ℕ) (f : Found) → FoundFits f → foundFrom (foundFields kind f) ≡ foundHeld f
 unfolding foundFields
 found-back kind found.None h = refl
-found-back kind (found.Exact label) h = refl
-found-back kind (found.Fuzzy label reason) h =
+found-back kind (found.Exact hit) h = refl
+found-back kind (found.Fuzzy hit reason) h =
     rw (hops-back (reason .hops), mod-eq-of-lt (h .1), mod-eq-of-lt (h .2))
 
-answer-back : (a : GatewayAnswer) → AnswerFits a → answerFrom (fieldsOf a) ≡ a
+answer-back : (a : GatewayAnswer) → AnswerFits a → answerFrom (fieldsOf a) ≡ held a
 unfolding fieldsOf packetFields foundFields
 answer-back (gateway.Packet (packet.Syn found.None)) h = refl
-answer-back (gateway.Packet (packet.Syn (found.Exact label))) h = refl
-answer-back (gateway.Packet (packet.Syn (found.Fuzzy label reason))) h =
-    ap (λ (g : Found). gateway.Packet (packet.Syn g)) (found-back 1 (found.Fuzzy label reason) h)
+answer-back (gateway.Packet (packet.Syn (found.Exact hit))) h = refl
+answer-back (gateway.Packet (packet.Syn (found.Fuzzy hit reason))) h =
+    ap (λ (g : Found). gateway.Packet (packet.Syn g)) (found-back 1 (found.Fuzzy hit reason) h)
 answer-back (gateway.Packet (packet.SynAck found.None)) h = refl
-answer-back (gateway.Packet (packet.SynAck (found.Exact label))) h = refl
-answer-back (gateway.Packet (packet.SynAck (found.Fuzzy label reason))) h =
-    ap (λ (g : Found). gateway.Packet (packet.SynAck g)) (found-back 2 (found.Fuzzy label reason) h)
+answer-back (gateway.Packet (packet.SynAck (found.Exact hit))) h = refl
+answer-back (gateway.Packet (packet.SynAck (found.Fuzzy hit reason))) h =
+    ap (λ (g : Found). gateway.Packet (packet.SynAck g)) (found-back 2 (found.Fuzzy hit reason) h)
 answer-back (gateway.Packet packet.Nothing) h = refl
 answer-back (gateway.Packet (packet.Refused r)) h = ap refusedAs (back (refusal.Packet r))
 answer-back (gateway.List r) h = rw (mod-eq-of-lt h) (ap refusedAs (back (refusal.List r)))
 
 -- ---- the laws
 
-pub read-back : (a : GatewayAnswer) → AnswerFits a → answerFrom (fieldsFrom (codeOf (fieldsOf a))) ≡ a
+pub read-back : (a : GatewayAnswer) → AnswerFits a → answerFrom (fieldsFrom (codeOf (fieldsOf a))) ≡ held a
 read-back a h = ap answerFrom (fields-back (fieldsOf a) (fields-fit a h)) ∙ answer-back a h
 
--- No two different answers share a code.
-pub injective : (a b : GatewayAnswer) → AnswerFits a → AnswerFits b → codeOf (fieldsOf a) ≡ codeOf (fieldsOf b) → a ≡ b
+-- Two answers that share a code differ in the record's number at most.
+pub injective : (a b : GatewayAnswer) → AnswerFits a → AnswerFits b → codeOf (fieldsOf a) ≡ codeOf (fieldsOf b) → held a ≡ held b
 injective a b ha hb e = sym (read-back a ha) ∙ ap (λ (c : ℕ). answerFrom (fieldsFrom c)) e ∙ read-back b hb
 
 -- The lowest byte is the outcome: 1 exact, 2 fuzzy, 3 none, 4 nothing, 5 refused.

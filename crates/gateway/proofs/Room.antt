@@ -17,9 +17,9 @@ HopsFit (hops.OutOfRange d) = d < 256
 
 abbrev pub FoundFits : Found → Type 0
 FoundFits found.None = Unit {0}
-FoundFits (found.Exact label) = label < 65536
-FoundFits (found.Fuzzy label reason) =
-    (label < 65536) × (bitsOf (reason .added) < 256) × (bitsOf (reason .missing) < 256) × HopsFit (reason .hops)
+FoundFits (found.Exact hit) = hit .label < 65536
+FoundFits (found.Fuzzy hit reason) =
+    (hit .label < 65536) × (bitsOf (reason .added) < 256) × (bitsOf (reason .missing) < 256) × HopsFit (reason .hops)
 
 abbrev pub PacketFits : PacketAnswer → Type 0
 PacketFits (packet.Syn f) = FoundFits f

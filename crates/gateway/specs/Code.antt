@@ -37,12 +37,12 @@ farOf (hops.OutOfRange d) = 1
 
 unfoldable pub foundFields : ℕ → Found → Fields
 foundFields kind found.None = plain 3 kind 0
-foundFields kind (found.Exact label) = plain 1 kind label
-foundFields kind (found.Fuzzy label reason) =
+foundFields kind (found.Exact hit) = plain 1 kind (hit .label)
+foundFields kind (found.Fuzzy hit reason) =
     record {
       outcome = 2;
       kind = kind;
-      value = label;
+      value = hit .label;
       added = bitsOf (reason .added) % 256;
       missing = bitsOf (reason .missing) % 256;
       hops = hopsOf (reason .hops);

@@ -79,15 +79,15 @@ fn found_fields(kind: u8, found: Found) -> Fields
 {
     match found {
         Found::None => plain(3, kind, 0),
-        Found::Exact(label) => plain(1, kind, label),
-        Found::Fuzzy(label, reason) => {
+        Found::Exact(hit) => plain(1, kind, hit.label),
+        Found::Fuzzy(hit, reason) => {
             let hops = reason.hops;
             let added = reason.added;
             let missing = reason.missing;
             Fields {
                 outcome: 2,
                 kind,
-                value: label,
+                value: hit.label,
                 added: low_byte(added.bits()),
                 missing: low_byte(missing.bits()),
                 hops: hops_of(hops),

@@ -12,6 +12,7 @@ ghost use Rattle.search.specs.Candidate.{holds, candidateFit};
 ghost use Rattle.search.specs.Next.{Next};
 ghost use Rattle.search.specs.Search.{candidateAt, searchRow};
 use found::Found;
+use found::Hit;
 use found::found_of;
 use found::is_none;
 use found::prefer_found;
@@ -106,7 +107,11 @@ pub(crate) fn search_step(
     if is_none(fit) {
         return held;
     }
-    prefer_found(held, found_of(label_of(raw), fit))
+    let hit = Hit {
+        label: label_of(raw),
+        number: i as u16,
+    };
+    prefer_found(held, found_of(hit, fit))
 }
 
 // The first record from one on that passes the gates, or the end.

@@ -39,4 +39,4 @@ pub search-step-spec : {M : Type 1} → statement M
 search-step-spec =
     tie.close
     (tie.spec (λ c κs. search needs) (λ c κs. search needs) (λ c κs. search needs) returns (λ c κs. search needs)
-    (λ c κs. search needs) (λ c κs. search needs) returns-2)
+    (λ c. search needs) (λ c κs. search needs) (λ c κs. search needs) returns-2)
