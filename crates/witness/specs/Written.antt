@@ -184,20 +184,30 @@ hopsNumber hops.InRange = 0
 hopsNumber (hops.OutOfRange n) = n
 
 -- An answer without a reason.
-abbrev pub outcomeOf : ℕ → ℕ → ℕ → ℕ → PlainSearch
-outcomeOf outcome label refusal bad =
-    record { added = 0; missing = 0; «bad_record» = bad; label = label; number = 0; outcome = outcome; refusal = refusal; far = 0; hops = 0 }
+abbrev pub outcomeOf : ℕ → ℕ → ℕ → ℕ → ℕ → PlainSearch
+outcomeOf outcome label number refusal bad =
+    record {
+      added = 0;
+      missing = 0;
+      «bad_record» = bad;
+      label = label;
+      number = number;
+      outcome = outcome;
+      refusal = refusal;
+      far = 0;
+      hops = 0;
+    }
 
 unfoldable pub plainFound : Found → PlainSearch
-plainFound found.None = outcomeOf 3 0 0 0
-plainFound (found.Exact label) = outcomeOf 1 label 0 0
-plainFound (found.Fuzzy label reason) =
+plainFound found.None = outcomeOf 3 0 0 0 0
+plainFound (found.Exact hit) = outcomeOf 1 (hit .label) (hit .number) 0 0
+plainFound (found.Fuzzy hit reason) =
     record {
       added = bitsOf (reason .added);
       missing = bitsOf (reason .missing);
       «bad_record» = 0;
-      label = label;
-      number = 0;
+      label = hit .label;
+      number = hit .number;
       outcome = 2;
       refusal = 0;
       far = hopsFar (reason .hops);
@@ -206,8 +216,8 @@ plainFound (found.Fuzzy label reason) =
 
 unfoldable pub plainSearch : SearchAnswer → PlainSearch
 plainSearch (search.Found f) = plainFound f
-plainSearch search.LayoutTooLong = outcomeOf 4 0 (number refusal.LayoutTooLong) 0
-plainSearch (search.List r) = outcomeOf 4 0 (number (refusal.List r)) (listValue r % 4294967296)
+plainSearch search.LayoutTooLong = outcomeOf 4 0 0 (number refusal.LayoutTooLong) 0
+plainSearch (search.List r) = outcomeOf 4 0 0 (number (refusal.List r)) (listValue r % 4294967296)
 
 -- ---- the output of a bundle
 

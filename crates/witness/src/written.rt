@@ -274,15 +274,15 @@ fn hops_number(hops: Hops) -> u8
 }
 
 // An answer without a reason.
-fn outcome_of(outcome: u8, label: u16, refusal: u8, bad_record: u32) -> PlainSearch
-    ensures { λ r. ⌜ r ≡ outcomeOf outcome label refusal «bad_record» ⌝ }
+fn outcome_of(outcome: u8, label: u16, number: u16, refusal: u8, bad_record: u32) -> PlainSearch
+    ensures { λ r. ⌜ r ≡ outcomeOf outcome label number refusal «bad_record» ⌝ }
 {
     PlainSearch {
         added: 0,
         missing: 0,
         bad_record,
         label,
-        number: 0,
+        number,
         outcome,
         refusal,
         far: 0,
@@ -290,13 +290,13 @@ fn outcome_of(outcome: u8, label: u16, refusal: u8, bad_record: u32) -> PlainSea
     }
 }
 
-pub fn plain_found(found: Found) -> PlainSearch
+fn plain_found(found: Found) -> PlainSearch
     ensures { λ r. ⌜ r ≡ plainFound found ⌝ }
 {
     match found {
-        Found::None => outcome_of(3, 0, 0, 0),
-        Found::Exact(label) => outcome_of(1, label, 0, 0),
-        Found::Fuzzy(label, reason) => {
+        Found::None => outcome_of(3, 0, 0, 0, 0),
+        Found::Exact(hit) => outcome_of(1, hit.label, hit.number, 0, 0),
+        Found::Fuzzy(hit, reason) => {
             let hops = reason.hops;
             let added = reason.added;
             let missing = reason.missing;
@@ -304,8 +304,8 @@ pub fn plain_found(found: Found) -> PlainSearch
                 added: added.bits(),
                 missing: missing.bits(),
                 bad_record: 0,
-                label,
-                number: 0,
+                label: hit.label,
+                number: hit.number,
                 outcome: 2,
                 refusal: 0,
                 far: hops_far(hops),
@@ -320,13 +320,17 @@ pub(crate) fn plain_search(answer: SearchAnswer) -> PlainSearch
 {
     match answer {
         SearchAnswer::Found(found) => plain_found(found),
-        SearchAnswer::LayoutTooLong => outcome_of(4, 0, refusal_number(Refusal::LayoutTooLong), 0),
-        SearchAnswer::List(why) => outcome_of(
+        SearchAnswer::LayoutTooLong => outcome_of(
             4,
             0,
-            refusal_number(Refusal::List(why)),
-            (list_value(why) % 4294967296) as u32,
+            0,
+            refusal_number(Refusal::LayoutTooLong),
+            0,
         ),
+        SearchAnswer::List(why) => {
+            let refusal = refusal_number(Refusal::List(why));
+            outcome_of(4, 0, 0, refusal, (list_value(why) % 4294967296) as u32)
+        }
     }
 }
 
