@@ -86,29 +86,17 @@ static void offer_options(const uint8_t *s, size_t size) {
     written[1]++;
 }
 
-/* The number of the first record that the original fits so: 1 exactly, 2 fuzzily. */
-static unsigned first_fit(const uint8_t *o, const uint8_t *list, unsigned asked) {
-    unsigned i;
-    uint8_t fit[14];
-    for (i = 0; i < be16_at(list); i++) {
-        const uint8_t *record = list + be16_at(list + 2) + RECORD * i;
-        original_fit(record, list + be16_at(list + 6) + 2 * be16_at(record + 18), o, fit);
-        if (fit[0] == asked) break;
-    }
-    return i;
-}
-
-static void write_search_answer(const uint8_t *o, const uint8_t *list, const Numbers *answer) {
-    unsigned label = (unsigned)(answer->n[0] % 65536);
+static void write_search_answer(const Numbers *answer) {
+    unsigned label = (unsigned)(answer->n[0] % 65536), number = (unsigned)answer->n[5];
     switch (answer->n[0] / 65536) {
     case 0:
         printf("refused %u", label);
         if (label == 10) printf(" %" PRIu64, answer->n[1]);
         break;
     case 1: fputs("none", stdout); break;
-    case 2: printf("exact %u at=%u", label, first_fit(o, list, 1)); break;
+    case 2: printf("exact %u at=%u", label, number); break;
     case 3:
-        printf("fuzzy %u at=%u", label, first_fit(o, list, 2));
+        printf("fuzzy %u at=%u", label, number);
         write_absent_or(" hop=", answer->n[2] != 0, (uint32_t)answer->n[2] % 65536);
         printf(" added=0x%08" PRIX32 " missing=0x%08" PRIX32, (uint32_t)answer->n[3], (uint32_t)answer->n[4]);
         break;
@@ -127,7 +115,7 @@ static void offer_search(const uint8_t *o, const uint8_t *list, size_t size, int
     fputs(" | ", stdout);
     write_bytes(list, size);
     fputs("\nsearch.out ", stdout);
-    write_search_answer(o, list, &answer);
+    write_search_answer(&answer);
     written[2]++;
 }
 
