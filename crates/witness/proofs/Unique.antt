@@ -1,7 +1,6 @@
 -- Exactly one result meets each function's own contract.
 use Prim.Native.Nat.{ℕ}
 use mathlib.Core.Path.{_≡_, refl, ap₂}
-use mathlib.Core.Bool.{false}
 use mathlib.Core.List.{List}
 use contract.Lifetimes.{Lfts}
 use denote.Ref.{RefT, now}
@@ -10,8 +9,8 @@ use Rattle.basis.proofs.Unique.{equation}
 use Rattle.text.specs.Written.{written, left-with}
 use Rattle.window_size.specs.declared.Multiplier.{Multiplier}
 use Rattle.flow.specs.declared.Reading.{Reading}
-use Rattle.report.specs.Pages.{Page, progressOf, firstPage, nextPage}
-use Rattle.witness.specs.Written.{plainPacket, packetRead, optionsRead, plainProgress}
+use Rattle.report.specs.Pages.{Page, progressOf}
+use Rattle.witness.specs.Written.{plainPacket, packetRead, optionsRead, plainProgress, firstOf, nextOf}
 use Rattle.witness.specs.Taken.{searchRead, hopsRead}
 use Rattle.witness.specs.declared.PlainObservation.{PlainObservation}
 use Rattle.witness.specs.declared.PlainPacket.{PlainPacket}
@@ -66,8 +65,14 @@ paged-one page p =
     }
 
 module _ (κs : Lfts 2) (bundle page : RefT (List ℕ)) where
-  pub witness-first-page-one : ExactlyOne Made (λ (r : Made). witness-first-page'.Post κs (bundle, (page, tt)) (r .0) (bundle, (left-with page (r .1), tt)))
-  witness-first-page-one = paged-one (now page) (firstPage (now bundle) false)
+  abbrev left : List ℕ → RefT (List ℕ)
+  left bytes = left-with page bytes
 
-  pub witness-next-page-one : (p : PlainProgress) → ExactlyOne Made (λ (r : Made). witness-next-page'.Post κs (bundle, (p, (page, tt))) (r .0) (bundle, (p, (left-with page (r .1), tt))))
-  witness-next-page-one p = paged-one (now page) (nextPage (now bundle) (p .left) (p .at))
+  pub witness-first-page-one
+      : ExactlyOne Made (λ (r : Made). witness-first-page'.Post κs (bundle, (page, tt)) (r .0) (bundle, (left (r .1), tt)))
+  witness-first-page-one = paged-one (now page) (firstOf (now bundle))
+
+  pub witness-next-page-one
+      : (p : PlainProgress)
+      → ExactlyOne Made (λ (r : Made). witness-next-page'.Post κs (bundle, (p, (page, tt))) (r .0) (bundle, (p, (left (r .1), tt))))
+  witness-next-page-one p = paged-one (now page) (nextOf (now bundle) p)

@@ -1,9 +1,8 @@
 -- The answers as structs of numbers.
 use mathlib.Core.Path.{_≡_}
-use Prim.Native.Nat.{ℕ, _+_, _%_}
-use mathlib.Core.Bool.{Bool, cond}
+use Prim.Native.Nat.{ℕ, _%_}
+use mathlib.Core.Bool.{false, cond}
 use mathlib.Core.List.{List}
-use lib.ListN.{length}
 use Rattle.text.specs.Written.{written}
 use Rattle.quirks.specs.Quirks.{bitsOf}
 use Rattle.tcp.specs.declared.IpVersion.{IpVersion}
@@ -38,7 +37,7 @@ use Rattle.refusals.specs.Refusals.{number, packetValue, listValue}
 use Rattle.search.specs.declared.SearchAnswer.{SearchAnswer}
 use Rattle.search.specs.declared.SearchAnswer.the-variants as search
 use Rattle.packet_answer.specs.Packet.{peerOf}
-use Rattle.report.specs.Pages.{Page, progressOf}
+use Rattle.report.specs.Pages.{Page, progressOf, firstPage, nextPage}
 use Rattle.report.specs.declared.Progress.{Progress}
 use Rattle.witness.specs.declared.PlainObservation.{PlainObservation}
 use Rattle.witness.specs.declared.PlainPacket.{PlainPacket}
@@ -162,7 +161,7 @@ plainOptions r =
       count = r .options .olayout .count;
       mss = mssNumber (r .options .mss);
       refusal = optionsRefusal (r .answer);
-      malformed = cond (r .options .malformed) 1 0;
+      malformed = r .options .malformed;
       «has_mss» = hasMss (r .options .mss);
       «has_wscale» = hasScale (r .options .wscale);
       wscale = scaleNumber (r .options .wscale);
@@ -223,6 +222,12 @@ plainSearch (search.List r) = outcomeOf 4 0 0 (number (refusal.List r)) (listVal
 
 abbrev pub plainProgress : Progress → PlainProgress
 plainProgress p = record { filled = p .filled; left = p .left; at = p .at }
+
+abbrev pub firstOf : List ℕ → Page
+firstOf b = firstPage b false
+
+abbrev pub nextOf : List ℕ → PlainProgress → Page
+nextOf b p = nextPage b (p .left) (p .at)
 
 -- A page's text was put at the start of the page, and the progress is the page's.
 abbrev pub Paged : List ℕ → Page → PlainProgress → List ℕ → Type 0

@@ -1,18 +1,16 @@
 // Outside witnesses: the answers as structs of numbers, for C drivers (tools/witness/witness.h); not part of the product.
 ghost use mathlib.Core.Path.{_≡_};
-ghost use mathlib.Core.Bool.{false};
-ghost use Rattle.report.specs.Pages.{firstPage, nextPage};
-ghost use Rattle.witness.specs.Written.{packetRead, optionsRead, Paged};
+ghost use Rattle.witness.specs.Written.{packetRead, optionsRead, plainProgress, firstOf, nextOf, Paged};
 ghost use Rattle.witness.specs.Taken.{searchRead, hopsRead};
 use packet_answer::peer_of;
 use report::PAGE;
+use searched::plain_search;
 use taken::observation_of;
 use taken::ttl_of;
 use written::plain_options;
 use written::plain_packet;
-use written::plain_progress;
-use written::plain_search;
 
+mod searched;
 mod taken;
 pub mod written;
 
@@ -55,7 +53,7 @@ pub struct PlainOptions {
     pub count: usize,
     pub mss: u16,
     pub refusal: u8,
-    pub malformed: u8,
+    pub malformed: bool,
     pub has_mss: u8,
     pub has_wscale: u8,
     pub wscale: u8,
@@ -121,10 +119,20 @@ pub extern "C" fn witness_hops(ttls: &[u8]) -> u8
     )
 }
 
+fn plain_progress(progress: report::Progress) -> PlainProgress
+    ensures { λ r. ⌜ r ≡ plainProgress progress ⌝ }
+{
+    PlainProgress {
+        filled: progress.filled,
+        left: progress.left,
+        at: progress.at,
+    }
+}
+
 // The first page of a bundle's output, and the next one after a progress.
 #[no_mangle]
 pub extern "C" fn witness_first_page(bundle: &[u8], page: &mut [u8; PAGE]) -> PlainProgress
-    ensures { λ r. ⌜ Paged (now (page .entry)) (firstPage (now (bundle .entry)) false) r (now (page .exit)) ⌝ }
+    ensures { λ r. ⌜ Paged (now (page .entry)) (firstOf (now (bundle .entry))) r (now (page .exit)) ⌝ }
 {
     plain_progress(report::first_page(bundle, false, page))
 }
@@ -135,7 +143,7 @@ pub extern "C" fn witness_next_page(
     progress: PlainProgress,
     page: &mut [u8; PAGE],
 ) -> PlainProgress
-    ensures { λ r. ⌜ Paged (now (page .entry)) (nextPage (now (bundle .entry)) (progress .left) (progress .at)) r (now (page .exit)) ⌝ }
+    ensures { λ r. ⌜ Paged (now (page .entry)) (nextOf (now (bundle .entry)) progress) r (now (page .exit)) ⌝ }
 {
     let from = report::Progress {
         filled: 0,

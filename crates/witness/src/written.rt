@@ -1,25 +1,17 @@
-// The answers as structs of numbers.
+// A reading, and what is parsed of an option string, as structs of numbers.
 ghost use mathlib.Core.Path.{_≡_};
-ghost use mathlib.Core.Bool.{cond};
 ghost use Rattle.witness.specs.Written.{versionNumber, ttlForm, ttlHops, hasMss, mssNumber, hasScale, scaleNumber, payloadNumber};
 ghost use Rattle.witness.specs.Written.{multipleNumber, multipleOf, plainObservation};
 ghost use Rattle.witness.specs.Written.{answerNumber, answerRefusal, answerFlags, plainPacket, optionsRefusal, plainOptions};
-ghost use Rattle.witness.specs.Written.{hopsFar, hopsNumber, outcomeOf, plainFound, plainSearch, plainProgress};
 use crate::PlainObservation;
 use crate::PlainOptions;
 use crate::PlainPacket;
-use crate::PlainProgress;
-use crate::PlainSearch;
 use flow::Answer;
 use flow::Reading;
-use found::Found;
-use matching::Hops;
 use observable::TcpObservation;
 use refusals::Refusal;
-use refusals::list_value;
 use refusals::packet_value;
 use refusals::refusal_number;
-use search::SearchAnswer;
 use syn_options::OptionsAnswer;
 use syn_options::OptionsRead;
 use tcp::IpVersion;
@@ -215,12 +207,6 @@ pub fn plain_packet(reading: Reading, multiplier: Multiplier) -> PlainPacket
 
 // ---- an option string
 
-fn one_if(test: bool) -> u8
-    ensures { λ r. ⌜ r ≡ cond test 1 0 ⌝ }
-{
-    if test { 1 } else { 0 }
-}
-
 fn options_refusal(answer: OptionsAnswer) -> u8
     ensures { λ r. ⌜ r ≡ optionsRefusal answer ⌝ }
 {
@@ -244,102 +230,11 @@ pub(crate) fn plain_options(read: OptionsRead) -> PlainOptions
         count: layout.count,
         mss: mss_number(mss),
         refusal: options_refusal(answer),
-        malformed: one_if(options.malformed),
+        malformed: options.malformed,
         has_mss: has_mss(mss),
         has_wscale: has_scale(wscale),
         wscale: scale_number(wscale),
         kinds,
         bytes,
-    }
-}
-
-// ---- a search
-
-fn hops_far(hops: Hops) -> u8
-    ensures { λ r. ⌜ r ≡ hopsFar hops ⌝ }
-{
-    match hops {
-        Hops::InRange => 0,
-        Hops::OutOfRange(_) => 1,
-    }
-}
-
-fn hops_number(hops: Hops) -> u8
-    ensures { λ r. ⌜ r ≡ hopsNumber hops ⌝ }
-{
-    match hops {
-        Hops::InRange => 0,
-        Hops::OutOfRange(far) => far,
-    }
-}
-
-// An answer without a reason.
-fn outcome_of(outcome: u8, label: u16, number: u16, refusal: u8, bad_record: u32) -> PlainSearch
-    ensures { λ r. ⌜ r ≡ outcomeOf outcome label number refusal «bad_record» ⌝ }
-{
-    PlainSearch {
-        added: 0,
-        missing: 0,
-        bad_record,
-        label,
-        number,
-        outcome,
-        refusal,
-        far: 0,
-        hops: 0,
-    }
-}
-
-fn plain_found(found: Found) -> PlainSearch
-    ensures { λ r. ⌜ r ≡ plainFound found ⌝ }
-{
-    match found {
-        Found::None => outcome_of(3, 0, 0, 0, 0),
-        Found::Exact(hit) => outcome_of(1, hit.label, hit.number, 0, 0),
-        Found::Fuzzy(hit, reason) => {
-            let hops = reason.hops;
-            let added = reason.added;
-            let missing = reason.missing;
-            PlainSearch {
-                added: added.bits(),
-                missing: missing.bits(),
-                bad_record: 0,
-                label: hit.label,
-                number: hit.number,
-                outcome: 2,
-                refusal: 0,
-                far: hops_far(hops),
-                hops: hops_number(hops),
-            }
-        }
-    }
-}
-
-pub(crate) fn plain_search(answer: SearchAnswer) -> PlainSearch
-    ensures { λ r. ⌜ r ≡ plainSearch answer ⌝ }
-{
-    match answer {
-        SearchAnswer::Found(found) => plain_found(found),
-        SearchAnswer::LayoutTooLong => outcome_of(
-            4,
-            0,
-            0,
-            refusal_number(Refusal::LayoutTooLong),
-            0,
-        ),
-        SearchAnswer::List(why) => {
-            let refusal = refusal_number(Refusal::List(why));
-            outcome_of(4, 0, 0, refusal, (list_value(why) % 4294967296) as u32)
-        }
-    }
-}
-
-pub(crate) fn plain_progress(progress: report::Progress) -> PlainProgress
-    ensures { λ r. ⌜ r ≡ plainProgress progress ⌝ }
-{
-    PlainProgress {
-        filled: progress.filled,
-        left: progress.left,
-        at: progress.at,
     }
 }

@@ -19,4 +19,5 @@ returns c =
 
 pub witness-packet-spec : {M : Type 1} → statement M
 witness-packet-spec =
-    tie.close (tie.spec (λ c κs. search needs) (λ c κs. search needs) (λ c κs. search needs) (λ c κs. search needs) returns)
+    tie.close
+    (tie.spec (λ c κs. search needs) (λ c κs. search needs) (λ c κs. search needs) (λ c κs. search needs) returns)

@@ -9,18 +9,18 @@ unfolding plainOptions
 returns c =
     let at-has-scale = c .before in
     let at-has-mss = at-has-scale .before in
-    let at-one-if = at-has-mss .before in
-    let at-options-refusal = at-one-if .before in
+    let at-options-refusal = at-has-mss .before in
     let at-mss-number = at-options-refusal .before in
     simp (
       c .scale-number .ensures,
       at-has-scale .has-scale .ensures,
       at-has-mss .has-mss .ensures,
-      at-one-if .one-if .ensures,
       at-options-refusal .options-refusal .ensures,
       at-mss-number .mss-number .ensures,
     )
 
 pub plain-options-spec : {M : Type 1} → statement M
 plain-options-spec =
-    tie.close (tie.spec (λ c κs. search needs) (λ c κs. search needs) (λ c κs. search needs) (λ c κs. search needs) (λ c κs. search needs) (λ c κs. search needs) returns)
+    tie.close
+    (tie.spec (λ c κs. search needs) (λ c κs. search needs) (λ c κs. search needs) (λ c κs. search needs)
+    (λ c κs. search needs) returns)

@@ -1,8 +1,8 @@
 -- `witness::plain_search` meets its contract.
 use Rattle.witness.specs.Written.{plainSearch}
 use borrow.Author.Needs.{needs}
-use Rattle.witness.proofs.written.plain_search.Statement.{statement}
-use Rattle.witness.proofs.written.plain_search.Tie as tie
+use Rattle.witness.proofs.searched.plain_search.Statement.{statement}
+use Rattle.witness.proofs.searched.plain_search.Tie as tie
 
 returns : tie.Need-returns
 unfolding plainSearch
@@ -27,4 +27,7 @@ returns-3 c =
 
 pub plain-search-spec : {M : Type 1} → statement M
 plain-search-spec =
-    tie.close (tie.spec (λ c. search needs) (λ c κs. search needs) (λ c. search needs) (λ c κs. search needs) (λ c κs. search needs) (λ c. search needs) (λ c κs. search needs) (λ c κs. search needs) (λ c. search needs) (λ c κs. search needs) returns returns-2 returns-3)
+    tie.close
+    (tie.spec (λ c. search needs) (λ c κs. search needs) (λ c. search needs) (λ c κs. search needs)
+    (λ c κs. search needs) (λ c. search needs) (λ c κs. search needs) (λ c κs. search needs) (λ c. search needs)
+    (λ c κs. search needs) returns returns-2 returns-3)

@@ -1,8 +1,8 @@
 -- `witness::plain_found` meets its contract.
 use Rattle.witness.specs.Written.{plainFound}
 use borrow.Author.Needs.{needs}
-use Rattle.witness.proofs.written.plain_found.Statement.{statement}
-use Rattle.witness.proofs.written.plain_found.Tie as tie
+use Rattle.witness.proofs.searched.plain_found.Statement.{statement}
+use Rattle.witness.proofs.searched.plain_found.Tie as tie
 
 returns : tie.Need-returns
 unfolding plainFound
@@ -29,4 +29,7 @@ returns-3 c =
 
 pub plain-found-spec : {M : Type 1} → statement M
 plain-found-spec =
-    tie.close (tie.spec (λ c. search needs) (λ c κs. search needs) (λ c. search needs) (λ c κs. search needs) (λ c. search needs) (λ c κs. search needs) (λ c κs. search needs) (λ c κs. search needs) (λ c κs. search needs) returns returns-2 returns-3)
+    tie.close
+    (tie.spec (λ c. search needs) (λ c κs. search needs) (λ c. search needs) (λ c κs. search needs)
+    (λ c. search needs) (λ c κs. search needs) (λ c κs. search needs) (λ c κs. search needs) (λ c κs. search needs)
+    returns returns-2 returns-3)
