@@ -6,14 +6,14 @@ use contract.Lifetimes.{Lfts}
 use denote.Ref.{RefT, now}
 use Rattle.basis.specs.Unique.{ExactlyOne}
 use Rattle.basis.proofs.Unique.{equation}
-use Rattle.witness.specs.declared.Plain.{Plain}
+use Rattle.witness.specs.declared.PlainPacket.{PlainPacket}
 use Rattle.counted.specs.Counted.{countedAnswer, countedReading}
 use Rattle.counted.proofs.counted_answer.Reads as counted-answer'
 use Rattle.counted.proofs.counted_observe.Reads as counted-observe'
 
 pub counted-observe-one
     : (κs : Lfts 1) (packet : RefT (List ℕ)) (peer : ℕ)
-    → ExactlyOne Plain (λ (r : Plain). counted-observe'.Post κs (packet, (peer, tt)) r (packet, (peer, tt)))
+    → ExactlyOne PlainPacket (λ (r : PlainPacket). counted-observe'.Post κs (packet, (peer, tt)) r (packet, (peer, tt)))
 counted-observe-one κs packet peer = equation (countedReading (now packet) peer)
 
 pub counted-answer-one

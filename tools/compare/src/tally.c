@@ -114,7 +114,7 @@ Numbers try_search(const uint8_t *o, const uint8_t *list, size_t size) {
     Numbers port, original;
     uint8_t input[MOST];
     oracle_search(o, list, size, &original);
-    port_search(o, OBSERVATION, list, size, &port);
+    port_search(o, list, size, &port);
     if (original.n[0] >= 196608) {
         reasons[0] += original.n[2] != 0;
         reasons[1] += original.n[3] & 1;
