@@ -51,7 +51,7 @@ fn taken(length: usize) -> usize
     if length < 2 { 2 } else { length }
 }
 
-// The option at a place; past the end it is an end-of-options. All is kept in places of the whole string, so that a turn of a walk adds once.
+// The option at a place, past the end an end-of-options. All is kept in places of the whole string: a turn of a walk adds once.
 pub fn option_step(options: &[u8], at: usize) -> OptionStep
     ensures { λ r. ⌜ r ≡ stepOf (now (options .entry)) at ⌝ }
 {
