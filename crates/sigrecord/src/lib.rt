@@ -6,10 +6,15 @@ ghost use lib.ListN.{length};
 ghost use Rattle.sigrecord.specs.Layout.{entryGood, entriesGood};
 ghost use Rattle.sigrecord.specs.Record.{signatureOf, firstEntry, entryCount, labelOf};
 ghost use Rattle.sigrecord.specs.WellFormed.{scalarsWellFormed};
-use conditions::scalars_good;
+use conditions::presence_good;
+use conditions::quirks_good;
+use conditions::ttl_good;
+use conditions::version_good;
+use conditions::window_good;
 use numbers::be16_at;
 use numbers::be32;
 use numbers::byte_at;
+use numbers::wide;
 use quirks::QuirkSet;
 use tcp::Mss;
 use tcp::Wscale;
@@ -102,14 +107,11 @@ pub struct Signature {
 pub fn version_of(raw: &[u8]) -> SigVersion
     ensures { λ r. ⌜ r ≡ signatureOf (now (raw .entry)) .version ⌝ }
 {
-    let code = byte_at(raw, VERSION);
-    if code == 4 {
-        return SigVersion::V4;
+    match byte_at(raw, VERSION) {
+        4 => SigVersion::V4,
+        6 => SigVersion::V6,
+        _ => SigVersion::Any,
     }
-    if code == 6 {
-        return SigVersion::V6;
-    }
-    SigVersion::Any
 }
 
 pub fn ttl_of(raw: &[u8]) -> Ttl
@@ -117,16 +119,12 @@ pub fn ttl_of(raw: &[u8]) -> Ttl
 {
     let form = byte_at(raw, TTL_FORM);
     let ttl = byte_at(raw, TTL);
-    if form == 0 {
-        return Ttl::Value(ttl);
+    match form {
+        0 => Ttl::Value(ttl),
+        1 => Ttl::Distance(ttl, byte_at(raw, DISTANCE)),
+        2 => Ttl::Guess(ttl),
+        _ => Ttl::Bad(ttl),
     }
-    if form == 1 {
-        return Ttl::Distance(ttl, byte_at(raw, DISTANCE));
-    }
-    if form == 2 {
-        return Ttl::Guess(ttl);
-    }
-    Ttl::Bad(ttl)
 }
 
 pub fn mss_of(raw: &[u8]) -> Mss
@@ -143,19 +141,13 @@ pub fn window_of(raw: &[u8]) -> WindowSize
 {
     let form = byte_at(raw, WINDOW_FORM);
     let number = be16_at(raw, WINDOW);
-    if form == 0 {
-        return WindowSize::Any;
+    match form {
+        0 => WindowSize::Any,
+        1 => WindowSize::Value(number),
+        2 => WindowSize::Mod(number),
+        3 => WindowSize::Mss((number % 256) as u8),
+        _ => WindowSize::Mtu((number % 256) as u8),
     }
-    if form == 1 {
-        return WindowSize::Value(number);
-    }
-    if form == 2 {
-        return WindowSize::Mod(number);
-    }
-    if form == 3 {
-        return WindowSize::Mss((number % 256) as u8);
-    }
-    WindowSize::Mtu((number % 256) as u8)
 }
 
 pub fn scale_of(raw: &[u8]) -> Wscale
@@ -170,14 +162,11 @@ pub fn scale_of(raw: &[u8]) -> Wscale
 fn payload_of(raw: &[u8]) -> SigPayload
     ensures { λ r. ⌜ r ≡ signatureOf (now (raw .entry)) .pclass ⌝ }
 {
-    let code = byte_at(raw, PAYLOAD);
-    if code == 0 {
-        return SigPayload::Zero;
+    match byte_at(raw, PAYLOAD) {
+        0 => SigPayload::Zero,
+        1 => SigPayload::NonZero,
+        _ => SigPayload::Any,
     }
-    if code == 1 {
-        return SigPayload::NonZero;
-    }
-    SigPayload::Any
 }
 
 pub fn quirks_of(raw: &[u8]) -> QuirkSet
@@ -230,7 +219,28 @@ pub fn scalars_well_formed(raw: &[u8]) -> bool
     if raw.len() != RECORD {
         return false;
     }
-    scalars_good(raw)
+    if !version_good(raw) {
+        return false;
+    }
+    if !ttl_good(raw) {
+        return false;
+    }
+    if !presence_good(byte_at(raw, MSS_PRESENT), be16_at(raw, MSS)) {
+        return false;
+    }
+    if !window_good(raw) {
+        return false;
+    }
+    if !presence_good(byte_at(raw, SCALE_PRESENT), wide(byte_at(raw, SCALE))) {
+        return false;
+    }
+    if 2 < byte_at(raw, PAYLOAD) {
+        return false;
+    }
+    if !quirks_good(raw) {
+        return false;
+    }
+    byte_at(raw, ZERO) == 0
 }
 
 // A layout entry is an option kind and a byte: bytes left after kind 0, else 0. Most bytes are 0, so the byte is tested first.
