@@ -1,6 +1,6 @@
 -- Exactly one result meets each function's own contract.
 use Prim.Native.Nat.{ℕ}
-use mathlib.Core.Bool.{Bool, _&&_}
+use mathlib.Core.Bool.{Bool}
 use mathlib.Core.List.{List}
 use contract.Lifetimes.{Lfts}
 use denote.Ref.{RefT, now}
@@ -10,13 +10,12 @@ use Rattle.quirks.specs.declared.QuirkSet.{QuirkSet}
 use Rattle.tcp.specs.declared.Mss.{Mss}
 use Rattle.tcp.specs.declared.Wscale.{Wscale}
 use Rattle.sigrecord.specs.Record.{signatureOf}
-use Rattle.sigrecord.specs.Layout.{entriesGood}
 use Rattle.observable.specs.declared.TcpObservation.{TcpObservation}
 use Rattle.matching.specs.declared.Features.{Features}
 use Rattle.matching.specs.declared.QuirksFit.{QuirksFit}
 use Rattle.matching.specs.declared.SignatureFit.{SignatureFit}
 use Rattle.matching.specs.Tolerance.{quirksFit}
-use Rattle.matching.specs.Gates.{olenMatches, mssMatches, scaleMatches, layoutMatches}
+use Rattle.matching.specs.Gates.{olenMatches, mssMatches, scaleMatches, goodLayoutMatches}
 use Rattle.matching.specs.Fit.{featuresOf, passes, toleranceOf}
 use Rattle.matching.proofs.olen_matches.Reads as olen-matches'
 use Rattle.matching.proofs.mss_matches.Reads as mss-matches'
@@ -41,10 +40,12 @@ pub olayout-matches-one
     → ExactlyOne Bool
     (λ (r : Bool).
     olayout-matches'.Post κs (kinds, (bytes, (count, (entries, (declared, tt))))) r (kinds, (bytes, (count, (entries, (declared, tt))))))
-olayout-matches-one κs kinds bytes count entries declared = equation (layoutMatches count (now kinds) (now bytes) declared (now entries) && entriesGood (now entries) declared)
+olayout-matches-one κs kinds bytes count entries declared =
+    equation (goodLayoutMatches count (now kinds) (now bytes) declared (now entries))
 
 pub passes-gates-one
-    : (κs : Lfts 1) (raw : RefT (List ℕ)) (f : Features) → ExactlyOne Bool (λ (r : Bool). passes-gates'.Post κs (f, (raw, tt)) r (f, (raw, tt)))
+    : (κs : Lfts 1) (raw : RefT (List ℕ)) (f : Features)
+    → ExactlyOne Bool (λ (r : Bool). passes-gates'.Post κs (f, (raw, tt)) r (f, (raw, tt)))
 passes-gates-one κs raw f = equation (passes f (now raw))
 
 pub quirks-fit-one : (o s : QuirkSet) → ExactlyOne QuirksFit (λ (r : QuirksFit). quirks-fit'.Post tt (o, (s, tt)) r (o, (s, tt)))

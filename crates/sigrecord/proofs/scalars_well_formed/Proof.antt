@@ -69,16 +69,22 @@ returns-9 c =
     let at-version = at-ttl .before .before in
     let at-length = at-version .before .before in
     let whole = eq-eqb (length (at-length .before .before .args .raw .now)) 24 (at-length .if1 .left) in
-    let version = sym (at-version .before .version-good .ensures) ∙ not-false (at-version .before .version-good .result) (at-version .if2 .left) in
-    let ttl = sym (at-ttl .before .ttl-good .ensures) ∙ not-false (at-ttl .before .ttl-good .result) (at-ttl .if3 .left) in
-    let mss = sym (at-mss .before .presence-good .ensures) ∙ not-false (at-mss .before .presence-good .result) (at-mss .if4 .left) in
+    let version =
+    sym (at-version .before .version-good .ensures) ∙ not-false (at-version .before .version-good .result) (at-version .if2 .left) in
+    let ttl =
+    sym (at-ttl .before .ttl-good .ensures) ∙ not-false (at-ttl .before .ttl-good .result) (at-ttl .if3 .left) in
+    let mss =
+    sym (at-mss .before .presence-good .ensures) ∙ not-false (at-mss .before .presence-good .result) (at-mss .if4 .left) in
     let mss-bytes = rw (at-mss .before .before .before .byte-at .ensures, at-mss .before .before .be16-at .ensures) at mss in
-    let window = sym (at-window .before .window-good .ensures) ∙ not-false (at-window .before .window-good .result) (at-window .if5 .left) in
-    let scale = sym (at-scale .before .presence-good2 .ensures) ∙ not-false (at-scale .before .presence-good2 .result) (at-scale .if6 .left) in
+    let window =
+    sym (at-window .before .window-good .ensures) ∙ not-false (at-window .before .window-good .result) (at-window .if5 .left) in
+    let scale =
+    sym (at-scale .before .presence-good2 .ensures) ∙ not-false (at-scale .before .presence-good2 .result) (at-scale .if6 .left) in
     let wide = at-scale .before .before in
     let scale-bytes = rw (wide .before .before .byte-at2 .ensures, wide .wide .ensures, wide .before .byte-at3 .ensures) at scale in
     let payload = rw (at-payload .before .byte-at4 .ensures) at (le-leb (at-payload .before .byte-at4 .result) 2 (at-payload .if7 .left)) in
-    let quirks = sym (at-quirks .before .quirks-good .ensures) ∙ not-false (at-quirks .before .quirks-good .result) (at-quirks .if8 .left) in
+    let quirks =
+    sym (at-quirks .before .quirks-good .ensures) ∙ not-false (at-quirks .before .quirks-good .result) (at-quirks .if8 .left) in
     rw (c .byte-at5 .ensures, whole, version, ttl, mss-bytes, window, scale-bytes, payload, quirks)
 
 pub scalars-well-formed-spec : {M : Type 1} → statement M

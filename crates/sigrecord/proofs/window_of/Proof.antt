@@ -27,4 +27,6 @@ returns-5 c = simp (← c .before .before .byte-at .ensures, ← c .before .be16
 
 pub window-of-spec : {M : Type 1} → statement M
 window-of-spec =
-    tie.close (tie.spec (λ c κs. search needs) (λ c κs. search needs) (λ c. search needs) (λ c. search needs) returns returns-2 returns-3 returns-4 returns-5)
+    tie.close
+    (tie.spec (λ c κs. search needs) (λ c κs. search needs) (λ c. search needs) (λ c. search needs) returns returns-2
+    returns-3 returns-4 returns-5)
