@@ -18,7 +18,9 @@ use Rattle.distances.proofs.window_size_matches.Reads as window-size-ma
 use Rattle.distances.proofs.ttl_fit.Reads as ttl-fit'
 use Rattle.distances.proofs.report_hop_distance.Reads as report-hop-distance'
 
-pub window-size-matches-one : (o : ℕ) (s : WindowSize) (m : Multiplier) → ExactlyOne Bool (λ (r : Bool). window-size-matches'.Post tt (o, (s, (m, tt))) r (o, (s, (m, tt))))
+pub window-size-matches-one
+    : (o : ℕ) (s : WindowSize) (m : Multiplier)
+    → ExactlyOne Bool (λ (r : Bool). window-size-matches'.Post tt (o, (s, (m, tt))) r (o, (s, (m, tt))))
 window-size-matches-one o s m = equation (windowMatches o s m)
 
 pub ttl-fit-one : (o : ℕ) (s : Ttl) → ExactlyOne TtlFit (λ (r : TtlFit). ttl-fit'.Post tt (o, (s, tt)) r (o, (s, tt)))
