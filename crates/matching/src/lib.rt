@@ -192,12 +192,13 @@ pub fn quirks_fit(observed: QuirkSet, signature: QuirkSet) -> QuirksFit
 {
     let missing = signature.difference(observed);
     let added = observed.difference(signature);
-    let deletable = missing.difference(QuirkSet::FUZZY_DELETABLE).is_empty();
-    let addable = added.difference(QuirkSet::FUZZY_ADDABLE).is_empty();
-    if deletable & addable {
-        return QuirksFit::Tolerated(Tolerated { added, missing });
+    if !missing.difference(QuirkSet::FUZZY_DELETABLE).is_empty() {
+        return QuirksFit::Rejected;
     }
-    QuirksFit::Rejected
+    if !added.difference(QuirkSet::FUZZY_ADDABLE).is_empty() {
+        return QuirksFit::Rejected;
+    }
+    QuirksFit::Tolerated(Tolerated { added, missing })
 }
 
 // ---- the fit

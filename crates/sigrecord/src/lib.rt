@@ -6,15 +6,10 @@ ghost use lib.ListN.{length};
 ghost use Rattle.sigrecord.specs.Layout.{entryGood, entriesGood};
 ghost use Rattle.sigrecord.specs.Record.{signatureOf, firstEntry, entryCount, labelOf};
 ghost use Rattle.sigrecord.specs.WellFormed.{scalarsWellFormed};
-use conditions::presence_good;
-use conditions::quirks_good;
-use conditions::ttl_good;
-use conditions::version_good;
-use conditions::window_good;
+use conditions::scalars_good;
 use numbers::be16_at;
 use numbers::be32;
 use numbers::byte_at;
-use numbers::wide;
 use quirks::QuirkSet;
 use tcp::Mss;
 use tcp::Wscale;
@@ -219,28 +214,7 @@ pub fn scalars_well_formed(raw: &[u8]) -> bool
     if raw.len() != RECORD {
         return false;
     }
-    if !version_good(raw) {
-        return false;
-    }
-    if !ttl_good(raw) {
-        return false;
-    }
-    if !presence_good(byte_at(raw, MSS_PRESENT), be16_at(raw, MSS)) {
-        return false;
-    }
-    if !window_good(raw) {
-        return false;
-    }
-    if !presence_good(byte_at(raw, SCALE_PRESENT), wide(byte_at(raw, SCALE))) {
-        return false;
-    }
-    if 2 < byte_at(raw, PAYLOAD) {
-        return false;
-    }
-    if !quirks_good(raw) {
-        return false;
-    }
-    byte_at(raw, ZERO) == 0
+    scalars_good(raw)
 }
 
 // A layout entry is an option kind and a byte: bytes left after kind 0, else 0. Most bytes are 0, so the byte is tested first.
