@@ -1,6 +1,6 @@
 -- Exactly one result meets each public function's own contract.
 -- tools/promises makes this file from the contracts, and the gate holds it to them.
-use mathlib.Core.Bool.{Bool, _&&_}
+use mathlib.Core.Bool.{Bool}
 use mathlib.Core.List.{List}
 use Prim.Native.Nat.{ℕ}
 use contract.Lifetimes.{Lfts}
@@ -11,13 +11,12 @@ use Rattle.tcp.specs.declared.Mss.{Mss}
 use Rattle.tcp.specs.declared.Wscale.{Wscale}
 use Rattle.quirks.specs.declared.QuirkSet.{QuirkSet}
 use Rattle.observable.specs.declared.TcpObservation.{TcpObservation}
-use Rattle.sigrecord.specs.Layout.{entriesGood}
 use Rattle.sigrecord.specs.Record.{signatureOf}
 use Rattle.matching.specs.declared.Features.{Features}
 use Rattle.matching.specs.declared.QuirksFit.{QuirksFit}
 use Rattle.matching.specs.declared.SignatureFit.{SignatureFit}
 use Rattle.matching.specs.Fit.{featuresOf, passes, toleranceOf}
-use Rattle.matching.specs.Gates.{layoutMatches, mssMatches, olenMatches, scaleMatches}
+use Rattle.matching.specs.Gates.{goodLayoutMatches, mssMatches, olenMatches, scaleMatches}
 use Rattle.matching.specs.Tolerance.{quirksFit}
 use Rattle.matching.proofs.features_of.Reads as features-of'
 use Rattle.matching.proofs.mss_matches.Reads as mss-matches'
@@ -49,7 +48,7 @@ pub olayout-matches-one
     (λ (r : Bool). olayout-matches'.Post κs (kinds, (bytes, (count, (entries, (declared, tt))))) r
     (kinds, (bytes, (count, (entries, (declared, tt))))))
 olayout-matches-one κs kinds bytes count entries declared =
-    equation (layoutMatches count (now kinds) (now bytes) declared (now entries) && entriesGood (now entries) declared)
+    equation (goodLayoutMatches count (now kinds) (now bytes) declared (now entries))
 
 pub passes-gates-one
     : (κs : Lfts 1) (observed : Features) (raw : RefT (List ℕ))

@@ -1,9 +1,7 @@
 // matching.rs: how an observation fits a signature. Its gates of version, window and payload are in `distances`.
 ghost use mathlib.Core.Path.{_≡_};
-ghost use mathlib.Core.Bool.{_&&_};
-ghost use Rattle.sigrecord.specs.Layout.{entriesGood};
 ghost use Rattle.sigrecord.specs.Record.{signatureOf};
-ghost use Rattle.matching.specs.Gates.{olenMatches, mssMatches, scaleMatches, layoutMatches};
+ghost use Rattle.matching.specs.Gates.{olenMatches, mssMatches, scaleMatches, goodLayoutMatches};
 ghost use Rattle.matching.specs.Tolerance.{maskedQuirks, quirksFit, judgeInRange, judge};
 ghost use Rattle.matching.specs.Fit.{featuresOf, passes, toleranceOf};
 use distances::TtlFit;
@@ -125,7 +123,7 @@ pub fn olayout_matches(
     entries: &[u8],
     declared: usize,
 ) -> bool
-    ensures { λ r. ⌜ r ≡ layoutMatches count (now (kinds .entry)) (now (bytes .entry)) declared (now (entries .entry)) && entriesGood (now (entries .entry)) declared ⌝ }
+    ensures { λ r. ⌜ r ≡ goodLayoutMatches count (now (kinds .entry)) (now (bytes .entry)) declared (now (entries .entry)) ⌝ }
 {
     if count != declared {
         return false;
@@ -234,15 +232,12 @@ pub fn features_of(observed: TcpObservation) -> Features
 fn judgement(ttl: TtlFit, quirks: QuirksFit) -> SignatureFit
     ensures { λ r. ⌜ r ≡ judge ttl quirks ⌝ }
 {
-    match ttl {
-        TtlFit::Rejected => SignatureFit::None,
-        TtlFit::InRange(_) => match quirks {
-            QuirksFit::Rejected => SignatureFit::None,
-            QuirksFit::Tolerated(found) => in_range(found),
-        },
-        TtlFit::OutOfRange(hops) => match quirks {
-            QuirksFit::Rejected => SignatureFit::None,
-            QuirksFit::Tolerated(found) => {
+    match quirks {
+        QuirksFit::Rejected => SignatureFit::None,
+        QuirksFit::Tolerated(found) => match ttl {
+            TtlFit::Rejected => SignatureFit::None,
+            TtlFit::InRange(_) => in_range(found),
+            TtlFit::OutOfRange(hops) => {
                 let added = found.added;
                 let missing = found.missing;
                 SignatureFit::Fuzzy(FuzzyReason {
@@ -260,10 +255,8 @@ fn in_range(found: Tolerated) -> SignatureFit
 {
     let added = found.added;
     let missing = found.missing;
-    if added.is_empty() {
-        if missing.is_empty() {
-            return SignatureFit::Exact;
-        }
+    if added.is_empty() & missing.is_empty() {
+        return SignatureFit::Exact;
     }
     SignatureFit::Fuzzy(FuzzyReason {
         hops: Hops::InRange,

@@ -52,12 +52,6 @@ fn records_fit(list: &[u8], areas: Areas) -> bool
     areas.records_offset as usize + RECORD * areas.records as usize <= list.len()
 }
 
-fn entries_fit(list: &[u8], areas: Areas) -> bool
-    ensures { λ r. ⌜ r ≡ areaFits (areas .«entries_offset») (2 * areas .entries) (now (list .entry)) ⌝ }
-{
-    areas.entries_offset as usize + 2 * areas.entries as usize <= list.len()
-}
-
 fn list_fits(list: &[u8]) -> bool
     ensures { λ r. ⌜ r ≡ listFits (now (list .entry)) ⌝ }
 {
@@ -68,7 +62,7 @@ fn list_fits(list: &[u8]) -> bool
     if !records_fit(list, areas) {
         return false;
     }
-    entries_fit(list, areas)
+    areas.entries_offset as usize + 2 * areas.entries as usize <= list.len()
 }
 
 // A list's header, if it and its areas fit.

@@ -1,6 +1,5 @@
 -- Demand 1, a line for each public function of matching.
 -- tools/promises makes this file from the contracts, and the gate holds it to them.
-use mathlib.Core.Bool.{_&&_}
 use mathlib.Core.List.{List}
 use Prim.Native.Nat.{ℕ}
 use contract.Lifetimes.{Lfts}
@@ -9,11 +8,10 @@ use Rattle.tcp.specs.declared.Mss.{Mss}
 use Rattle.tcp.specs.declared.Wscale.{Wscale}
 use Rattle.quirks.specs.declared.QuirkSet.{QuirkSet}
 use Rattle.observable.specs.declared.TcpObservation.{TcpObservation}
-use Rattle.sigrecord.specs.Layout.{entriesGood}
 use Rattle.sigrecord.specs.Record.{signatureOf}
 use Rattle.matching.specs.declared.Features.{Features}
 use Rattle.matching.specs.Fit.{featuresOf, passes, toleranceOf}
-use Rattle.matching.specs.Gates.{layoutMatches, mssMatches, olenMatches, scaleMatches}
+use Rattle.matching.specs.Gates.{goodLayoutMatches, mssMatches, olenMatches, scaleMatches}
 use Rattle.matching.specs.Tolerance.{quirksFit}
 use Rattle.matching.proofs.features_of as features-of'
 use Rattle.matching.proofs.mss_matches as mss-matches'
@@ -41,8 +39,7 @@ pub record Promises : Type 0 where
   pub olayout-matches-one
       : (κs : Lfts 3) (kinds bytes : RefT (List ℕ)) (count : ℕ) (entries : RefT (List ℕ)) (declared : ℕ)
       → Answers olayout-matches'.signature κs (olayout-matches'.Reads.Pre κs) (olayout-matches'.Reads.Post κs)
-      (kinds, (bytes, (count, (entries, (declared, tt)))))
-      (layoutMatches count (now kinds) (now bytes) declared (now entries) && entriesGood (now entries) declared)
+      (kinds, (bytes, (count, (entries, (declared, tt))))) (goodLayoutMatches count (now kinds) (now bytes) declared (now entries))
   pub passes-gates-one
       : (κs : Lfts 1) (observed : Features) (raw : RefT (List ℕ))
       → Answers passes-gates'.signature κs (passes-gates'.Reads.Pre κs) (passes-gates'.Reads.Post κs)
