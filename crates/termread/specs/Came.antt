@@ -5,12 +5,10 @@
 -- that no read is made twice at one place.
 use mathlib.Core.Path.{_≡_}
 use mathlib.Core.Bool.{Bool, true, false}
-use Prim.Native.Nat.{ℕ, _+_, _≤_}
+use Prim.Native.Nat.{ℕ, _+_, _<_, _≤_}
 use lib.IntN.{ℤ, pos, negsuc}
 use Rattle.libc.specs.Io.{Moved}
 use Rattle.io.specs.Counts.{clamped}
-use Rattle.termread.specs.declared.Ending.{Ending}
-use Rattle.termread.specs.declared.Ending.the-variants.{Whole, Longer, Failed}
 
 -- So many bytes of the input came.
 pub Came : ℕ → Type 0
@@ -21,8 +19,10 @@ pub ReadSaid : ℕ → ℤ → Type 0
 ReadSaid count got = Unit {0}
 
 -- What is known of a read behind so many bytes that asked for `size`: POSIX's `read` answers -1, or how many came.
-abbrev pub ReadAt : ℕ → ℕ → ℤ → Type 0
-ReadAt count size got = Moved size got × ReadSaid count got × Came (count + clamped got size)
+pub record ReadAt (count size : ℕ) (got : ℤ) : Type 0 where
+  pub moved : Moved size got
+  pub said : ReadSaid count got
+  pub came : Came (count + clamped got size)
 
 -- Before the first read none came.
 pub nothing-came : Came 0
@@ -32,22 +32,27 @@ nothing-came = tt
 -- A read that asked for `size` bytes, one at least, behind those that came, answered `got`.
 pub read-said : (count size : ℕ) (got : ℤ) → Came count → 1 ≤ size → Moved size got → ReadAt count size got
 unfolding Came ReadSaid
-read-said count size got came some moved = (moved, tt, tt)
+read-said count size got came some moved = record { moved = moved; said = tt; came = tt }
 
 -- Only a read that failed is made again.
 abbrev pub AgainAt : ℤ → Bool → Type 0
 AgainAt (pos k) again = again ≡ false
 AgainAt (negsuc k) again = Unit {0}
 
--- What an ending means where so many bytes came into a buffer of that size: the next read answered the input's end (0), a byte more than
--- the buffer holds, or a failure (-1).
-abbrev pub EndsAs : Ending → ℕ → ℕ → Type 0
-EndsAs Whole count size = ReadSaid count (pos 0)
-EndsAs Longer count size = (count ≡ size) × ReadSaid count (pos 1)
-EndsAs Failed count size = ReadSaid count (negsuc 0)
+-- What an ending means where so many bytes came into a buffer of that size: the next read failed (-1); or, unless the buffer is full, it
+-- answered the input's end (0).
+abbrev pub EndsAs : Bool → ℕ → ℕ → Type 0
+EndsAs true count size = ReadSaid count (negsuc 0)
+EndsAs false count size = count < size → ReadSaid count (pos 0)
+
+-- What is known of an input that was read into a buffer of that size.
+pub record InputCame (count : ℕ) (failed : Bool) (size : ℕ) : Type 0 where
+  pub within : count ≤ size
+  pub came : Came count
+  pub ends : EndsAs failed count size
 
 -- Of so many bytes answers are given: as of the whole input only where a read answered its end behind them, as of a longer one only where
--- there is a byte more than the 65,535 that a bundle may have.
+-- more came than the 65,535 that a bundle may have.
 abbrev pub InputEnds : Bool → ℕ → Type 0
-InputEnds false count = EndsAs Whole count 65535
-InputEnds true count = EndsAs Longer count 65535
+InputEnds false count = ReadSaid count (pos 0)
+InputEnds true count = (65535 < count) × Came count

@@ -5,7 +5,7 @@ ghost use Prim.Native.Nat.{_+_, _≤_};
 ghost use lib.ListN.{length};
 ghost use Rattle.report.specs.Pages.{outputOfInput};
 ghost use Rattle.io.specs.Counts.{clamped};
-ghost use Rattle.termread.specs.Came.{Came, ReadAt, AgainAt, EndsAs, InputEnds};
+ghost use Rattle.termread.specs.Came.{Came, ReadAt, AgainAt, InputCame, InputEnds};
 ghost use Rattle.termread.specs.Reached.{Reached, ReachedIf};
 ghost use Rattle.termread.specs.Sending.{Follows, CutAt};
 use libc::STDERR_FILENO;
@@ -16,6 +16,9 @@ use report::PAGE;
 use report::Progress;
 use report::first_page;
 use report::next_page;
+
+// The bytes that a bundle may have. The program reads one more, if there is one.
+const MOST: usize = 65535;
 
 // More pages than any output has: each but the last holds a line, and a bundle at most 65,535 packets.
 const PAGES: usize = 65536;
@@ -47,21 +50,6 @@ fn goes_on() -> bool {
         return true;
     }
     false
-}
-
-// How the reading of the input ended.
-enum Ending {
-    // The input ended.
-    Whole,
-    // The buffer is full, and the input goes on.
-    Longer,
-    // A read failed.
-    Failed,
-}
-
-struct Input {
-    count: usize,
-    ending: Ending,
 }
 
 // One read, the program's only one. It is told how many bytes came before, and what the last read behind these answered (-1 if there was
@@ -103,50 +91,32 @@ fn read_some(count: usize, buffer: &mut [u8]) -> isize
     got
 }
 
-// Whether the input goes on where the buffer is full: one byte more tells.
-fn after_full(count: usize) -> Ending
-    requires { ⌜ Came count ⌝ }
-    ensures { λ r. ⌜ EndsAs r count count ⌝ }
-{
-    let mut one = [0u8; 1];
-    let got = read_some(count, &mut one);
-    if got < 0 {
-        return Ending::Failed;
-    }
-    if got == 0 {
-        return Ending::Whole;
-    }
-    Ending::Longer
+// What came of the input: so many bytes, and whether it ends there because a read failed.
+struct Input {
+    count: usize,
+    failed: bool,
 }
 
 // Reads until the buffer is full, the input ends or a read fails.
 fn read_input(buffer: &mut [u8]) -> Input
-    ensures { λ r. ⌜ r .count ≤ length (now (buffer .exit)) ⌝ }
-    ensures { λ r. ⌜ Came (r .count) ⌝ }
-    ensures { λ r. ⌜ EndsAs (r .ending) (r .count) (length (now (buffer .entry))) ⌝ }
+    ensures { λ r. ⌜ InputCame (r .count) (r .failed) (length (now (buffer .exit))) ⌝ }
 {
     let mut count = 0;
     while count < buffer.len() {
         let rest = &mut buffer[count..];
         let got = read_some(count, rest);
-        if got < 0 {
-            return Input {
-                count,
-                ending: Ending::Failed,
-            };
-        }
         let more = io::count(got, rest);
         if more == 0 {
             return Input {
                 count,
-                ending: Ending::Whole,
+                failed: got < 0,
             };
         }
         count += more;
     }
     Input {
         count,
-        ending: after_full(count),
+        failed: false,
     }
 }
 
@@ -173,25 +143,6 @@ fn ends_at(got: isize) -> bool
     !goes_on()
 }
 
-// What became of a text: how many of its bytes standard output took, and whether the output is cut there.
-struct Sent {
-    taken: usize,
-    cut: bool,
-}
-
-fn write_some(bundle: &[u8], longer: bool, taken: usize, text: &[u8]) -> Sent
-    requires { ⌜ Reached taken ⌝ }
-    requires { ⌜ Follows (outputOfInput (now bundle) longer) taken (now text) ⌝ }
-    ensures { λ r. ⌜ r .taken ≤ length (now (text .entry)) ⌝ }
-    ensures { λ r. ⌜ Reached (taken + r .taken) ⌝ }
-{
-    let got = write_once(bundle, longer, taken, text);
-    Sent {
-        taken: io::count(got, text),
-        cut: ends_at(got),
-    }
-}
-
 // Writes until all of the text is taken or the output is cut. Whether all of it was taken. (The bound is one page more than PAGES: no sum
 // wraps.)
 fn send(bundle: &[u8], longer: bool, taken: usize, text: &[u8]) -> bool
@@ -206,12 +157,12 @@ fn send(bundle: &[u8], longer: bool, taken: usize, text: &[u8]) -> bool
         if from == text.len() {
             return true;
         }
-        let sent = write_some(bundle, longer, taken + from, &text[from..]);
-        let count = sent.taken;
-        if sent.cut {
+        let rest = &text[from..];
+        let got = write_once(bundle, longer, taken + from, rest);
+        if ends_at(got) {
             return false;
         }
-        from += count;
+        from += io::count(got, rest);
         turn += 1;
     }
     false
@@ -253,13 +204,12 @@ fn tell(whole: bool) {
 }
 
 fn main() {
-    let mut buffer = [0u8; 65535];
+    let mut buffer = [0u8; MOST + 1];
     let input = read_input(&mut buffer);
     let count = input.count;
-    let ending = input.ending;
-    match ending {
-        Ending::Whole => tell(write_output(&buffer[0..count], false)),
-        Ending::Longer => tell(write_output(&buffer[0..count], true)),
-        Ending::Failed => say(b"termread: standard input could not be read\n"),
+    if input.failed {
+        say(b"termread: standard input could not be read\n");
+        return;
     }
+    tell(write_output(&buffer[0..count], MOST < count));
 }
