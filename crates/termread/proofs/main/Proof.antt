@@ -19,5 +19,5 @@ write-output-requires c κs =
 pub main-spec : {M : Type 1} → statement M
 main-spec =
     tie.close
-    (tie.spec (λ c. search needs) (λ c κs. tt) (λ c. refl) (λ c κs. tt) (λ c. tt) (λ c. search needs) (λ c. search needs)
+    (tie.spec (λ c. refl) (λ c κs. tt) (λ c. refl) (λ c κs. tt) (λ c. tt) (λ c. search needs) (λ c. search needs)
     (λ c. search needs) write-output-requires (λ c κs. tt) (λ c. tt))
