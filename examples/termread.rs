@@ -130,7 +130,7 @@ pub fn answer(packet: &[u8], peer_mss: Option<u16>, list: &[u8]) -> Result<Answe
     }
 }
 
-/// The answer as the library gives it: crates/gateway/specs/Answer.antt, and in C `termread_result`. Nothing reads `tolerated` and
+/// The answer as the library gives it: crates/gateway/specs/Parts.antt, and in C `termread_result`. Nothing reads `tolerated` and
 /// `examined`, which are 0 and kept for what is to come.
 #[repr(C)]
 #[derive(Clone, Copy, Debug)]

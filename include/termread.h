@@ -4,7 +4,7 @@
    keeps nothing between calls and only reads what it is lent, so that any number of threads may call it.
 
    Nothing checks this file against the source: tools/link_examples compares what C and Rust programs get through it with what the
-   program `termread` prints. What the functions promise is in crates/gateway/src/lib.rt and crates/gateway/specs/Answer.antt. */
+   program `termread` prints. What the functions promise is in crates/gateway/src/lib.rt and crates/gateway/specs/Parts.antt. */
 #ifndef TERMREAD_H
 #define TERMREAD_H
 

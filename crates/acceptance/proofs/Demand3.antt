@@ -21,7 +21,7 @@ use Rattle.bundle.specs.Bundle.{bundleFits, checkBundle}
 use Rattle.bundle.specs.Answers.{answerAt, packetLies, answersFrom, bundleAnswer}
 use Rattle.report.specs.Text.{lineOf}
 use Rattle.report.specs.Pages.{outputOf, outputOfInput}
-use Rattle.gateway.specs.Answer.{GatewayAnswer, packetParts, partsOf, afterList, gatewayAnswer}
+use Rattle.gateway.specs.Parts.{GatewayAnswer, packetParts, partsOf, afterList, gatewayAnswer}
 use Rattle.acceptance.proofs.Overlap.{overlap}
 use Rattle.one_option.specs.Options.{optionsOf}
 use Rattle.alike.specs.Ip.{AlikeIpv4, AlikeIpv6}

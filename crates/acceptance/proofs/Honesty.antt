@@ -16,7 +16,7 @@ use Rattle.search.proofs.Rows.{longer-row}
 use Rattle.packet_answer.specs.declared.PacketAnswer.{PacketAnswer}
 use Rattle.packet_answer.specs.declared.PacketAnswer.the-variants as packet
 use Rattle.packet_answer.specs.Packet.{peerOf, answerOf}
-use Rattle.gateway.specs.Answer.{GatewayAnswer, foundParts, packetParts, refusedList, partsOf, gatewayAnswer}
+use Rattle.gateway.specs.Parts.{GatewayAnswer, foundParts, packetParts, refusedList, partsOf, gatewayAnswer}
 use Rattle.gateway.specs.Decode.{AllBytes, answerFrom}
 use Rattle.gateway.specs.Zeros.{Zeros}
 use Rattle.gateway.proofs.Room.{PacketFits}

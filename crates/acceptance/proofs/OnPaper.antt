@@ -13,7 +13,7 @@ use Rattle.siglist.specs.List.{checkList}
 use Rattle.packet_answer.specs.declared.PacketAnswer.{PacketAnswer}
 use Rattle.packet_answer.specs.declared.PacketAnswer.the-variants as packet
 use Rattle.packet_answer.specs.Packet.{peerOf, answerOf}
-use Rattle.gateway.specs.Answer.{packetParts, refusedList, partsOf, afterList, gatewayAnswer, listParts}
+use Rattle.gateway.specs.Parts.{packetParts, refusedList, partsOf, afterList, gatewayAnswer, listParts}
 use Rattle.gateway.specs.Decode.{AllBytes}
 use Rattle.gateway.proofs.Given.{two-bytes}
 use Rattle.acceptance.specs.OnPaper.{packetPaper, listPaper, gatewayPaper, refusedStruct, Structs, OnPaper}

@@ -21,7 +21,7 @@ use Rattle.packet_answer.specs.declared.PacketAnswer.the-variants as packet
 use Rattle.packet_answer.specs.Packet.{packetVerdict}
 use Rattle.bundle.specs.declared.BundleCheck.the-variants as bundle
 use Rattle.bundle.specs.Bundle.{bundleVerdict}
-use Rattle.gateway.specs.Answer.{GatewayAnswer, gatewayVerdict}
+use Rattle.gateway.specs.Parts.{GatewayAnswer, gatewayVerdict}
 use Rattle.gateway.specs.Decode.{refusedAs}
 use Rattle.acceptance.specs.OnPaper.{Paper, paperOf, ToldApart, Told}
 

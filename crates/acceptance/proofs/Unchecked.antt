@@ -32,7 +32,7 @@ use Rattle.bundle.specs.Bundle.{packetCount, checkBundle}
 use Rattle.bundle.specs.Answers.{answerAt, packetLies, packetAt, startOf}
 use Rattle.bundle.proofs.Packets.{good-fits, fits-lies, packets-within, start-first}
 use Rattle.bundle.proofs.BundleOrder.{each-within}
-use Rattle.gateway.specs.Answer.{refusedList, gatewayAnswer, listParts}
+use Rattle.gateway.specs.Parts.{refusedList, gatewayAnswer, listParts}
 use Rattle.acceptance.specs.Unchecked.{goodOnes, SearchUnchecked, PacketUnchecked, BundleUnchecked, OptionsUnchecked, Unchecked}
 use Rattle.acceptance.proofs.Honesty.{honesty}
 

@@ -35,8 +35,8 @@ use Rattle.search.specs.Search.{searchOver, searchAll, searchList}
 use Rattle.packet_answer.specs.declared.PacketAnswer.{PacketAnswer}
 use Rattle.packet_answer.specs.declared.PacketAnswer.the-variants as packet
 use Rattle.packet_answer.specs.Packet.{peerOf, answerOf}
-use Rattle.gateway.specs.declared.Answer.{Answer}
-use Rattle.gateway.specs.Answer.{GatewayAnswer, packetParts, partsOf, gatewayAnswer, listParts}
+use Rattle.gateway.specs.declared.TermreadResult.{TermreadResult}
+use Rattle.gateway.specs.Parts.{GatewayAnswer, packetParts, partsOf, gatewayAnswer, listParts}
 use Rattle.gateway.specs.Decode.{AllBytes, answerFrom}
 use Rattle.gateway.specs.Zeros.{Zeros}
 use Rattle.acceptance.specs.Outcome.{Outcome}
@@ -98,18 +98,18 @@ outcomeOf (GatewayAnswer.answered (packet.Refused r)) = 5
 outcomeOf (GatewayAnswer.list-refused r) = 5
 
 -- The struct that a gateway gets for a packet, the peer's MSS and a list (`termread_answer`).
-abbrev pub structAt : List ℕ → ℕ → List ℕ → Answer
+abbrev pub structAt : List ℕ → ℕ → List ℕ → TermreadResult
 structAt p peer l = partsOf (gatewayAnswer p peer l)
 
 -- The answer that a gateway gets which checked its list once, and its struct (`termread_answer_checked`).
 abbrev pub checkedAnswer : List ℕ → ℕ → List ℕ → PacketAnswer
 checkedAnswer p peer l = answerOf p (peerOf peer) l
 
-abbrev pub checkedStruct : List ℕ → ℕ → List ℕ → Answer
+abbrev pub checkedStruct : List ℕ → ℕ → List ℕ → TermreadResult
 checkedStruct p peer l = packetParts (checkedAnswer p peer l)
 
 -- The struct that a gateway gets for a list alone (`termread_check_list`).
-abbrev pub listStruct : List ℕ → Answer
+abbrev pub listStruct : List ℕ → TermreadResult
 listStruct l = listParts (checkList l)
 
 pub record Honesty : Type 0 where

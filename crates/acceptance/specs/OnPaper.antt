@@ -24,8 +24,8 @@ use Rattle.packet_answer.specs.declared.PacketAnswer.{PacketAnswer}
 use Rattle.packet_answer.specs.Packet.{answerOf, packetVerdict}
 use Rattle.bundle.specs.declared.BundleCheck.{BundleCheck}
 use Rattle.bundle.specs.Bundle.{listOf, checkBundle, bundleVerdict}
-use Rattle.gateway.specs.declared.Answer as for-c
-use Rattle.gateway.specs.Answer.{GatewayAnswer, refused, gatewayAnswer, gatewayVerdict}
+use Rattle.gateway.specs.declared.TermreadResult.{TermreadResult}
+use Rattle.gateway.specs.Parts.{GatewayAnswer, refused, gatewayAnswer, gatewayVerdict}
 use Rattle.gateway.specs.Decode.{AllBytes}
 use Rattle.acceptance.specs.Honesty.{structAt, checkedAnswer, checkedStruct, listStruct}
 use Rattle.acceptance.specs.Refusals.{First, PacketRow, packetOrder, FlagsByte, OptionsRow, FirstBad, ListRow, SearchRow, BundleRow}
@@ -100,7 +100,7 @@ pub data GatewayRow (p l : List ℕ) : ℕ → Type 0 where
 -- ---- the struct of include/termread.h
 
 -- Outcome 5, the refusal's number, and what it returns; all else is 0.
-abbrev pub refusedStruct : Paper → for-c.Answer
+abbrev pub refusedStruct : Paper → TermreadResult
 refusedStruct x = refused (x .number) (valueOf (x .also))
 
 -- ---- the statement

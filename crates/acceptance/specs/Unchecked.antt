@@ -28,7 +28,7 @@ use Rattle.bundle.specs.declared.BundleCheck.the-variants as check
 use Rattle.bundle.specs.declared.PacketAt.the-variants as there
 use Rattle.bundle.specs.Bundle.{packetCount, listOf, packetBytes, packetPeer, packetEnd, checkBundle}
 use Rattle.bundle.specs.Answers.{packetLies, packetAt, startOf}
-use Rattle.gateway.specs.Answer.{GatewayAnswer, plain, gatewayAnswer}
+use Rattle.gateway.specs.Parts.{GatewayAnswer, plain, gatewayAnswer}
 use Rattle.acceptance.specs.Honesty.{structAt, checkedStruct, listStruct}
 
 -- Of a row of record numbers, those of well-formed records; and all of a list: the list without its bad records.

@@ -27,7 +27,7 @@ use Rattle.found.specs.Least.{Place, nowhere, at}
 use Rattle.found.specs.Rank.{foundOf}
 use Rattle.search.specs.Search.{fitAt, hitAt, candidateAt, foundAt, searchRow, searchOver, searchAll}
 use Rattle.packet_answer.specs.Packet.{peerOf, judged, answerOf}
-use Rattle.gateway.specs.Answer.{partsOf, afterList, gatewayAnswer}
+use Rattle.gateway.specs.Parts.{partsOf, afterList, gatewayAnswer}
 use Rattle.gateway.specs.Decode.{AllBytes}
 use Rattle.gateway.proofs.Room.{HitFits, FoundFits, PacketFits, AnswerFits}
 use Rattle.gateway.proofs.ReadBack.{injective}

@@ -12,7 +12,7 @@ use Rattle.matching.specs.declared.Hops.the-variants as hops
 use Rattle.found.specs.declared.Hit.{Hit}
 use Rattle.found.specs.declared.Found.the-variants as found
 use Rattle.packet_answer.specs.declared.PacketAnswer.the-variants as packet
-use Rattle.gateway.specs.Answer.{GatewayAnswer, hopsOf, flagsOf, fuzzy, foundParts, packetParts, refusedList, partsOf}
+use Rattle.gateway.specs.Parts.{GatewayAnswer, hopsOf, flagsOf, fuzzy, foundParts, packetParts, refusedList, partsOf}
 use Rattle.gateway.specs.Decode.{reasonFrom, refusedAs, answerFrom}
 use Rattle.gateway.proofs.Room.{ReasonFits, AnswerFits}
 

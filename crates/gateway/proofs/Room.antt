@@ -10,7 +10,7 @@ use Rattle.found.specs.declared.Found.{Found}
 use Rattle.found.specs.declared.Found.the-variants as found
 use Rattle.packet_answer.specs.declared.PacketAnswer.{PacketAnswer}
 use Rattle.packet_answer.specs.declared.PacketAnswer.the-variants as packet
-use Rattle.gateway.specs.Answer.{GatewayAnswer}
+use Rattle.gateway.specs.Parts.{GatewayAnswer}
 
 abbrev pub HopsFit : Hops → Type 0
 HopsFit hops.InRange = Unit {0}

@@ -8,23 +8,25 @@ use Rattle.basis.specs.Unique.{ExactlyOne}
 use Rattle.basis.proofs.Unique.{equation}
 use Rattle.siglist.specs.List.{checkList}
 use Rattle.packet_answer.specs.Packet.{answerOf, peerOf}
-use Rattle.gateway.specs.declared.Answer.{Answer}
-use Rattle.gateway.specs.Answer.{gatewayAnswer, listParts, packetParts, partsOf}
+use Rattle.gateway.specs.declared.TermreadResult.{TermreadResult}
+use Rattle.gateway.specs.Parts.{gatewayAnswer, listParts, packetParts, partsOf}
 use Rattle.gateway.proofs.termread_answer.Reads as termread-answer'
 use Rattle.gateway.proofs.termread_answer_checked.Reads as termread-answer-checked'
 use Rattle.gateway.proofs.termread_check_list.Reads as termread-check-list'
 
 pub termread-check-list-one
     : (κs : Lfts 1) (list : RefT (List ℕ))
-    → ExactlyOne Answer (λ (r : Answer). termread-check-list'.Post κs (list, tt) r (list, tt))
+    → ExactlyOne TermreadResult (λ (r : TermreadResult). termread-check-list'.Post κs (list, tt) r (list, tt))
 termread-check-list-one κs list = equation (listParts (checkList (now list)))
 
 pub termread-answer-checked-one
     : (κs : Lfts 2) (packet : RefT (List ℕ)) (peer : ℕ) (list : RefT (List ℕ))
-    → ExactlyOne Answer (λ (r : Answer). termread-answer-checked'.Post κs (packet, (peer, (list, tt))) r (packet, (peer, (list, tt))))
+    → ExactlyOne TermreadResult
+    (λ (r : TermreadResult). termread-answer-checked'.Post κs (packet, (peer, (list, tt))) r (packet, (peer, (list, tt))))
 termread-answer-checked-one κs packet peer list = equation (packetParts (answerOf (now packet) (peerOf peer) (now list)))
 
 pub termread-answer-one
     : (κs : Lfts 2) (packet : RefT (List ℕ)) (peer : ℕ) (list : RefT (List ℕ))
-    → ExactlyOne Answer (λ (r : Answer). termread-answer'.Post κs (packet, (peer, (list, tt))) r (packet, (peer, (list, tt))))
+    → ExactlyOne TermreadResult
+    (λ (r : TermreadResult). termread-answer'.Post κs (packet, (peer, (list, tt))) r (packet, (peer, (list, tt))))
 termread-answer-one κs packet peer list = equation (partsOf (gatewayAnswer (now packet) peer (now list)))

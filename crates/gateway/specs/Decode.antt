@@ -14,10 +14,10 @@ use Rattle.found.specs.declared.Hit.{Hit}
 use Rattle.found.specs.declared.Found.{Found}
 use Rattle.found.specs.declared.Found.the-variants as found
 use Rattle.packet_answer.specs.declared.PacketAnswer.the-variants as packet
-use Rattle.gateway.specs.declared.Answer.{Answer}
-use Rattle.gateway.specs.Answer.{GatewayAnswer}
+use Rattle.gateway.specs.declared.TermreadResult.{TermreadResult}
+use Rattle.gateway.specs.Parts.{GatewayAnswer}
 
-abbrev pub reasonFrom : Answer → FuzzyReason
+abbrev pub reasonFrom : TermreadResult → FuzzyReason
 reasonFrom a =
     record {
       hops = cond (eqb (a .flags % 2) 0) hops.InRange (hops.OutOfRange (a .hops));
@@ -25,10 +25,10 @@ reasonFrom a =
       missing = setOf (a .missing);
     }
 
-abbrev pub hitFrom : Answer → Hit
+abbrev pub hitFrom : TermreadResult → Hit
 hitFrom a = record { label = a .label; number = a .number }
 
-abbrev pub foundFrom : Answer → Found
+abbrev pub foundFrom : TermreadResult → Found
 foundFrom a =
     cond (eqb (a .outcome) 1) (found.Exact (hitFrom a))
     (cond (eqb (a .outcome) 2) (found.Fuzzy (hitFrom a) (reasonFrom a)) found.None)
@@ -37,7 +37,7 @@ foundFrom a =
 abbrev pub refusedAs : Refusal → GatewayAnswer
 refusedAs r = byKind (λ why. GatewayAnswer.answered (packet.Refused why)) GatewayAnswer.list-refused (GatewayAnswer.list-refused list.DoesNotFit) r
 
-abbrev pub answerFrom : Answer → GatewayAnswer
+abbrev pub answerFrom : TermreadResult → GatewayAnswer
 answerFrom a =
     cond (eqb (a .outcome) 5) (refusedAs (refusalFrom (a .refusal) (a .value)))
     (cond (eqb (a .outcome) 4) (GatewayAnswer.answered packet.Nothing)

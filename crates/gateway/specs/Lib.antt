@@ -1,3 +1,3 @@
-pub mod Answer
 pub mod Decode
+pub mod Parts
 pub mod Zeros

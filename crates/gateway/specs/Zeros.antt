@@ -1,9 +1,9 @@
 -- What is 0 in an answer for C.
 use mathlib.Core.Path.{_≡_}
 use Prim.Native.Nat.{_<_}
-use Rattle.gateway.specs.declared.Answer.{Answer}
+use Rattle.gateway.specs.declared.TermreadResult.{TermreadResult}
 
-pub record Zeros (a : Answer) : Type 0 where
+pub record Zeros (a : TermreadResult) : Type 0 where
   -- In every answer: what later requests fill.
   pub tolerated : a .tolerated ≡ 0
   pub examined : a .examined ≡ 0

@@ -2,8 +2,8 @@
 ghost use mathlib.Core.Path.{_≡_};
 ghost use Rattle.siglist.specs.List.{checkList};
 ghost use Rattle.packet_answer.specs.Packet.{peerOf, answerOf};
-ghost use Rattle.gateway.specs.Answer.{plain, refused, hopsOf, flagsOf, fuzzy, foundParts, packetParts, refusedList, partsOf};
-ghost use Rattle.gateway.specs.Answer.{gatewayAnswer, listParts};
+ghost use Rattle.gateway.specs.Parts.{plain, refused, hopsOf, flagsOf, fuzzy, foundParts, packetParts, refusedList, partsOf};
+ghost use Rattle.gateway.specs.Parts.{gatewayAnswer, listParts};
 use found::Found;
 use found::Hit;
 use matching::FuzzyReason;
@@ -19,10 +19,10 @@ use refusals::refusal_number;
 use siglist::ListAnswer;
 use siglist::check_list;
 
-// An answer for C: sixteen bytes, returned in two registers (specs/Answer.antt; include/termread.h has the same struct). What a later request
+// An answer for C: sixteen bytes, returned in two registers (specs/Parts.antt; include/termread.h has the same struct). What a later request
 // fills is 0 until then.
 #[repr(C)]
-pub struct Answer {
+pub struct TermreadResult {
     pub outcome: u8,
     pub kind: u8,
     pub refusal: u8,
@@ -39,10 +39,10 @@ pub struct Answer {
 
 // ---- the fields
 
-fn plain(outcome: u8, kind: u8, label: u16, number: u16) -> Answer
+fn plain(outcome: u8, kind: u8, label: u16, number: u16) -> TermreadResult
     ensures { λ r. ⌜ r ≡ plain outcome kind label number ⌝ }
 {
-    Answer {
+    TermreadResult {
         outcome,
         kind,
         refusal: 0,
@@ -58,10 +58,10 @@ fn plain(outcome: u8, kind: u8, label: u16, number: u16) -> Answer
     }
 }
 
-fn refused(refusal: u8, value: u16) -> Answer
+fn refused(refusal: u8, value: u16) -> TermreadResult
     ensures { λ r. ⌜ r ≡ refused refusal value ⌝ }
 {
-    Answer {
+    TermreadResult {
         outcome: 5,
         kind: 0,
         refusal,
@@ -95,13 +95,13 @@ fn flags_of(hops: Hops) -> u8
     }
 }
 
-fn fuzzy(kind: u8, hit: Hit, reason: FuzzyReason) -> Answer
+fn fuzzy(kind: u8, hit: Hit, reason: FuzzyReason) -> TermreadResult
     ensures { λ r. ⌜ r ≡ fuzzy kind hit reason ⌝ }
 {
     let hops = reason.hops;
     let added = reason.added;
     let missing = reason.missing;
-    Answer {
+    TermreadResult {
         outcome: 2,
         kind,
         refusal: 0,
@@ -117,7 +117,7 @@ fn fuzzy(kind: u8, hit: Hit, reason: FuzzyReason) -> Answer
     }
 }
 
-fn found_parts(kind: u8, found: Found) -> Answer
+fn found_parts(kind: u8, found: Found) -> TermreadResult
     ensures { λ r. ⌜ r ≡ foundParts kind found ⌝ }
 {
     match found {
@@ -127,7 +127,7 @@ fn found_parts(kind: u8, found: Found) -> Answer
     }
 }
 
-fn packet_parts(answer: PacketAnswer) -> Answer
+fn packet_parts(answer: PacketAnswer) -> TermreadResult
     ensures { λ r. ⌜ r ≡ packetParts answer ⌝ }
 {
     match answer {
@@ -141,7 +141,7 @@ fn packet_parts(answer: PacketAnswer) -> Answer
     }
 }
 
-fn refused_list(refusal: ListRefusal) -> Answer
+fn refused_list(refusal: ListRefusal) -> TermreadResult
     ensures { λ r. ⌜ r ≡ refusedList refusal ⌝ }
 {
     refused(
@@ -154,7 +154,7 @@ fn refused_list(refusal: ListRefusal) -> Answer
 
 // Whether a list is well formed: outcome 0, or its refusal.
 #[no_mangle]
-pub extern "C" fn termread_check_list(list: &[u8]) -> Answer
+pub extern "C" fn termread_check_list(list: &[u8]) -> TermreadResult
     ensures { λ r. ⌜ r ≡ listParts (checkList (now (list .entry))) ⌝ }
 {
     match check_list(list) {
@@ -165,7 +165,7 @@ pub extern "C" fn termread_check_list(list: &[u8]) -> Answer
 
 // The answer of a packet against a list that was checked: what is not a well-formed record of it does not fit.
 #[no_mangle]
-pub extern "C" fn termread_answer_checked(packet: &[u8], peer: u16, list: &[u8]) -> Answer
+pub extern "C" fn termread_answer_checked(packet: &[u8], peer: u16, list: &[u8]) -> TermreadResult
     ensures { λ r. ⌜ r ≡ packetParts (answerOf (now (packet .entry)) (peerOf peer) (now (list .entry))) ⌝ }
 {
     packet_parts(answer_packet(packet, peer_of(peer), list))
@@ -173,7 +173,7 @@ pub extern "C" fn termread_answer_checked(packet: &[u8], peer: u16, list: &[u8])
 
 // The answer of a packet against a list that was not checked: refusals 9 and 10 come before the packet's.
 #[no_mangle]
-pub extern "C" fn termread_answer(packet: &[u8], peer: u16, list: &[u8]) -> Answer
+pub extern "C" fn termread_answer(packet: &[u8], peer: u16, list: &[u8]) -> TermreadResult
     ensures { λ r. ⌜ r ≡ partsOf (gatewayAnswer (now (packet .entry)) peer (now (list .entry))) ⌝ }
 {
     match check_list(list) {

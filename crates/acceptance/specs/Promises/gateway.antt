@@ -6,7 +6,7 @@ use contract.Lifetimes.{Lfts}
 use denote.Ref.{RefT, now}
 use Rattle.siglist.specs.List.{checkList}
 use Rattle.packet_answer.specs.Packet.{answerOf, peerOf}
-use Rattle.gateway.specs.Answer.{gatewayAnswer, listParts, packetParts, partsOf}
+use Rattle.gateway.specs.Parts.{gatewayAnswer, listParts, packetParts, partsOf}
 use Rattle.gateway.proofs.termread_answer as termread-answer'
 use Rattle.gateway.proofs.termread_answer_checked as termread-answer-checked'
 use Rattle.gateway.proofs.termread_check_list as termread-check-list'

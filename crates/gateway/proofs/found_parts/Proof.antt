@@ -1,4 +1,4 @@
-use Rattle.gateway.specs.Answer.{foundParts}
+use Rattle.gateway.specs.Parts.{foundParts}
 use borrow.Author.Needs.{needs}
 use Rattle.gateway.proofs.found_parts.Statement.{statement}
 use Rattle.gateway.proofs.found_parts.Tie as tie

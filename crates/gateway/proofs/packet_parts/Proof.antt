@@ -1,4 +1,4 @@
-use Rattle.gateway.specs.Answer.{packetParts}
+use Rattle.gateway.specs.Parts.{packetParts}
 use borrow.Author.Needs.{needs}
 use Rattle.gateway.proofs.packet_parts.Statement.{statement}
 use Rattle.gateway.proofs.packet_parts.Tie as tie

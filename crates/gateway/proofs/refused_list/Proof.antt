@@ -1,4 +1,4 @@
-use Rattle.gateway.specs.Answer.{refusedList}
+use Rattle.gateway.specs.Parts.{refusedList}
 use borrow.Author.Needs.{needs}
 use Rattle.gateway.proofs.refused_list.Statement.{statement}
 use Rattle.gateway.proofs.refused_list.Tie as tie

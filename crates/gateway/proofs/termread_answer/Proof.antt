@@ -1,5 +1,5 @@
 use mathlib.Core.Path.{sym, _∙_}
-use Rattle.gateway.specs.Answer.{gatewayAnswer}
+use Rattle.gateway.specs.Parts.{gatewayAnswer}
 use borrow.Author.Needs.{needs}
 use Rattle.gateway.proofs.termread_answer.Statement.{statement}
 use Rattle.gateway.proofs.termread_answer.Tie as tie

@@ -1,5 +1,5 @@
 use mathlib.Core.Path.{sym, _∙_}
-use Rattle.gateway.specs.Answer.{listParts}
+use Rattle.gateway.specs.Parts.{listParts}
 use borrow.Author.Needs.{needs}
 use Rattle.gateway.proofs.termread_check_list.Statement.{statement}
 use Rattle.gateway.proofs.termread_check_list.Tie as tie

@@ -18,13 +18,13 @@ use Rattle.found.specs.declared.Found.the-variants as found
 use Rattle.packet_answer.specs.declared.PacketAnswer.{PacketAnswer}
 use Rattle.packet_answer.specs.declared.PacketAnswer.the-variants as packet
 use Rattle.packet_answer.specs.Packet.{peerOf, answerOf, packetVerdict}
-use Rattle.gateway.specs.declared.Answer.{Answer}
+use Rattle.gateway.specs.declared.TermreadResult.{TermreadResult}
 
 -- ---- the fields
 
 -- `outcome`: 1 exact, 2 fuzzy, 3 none, 4 nothing (neither SYN nor SYN+ACK), 5 refused; of a list 0, it is good. `kind`, of exact, fuzzy
 -- and none: 1 SYN, 2 SYN+ACK. `label` and `number`, of exact and fuzzy: those of the record, which are counted from 0.
-abbrev pub plain : ℕ → ℕ → ℕ → ℕ → Answer
+abbrev pub plain : ℕ → ℕ → ℕ → ℕ → TermreadResult
 plain outcome kind label number =
     record {
       outcome = outcome;
@@ -42,7 +42,7 @@ plain outcome kind label number =
     }
 
 -- `refusal`: document 01's number. `value`, what it returns beside it: of 7 the flags byte, of 10 the index of the first bad record.
-abbrev pub refused : ℕ → ℕ → Answer
+abbrev pub refused : ℕ → ℕ → TermreadResult
 refused refusal value =
     record {
       outcome = 5;
@@ -69,7 +69,7 @@ abbrev pub flagsOf : Hops → ℕ
 flagsOf hops.InRange = 0
 flagsOf (hops.OutOfRange d) = 1
 
-abbrev pub fuzzy : ℕ → Hit → FuzzyReason → Answer
+abbrev pub fuzzy : ℕ → Hit → FuzzyReason → TermreadResult
 fuzzy kind hit reason =
     record {
       outcome = 2;
@@ -88,18 +88,18 @@ fuzzy kind hit reason =
 
 -- ---- the struct of an answer
 
-unfoldable pub foundParts : ℕ → Found → Answer
+unfoldable pub foundParts : ℕ → Found → TermreadResult
 foundParts kind found.None = plain 3 kind 0 0
 foundParts kind (found.Exact hit) = plain 1 kind (hit .label) (hit .number)
 foundParts kind (found.Fuzzy hit reason) = fuzzy kind hit reason
 
-unfoldable pub packetParts : PacketAnswer → Answer
+unfoldable pub packetParts : PacketAnswer → TermreadResult
 packetParts (packet.Syn f) = foundParts 1 f
 packetParts (packet.SynAck f) = foundParts 2 f
 packetParts packet.Nothing = plain 4 0 0 0
 packetParts (packet.Refused r) = refused (packetNumber r) (packetValue r)
 
-unfoldable pub refusedList : ListRefusal → Answer
+unfoldable pub refusedList : ListRefusal → TermreadResult
 refusedList r = refused (listNumber r) (listValue r % 65536)
 
 -- The answer of a packet, or why its list is refused.
@@ -107,7 +107,7 @@ pub data GatewayAnswer : Type 0 where
   answered : PacketAnswer → GatewayAnswer
   list-refused : ListRefusal → GatewayAnswer
 
-abbrev pub partsOf : GatewayAnswer → Answer
+abbrev pub partsOf : GatewayAnswer → TermreadResult
 partsOf (GatewayAnswer.answered a) = packetParts a
 partsOf (GatewayAnswer.list-refused r) = refusedList r
 
@@ -122,7 +122,7 @@ unfoldable pub gatewayAnswer : List ℕ → ℕ → List ℕ → GatewayAnswer
 gatewayAnswer p peer l = afterList (checkList l) p (peerOf peer) l
 
 -- Of a list: all 0 if it is well formed, or its refusal.
-unfoldable pub listParts : ListAnswer → Answer
+unfoldable pub listParts : ListAnswer → TermreadResult
 listParts list.Good = plain 0 0 0 0
 listParts (list.Refused r) = refusedList r
 
