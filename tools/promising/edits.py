@@ -82,15 +82,10 @@ def faults(edit, public):
         yield f"is of {edit.of[0]}, which {edit.crate} does not have"
 
 
-def all_faults(beside):
-    """The faults of all edits; and the public functions of the product of which no wrong answer is tried."""
+def all_faults():
+    """The faults of all edits."""
     for crate in crates():
         public = [f.path() for f in functions(crate)]
-        tried = edits(crate)
-        for edit in tried:
+        for edit in edits(crate):
             for fault in faults(edit, public):
                 yield f"{edit.path}: {fault}"
-        of = [edit.of[0] for edit in tried if edit.of]
-        for name in public if crate not in beside else []:
-            if name not in of:
-                yield f"{crate}::{name}: no wrong answer is tried"
