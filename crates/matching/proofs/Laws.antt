@@ -19,13 +19,6 @@ use Rattle.distances.specs.Distances.{ttlFit}
 use Rattle.matching.specs.Tolerance.{maskedQuirks, quirksFit, judgeInRange, judge}
 use Rattle.matching.specs.Fit.{scalarGates, toleranceOf, fitOf}
 
--- Quirks that are rejected give no fit, whatever the TTL.
-pub rejected-quirks : (t : TtlFit) → judge t quirksfit.Rejected ≡ answer.None
-unfolding judge
-rejected-quirks ttlfit.Rejected = refl
-rejected-quirks (ttlfit.InRange d) = refl
-rejected-quirks (ttlfit.OutOfRange d) = refl
-
 -- Nothing was tolerated: the TTL is in range, and no quirk is added or missing.
 pub data Untolerated : TtlFit → QuirksFit → Type 0 where
   nothing-tolerated

@@ -232,12 +232,15 @@ pub fn features_of(observed: TcpObservation) -> Features
 fn judgement(ttl: TtlFit, quirks: QuirksFit) -> SignatureFit
     ensures { λ r. ⌜ r ≡ judge ttl quirks ⌝ }
 {
-    match quirks {
-        QuirksFit::Rejected => SignatureFit::None,
-        QuirksFit::Tolerated(found) => match ttl {
-            TtlFit::Rejected => SignatureFit::None,
-            TtlFit::InRange(_) => in_range(found),
-            TtlFit::OutOfRange(hops) => {
+    match ttl {
+        TtlFit::Rejected => SignatureFit::None,
+        TtlFit::InRange(_) => match quirks {
+            QuirksFit::Rejected => SignatureFit::None,
+            QuirksFit::Tolerated(found) => in_range(found),
+        },
+        TtlFit::OutOfRange(hops) => match quirks {
+            QuirksFit::Rejected => SignatureFit::None,
+            QuirksFit::Tolerated(found) => {
                 let added = found.added;
                 let missing = found.missing;
                 SignatureFit::Fuzzy(FuzzyReason {
@@ -255,8 +258,10 @@ fn in_range(found: Tolerated) -> SignatureFit
 {
     let added = found.added;
     let missing = found.missing;
-    if added.is_empty() & missing.is_empty() {
-        return SignatureFit::Exact;
+    if added.is_empty() {
+        if missing.is_empty() {
+            return SignatureFit::Exact;
+        }
     }
     SignatureFit::Fuzzy(FuzzyReason {
         hops: Hops::InRange,
