@@ -16,7 +16,8 @@ use Rattle.found.specs.declared.Hit.{Hit}
 use Rattle.found.specs.declared.Found.{Found}
 use Rattle.found.specs.declared.Found.the-variants as found
 use Rattle.packet_answer.specs.declared.PacketAnswer.the-variants as packet
-use Rattle.gateway.specs.Parts.{GatewayAnswer, plain, refused, hopsOf, flagsOf, fuzzy, foundParts, packetParts, refusedList, partsOf, listParts}
+use Rattle.gateway.specs.Parts.{GatewayAnswer, plain, refused, hopsOf, flagsOf, fuzzy}
+use Rattle.gateway.specs.Parts.{foundParts, packetParts, refusedList, partsOf, listParts}
 use Rattle.gateway.specs.Zeros.{Zeros}
 
 plain-zeros

@@ -35,7 +35,9 @@ foundFrom a =
 
 -- A refusal of a packet or a list. No answer of a gateway has another; it would be read as a list's, since an answer it is not.
 abbrev pub refusedAs : Refusal → GatewayAnswer
-refusedAs r = byKind (λ why. GatewayAnswer.answered (packet.Refused why)) GatewayAnswer.list-refused (GatewayAnswer.list-refused list.DoesNotFit) r
+refusedAs r =
+    byKind (λ why. GatewayAnswer.answered (packet.Refused why)) GatewayAnswer.list-refused
+    (GatewayAnswer.list-refused list.DoesNotFit) r
 
 abbrev pub answerFrom : TermreadResult → GatewayAnswer
 answerFrom a =

@@ -19,8 +19,8 @@ use refusals::refusal_number;
 use siglist::ListAnswer;
 use siglist::check_list;
 
-// An answer for C: sixteen bytes, returned in two registers (specs/Parts.antt; include/termread.h has the same struct). What a later request
-// fills is 0 until then.
+// An answer for C: sixteen bytes, returned in two registers (specs/Parts.antt; include/termread.h has the same struct). What a later
+// request fills is 0 until then.
 #[repr(C)]
 pub struct TermreadResult {
     pub outcome: u8,

@@ -16,7 +16,7 @@ use Rattle.matching.specs.declared.Features.{Features}
 use Rattle.matching.specs.declared.QuirksFit.{QuirksFit}
 use Rattle.matching.specs.declared.SignatureFit.{SignatureFit}
 use Rattle.matching.specs.Fit.{featuresOf, passes, toleranceOf}
-use Rattle.matching.specs.Gates.{goodLayoutMatches, mssMatches, olenMatches, scaleMatches}
+use Rattle.matching.specs.Gates.{goodLayoutFits, mssMatches, olenMatches, scaleMatches}
 use Rattle.matching.specs.Tolerance.{quirksFit}
 use Rattle.matching.proofs.features_of.Reads as features-of'
 use Rattle.matching.proofs.mss_matches.Reads as mss-matches'
@@ -47,8 +47,7 @@ pub olayout-matches-one
     → ExactlyOne Bool
     (λ (r : Bool). olayout-matches'.Post κs (kinds, (bytes, (count, (entries, (declared, tt))))) r
     (kinds, (bytes, (count, (entries, (declared, tt))))))
-olayout-matches-one κs kinds bytes count entries declared =
-    equation (goodLayoutMatches count (now kinds) (now bytes) declared (now entries))
+olayout-matches-one κs kinds bytes count entries declared = equation (goodLayoutFits count (now kinds) (now bytes) declared (now entries))
 
 pub passes-gates-one
     : (κs : Lfts 1) (observed : Features) (raw : RefT (List ℕ))

@@ -44,6 +44,6 @@ layoutMatches count kinds bytes declared entries =
 abbrev pub goodEntriesMatch : List ℕ → List ℕ → List ℕ → ℕ → Bool
 goodEntriesMatch kinds bytes entries count = entriesMatch kinds bytes entries count && entriesGood entries count
 
-abbrev pub goodLayoutMatches : ℕ → List ℕ → List ℕ → ℕ → List ℕ → Bool
-goodLayoutMatches count kinds bytes declared entries =
+abbrev pub goodLayoutFits : ℕ → List ℕ → List ℕ → ℕ → List ℕ → Bool
+goodLayoutFits count kinds bytes declared entries =
     layoutMatches count kinds bytes declared entries && entriesGood entries declared

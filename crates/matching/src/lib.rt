@@ -1,7 +1,7 @@
 // matching.rs: how an observation fits a signature. Its gates of version, window and payload are in `distances`.
 ghost use mathlib.Core.Path.{_≡_};
 ghost use Rattle.sigrecord.specs.Record.{signatureOf};
-ghost use Rattle.matching.specs.Gates.{olenMatches, mssMatches, scaleMatches, goodLayoutMatches};
+ghost use Rattle.matching.specs.Gates.{olenMatches, mssMatches, scaleMatches, goodLayoutFits};
 ghost use Rattle.matching.specs.Tolerance.{maskedQuirks, quirksFit, judgeInRange, judge};
 ghost use Rattle.matching.specs.Fit.{featuresOf, passes, toleranceOf};
 use distances::TtlFit;
@@ -123,7 +123,7 @@ pub fn olayout_matches(
     entries: &[u8],
     declared: usize,
 ) -> bool
-    ensures { λ r. ⌜ r ≡ goodLayoutMatches count (now (kinds .entry)) (now (bytes .entry)) declared (now (entries .entry)) ⌝ }
+    ensures { λ r. ⌜ r ≡ goodLayoutFits count (now (kinds .entry)) (now (bytes .entry)) declared (now (entries .entry)) ⌝ }
 {
     if count != declared {
         return false;

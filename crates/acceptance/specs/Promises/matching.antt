@@ -11,7 +11,7 @@ use Rattle.observable.specs.declared.TcpObservation.{TcpObservation}
 use Rattle.sigrecord.specs.Record.{signatureOf}
 use Rattle.matching.specs.declared.Features.{Features}
 use Rattle.matching.specs.Fit.{featuresOf, passes, toleranceOf}
-use Rattle.matching.specs.Gates.{goodLayoutMatches, mssMatches, olenMatches, scaleMatches}
+use Rattle.matching.specs.Gates.{goodLayoutFits, mssMatches, olenMatches, scaleMatches}
 use Rattle.matching.specs.Tolerance.{quirksFit}
 use Rattle.matching.proofs.features_of as features-of'
 use Rattle.matching.proofs.mss_matches as mss-matches'
@@ -39,7 +39,7 @@ pub record Promises : Type 0 where
   pub olayout-matches-one
       : (κs : Lfts 3) (kinds bytes : RefT (List ℕ)) (count : ℕ) (entries : RefT (List ℕ)) (declared : ℕ)
       → Answers olayout-matches'.signature κs (olayout-matches'.Reads.Pre κs) (olayout-matches'.Reads.Post κs)
-      (kinds, (bytes, (count, (entries, (declared, tt))))) (goodLayoutMatches count (now kinds) (now bytes) declared (now entries))
+      (kinds, (bytes, (count, (entries, (declared, tt))))) (goodLayoutFits count (now kinds) (now bytes) declared (now entries))
   pub passes-gates-one
       : (κs : Lfts 1) (observed : Features) (raw : RefT (List ℕ))
       → Answers passes-gates'.signature κs (passes-gates'.Reads.Pre κs) (passes-gates'.Reads.Post κs)

@@ -5,7 +5,7 @@ use Rattle.witness.proofs.witness_first_page.Statement.{statement}
 use Rattle.witness.proofs.witness_first_page.Tie as tie
 
 returns : tie.Need-returns
-returns c = (rw (c .plain-progress .ensures, c .before .first-page .ensures .0) refl, c .before .first-page .ensures .1)
+returns c = let paged = c .before .first-page .ensures in (rw (c .plain-progress .ensures, paged .0) refl, paged .1)
 
 pub witness-first-page-spec : {M : Type 1} → statement M
 witness-first-page-spec =

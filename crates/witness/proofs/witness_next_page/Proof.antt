@@ -5,7 +5,7 @@ use Rattle.witness.proofs.witness_next_page.Statement.{statement}
 use Rattle.witness.proofs.witness_next_page.Tie as tie
 
 returns : tie.Need-returns
-returns c = (rw (c .plain-progress .ensures, c .before .next-page .ensures .0) refl, c .before .next-page .ensures .1)
+returns c = let paged = c .before .next-page .ensures in (rw (c .plain-progress .ensures, paged .0) refl, paged .1)
 
 pub witness-next-page-spec : {M : Type 1} → statement M
 witness-next-page-spec =
