@@ -14,12 +14,18 @@ part-answer-packet-start c = search needs
 
 returns : tie.Need-returns
 unfolding answerAt
-returns c = rw (c .answer-packet .ensures, c .before .before .before .number-at3 .ensures .0, c .before .before .before .before .number-at2 .ensures .0, c .before .before .before .before .before .packet-end .ensures, c .before .before .before .before .before .before .peer-of .ensures, c .before .before .before .before .before .before .before .number-at .ensures .0)
+returns c =
+    let ended = c .before .before .before in
+    rw (
+      c .answer-packet .ensures,
+      c .before .list-of .ensures,
+      ended .packet-end .ensures,
+      ended .before .peer-of .ensures,
+      ended .before .before .number-at .ensures,
+    )
 
 pub answer-at-place-spec : {M : Type 1} → statement M
 answer-at-place-spec =
     tie.close
-    (tie.spec (λ c κs. search needs) (λ c. search needs) (λ c κs. search needs) (λ c. search needs)
-    (λ c κs. search needs) (λ c κs. search needs) (λ c κs. search needs) (λ c. search needs) sub-answer-packet
-    part-answer-packet-start (λ c. search needs) (λ c. search needs) (λ c. search needs) (λ c. search needs)
-    (λ c κs. search needs) returns)
+    (tie.spec (λ c κs. search needs) (λ c κs. search needs) (λ c. search needs) (λ c κs. search needs) sub-answer-packet
+    part-answer-packet-start (λ c. search needs) (λ c κs. search needs) (λ c κs. search needs) returns)

@@ -12,17 +12,39 @@ returns c = rw (sym (c .before .list-lies .ensures) ∙ not-true (c .before .lis
 
 returns-2 : tie.Need-returns-2
 unfolding packetAt packetLies
-returns-2 c = rw (sym (c .before .before .before .list-lies .ensures) ∙ not-false (c .before .before .before .list-lies .result) (c .before .before .if1 .left), sym (c .before .packet-fits .ensures) ∙ not-true (c .before .packet-fits .result) (c .if2 .taken))
+returns-2 c =
+    let list = c .before .before .before .list-lies in
+    let fit = c .before .packet-fits in
+    rw (
+      sym (list .ensures) ∙ not-false (list .result) (c .before .before .if1 .left),
+      sym (fit .ensures) ∙ not-true (fit .result) (c .if2 .taken),
+    )
 
 answer-at-place-requires : tie.Need-answer-at-place-requires
-answer-at-place-requires c κs = let b = c .before .before .before .before .before .args .bundle .now in let w = lies-within b (sym (c .before .before .before .list-lies .ensures) ∙ not-false (c .before .before .before .list-lies .result) (c .before .before .if1 .left)) in let fits = sym (c .before .packet-fits .ensures) ∙ not-false (c .before .packet-fits .result) (c .if2 .left) in (w .0, w .1, head-within b (c .before .before .before .before .before .args .at) fits, end-within b (c .before .before .before .before .before .args .at) fits)
+answer-at-place-requires c κs =
+    let list = c .before .before .before .list-lies in
+    let fit = c .before .packet-fits in
+    let lies = sym (list .ensures) ∙ not-false (list .result) (c .before .before .if1 .left) in
+    let fits = sym (fit .ensures) ∙ not-false (fit .result) (c .if2 .left) in
+    (lies-within _ lies, (head-within _ _ fits, end-within _ _ fits))
 
 packet-end-requires : tie.Need-packet-end-requires
-packet-end-requires c κs = head-within (c .before .before .before .before .before .before .args .bundle .now) (c .before .before .before .before .before .before .args .at) (sym (c .before .before .packet-fits .ensures) ∙ not-false (c .before .before .packet-fits .result) (c .before .if2 .left))
+packet-end-requires c κs =
+    let fit = c .before .before .packet-fits in
+    head-within _ _ (sym (fit .ensures) ∙ not-false (fit .result) (c .before .if2 .left))
 
 returns-3 : tie.Need-returns-3
 unfolding packetAt packetLies
-returns-3 c = rw (sym (c .before .before .before .before .before .list-lies .ensures) ∙ not-false (c .before .before .before .before .before .list-lies .result) (c .before .before .before .before .if1 .left), sym (c .before .before .before .packet-fits .ensures) ∙ not-false (c .before .before .before .packet-fits .result) (c .before .before .if2 .left), c .before .answer-at-place .ensures, c .packet-end .ensures)
+returns-3 c =
+    let asked = c .before .before .before in
+    let list = asked .before .before .list-lies in
+    let fit = asked .packet-fits in
+    rw (
+      sym (list .ensures) ∙ not-false (list .result) (asked .before .if1 .left),
+      sym (fit .ensures) ∙ not-false (fit .result) (c .before .before .if2 .left),
+      c .before .answer-at-place .ensures,
+      c .packet-end .ensures,
+    )
 
 pub packet-at-spec : {M : Type 1} → statement M
 packet-at-spec =
