@@ -7,7 +7,7 @@ use contract.Lifetimes.{Lfts}
 use denote.Ref.{RefT, now}
 use Rattle.text.specs.Written.{left-with}
 use Rattle.report.specs.declared.Progress.{Progress}
-use Rattle.report.specs.Pages.{firstPage, nextPage}
+use Rattle.report.specs.Pages.{firstPage, pageAfter}
 use Rattle.report.proofs.first_page as first-page'
 use Rattle.report.proofs.next_page as next-page'
 use Rattle.acceptance.specs.Promised.{PageAnswers}
@@ -21,4 +21,4 @@ pub record Promises : Type 0 where
       : (κs : Lfts 2) (bundle : RefT (List ℕ)) (progress : Progress) (page : RefT (List ℕ))
       → PageAnswers next-page'.signature κs (next-page'.Reads.Pre κs) (next-page'.Reads.Post κs)
       (bundle, (progress, (page, tt))) (λ bytes. (bundle, (progress, (left-with page bytes, tt)))) (now page)
-      (nextPage (now bundle) (progress .left) (progress .at))
+      (pageAfter (now bundle) progress)
