@@ -59,12 +59,9 @@ packetsFit b at (suc n) = packetFits b at && packetsFit b (packetEnd b at) n
 unfoldable pub listLies : List ℕ → Bool
 listLies b = leb 8 (length b) && areaFits (listOffset b) (listLength b) b
 
--- As facts: the header and the list's area lie within the bundle; a packet's four bytes and then its own do.
+-- The same as a fact.
 abbrev pub ListWithin : List ℕ → Type 0
 ListWithin b = (8 ≤ length b) × (listOffset b + listLength b ≤ length b)
-
-abbrev pub PacketWithin : List ℕ → ℕ → Type 0
-PacketWithin b at = (at + 4 ≤ length b) × (packetEnd b at ≤ length b)
 
 -- ---- refusals
 

@@ -3,9 +3,9 @@ ghost use mathlib.Core.Path.{_≡_};
 ghost use Prim.Native.Nat.{_+_, _≤_};
 ghost use lib.ListN.{length};
 ghost use Rattle.basis.specs.Bytes.{be16};
-ghost use Rattle.bundle.specs.Bundle.{ListWithin, PacketWithin, listOf, packetEnd, packetFits, packetsFit, listLies};
+ghost use Rattle.bundle.specs.Bundle.{ListWithin, listOf, packetEnd, packetFits, packetsFit, listLies};
 ghost use Rattle.bundle.specs.Bundle.{bundleFits, checkBundle};
-ghost use Rattle.bundle.specs.Answers.{answerAt, packetAt};
+ghost use Rattle.bundle.specs.Answers.{packetAt};
 use numbers::be16;
 use packet_answer::PacketAnswer;
 use packet_answer::answer_packet;
@@ -131,17 +131,6 @@ pub fn check_bundle(bundle: &[u8]) -> BundleCheck
 
 // ---- the answers
 
-// The answer of the packet that starts at a place.
-fn answer_at_place(bundle: &[u8], at: usize) -> PacketAnswer
-    requires { ⌜ ListWithin (now bundle) × PacketWithin (now bundle) at ⌝ }
-    ensures { λ r. ⌜ r ≡ answerAt (now (bundle .entry)) at ⌝ }
-{
-    let peer = peer_of(number_at(bundle, at));
-    let start = at + BEFORE;
-    let end = packet_end(bundle, at);
-    answer_packet(&bundle[start..end], peer, list_of(bundle))
-}
-
 // What is at a place of a bundle, which need not have passed its check.
 pub fn packet_at(bundle: &[u8], at: usize) -> PacketAt
     ensures { λ r. ⌜ r ≡ packetAt (now (bundle .entry)) at ⌝ }
@@ -152,5 +141,11 @@ pub fn packet_at(bundle: &[u8], at: usize) -> PacketAt
     if !packet_fits(bundle, at) {
         return PacketAt::NoPacket;
     }
-    PacketAt::Packet(answer_at_place(bundle, at), packet_end(bundle, at))
+    let peer = peer_of(number_at(bundle, at));
+    let start = at + BEFORE;
+    let end = packet_end(bundle, at);
+    PacketAt::Packet(
+        answer_packet(&bundle[start..end], peer, list_of(bundle)),
+        end,
+    )
 }
