@@ -15,6 +15,7 @@
 #include <poll.h>
 #include <stdarg.h>
 #include <stdio.h>
+#include <stdlib.h>
 #include <string.h>
 #include <unistd.h>
 
@@ -101,7 +102,7 @@ static void print_refused(termread_result answer, int reasons) {
 }
 
 static void print_reason(termread_result answer) {
-    if (answer.flags & TERMREAD_OUT_OF_RANGE) print(" hops %u", answer.hops);
+    if (answer.marks & TERMREAD_OUT_OF_RANGE) print(" hops %u", answer.hops);
     print_quirks("added", answer.added);
     print_quirks("missing", answer.missing);
 }
@@ -121,7 +122,7 @@ static void print_answer(termread_result answer, int reasons) {
     case TERMREAD_NONE: print("%s none", kind); break;
     case TERMREAD_NOTHING: print("nothing"); break;
     case TERMREAD_REFUSED: print_refused(answer, reasons); break;
-    default: print("unknown outcome");
+    default: fprintf(stderr, "gateway: unknown outcome %u\n", answer.outcome), exit(1);
     }
     print("\n");
 }

@@ -147,7 +147,7 @@ struct Given {
     added: u8,
     missing: u8,
     hops: u8,
-    flags: u8,
+    marks: u8,
 }
 
 const _: () = assert!(std::mem::size_of::<Given>() == 16);
@@ -175,7 +175,7 @@ impl Given {
 
     fn reason(self) -> Reason {
         Reason {
-            hops: (self.flags & OUT_OF_RANGE != 0).then_some(self.hops),
+            hops: (self.marks & OUT_OF_RANGE != 0).then_some(self.hops),
             added: Quirks(self.added),
             missing: Quirks(self.missing),
         }

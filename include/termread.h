@@ -18,21 +18,21 @@ extern "C" {
 /* ---- an answer
 
    Sixteen bytes, which come back in two registers. The outcome alone tells exact, fuzzy and none apart. No two different answers are
-   alike in all fields. A field that an answer does not have is 0; `tolerated`, `examined` and the other bits of `flags` are 0 in every
+   alike in all fields. A field that an answer does not have is 0; `tolerated`, `examined` and the other bits of `marks` are 0 in every
    answer, and kept for what is to come. */
 typedef struct termread_result {
     uint8_t outcome;   /* one of the outcomes */
     uint8_t kind;      /* of exact, fuzzy and none: TERMREAD_SYN or TERMREAD_SYNACK */
     uint8_t refusal;   /* of refused: its number */
-    uint8_t tolerated; /* 0 */
+    uint8_t tolerated; /* kept for what was tolerated of a fit: 0 */
     uint16_t label;    /* of exact and fuzzy: the label of the record */
     uint16_t number;   /* of exact and fuzzy: which record of the list it is, from 0 */
-    uint16_t examined; /* 0 */
+    uint16_t examined; /* kept for how many records were examined: 0 */
     uint16_t value;    /* of refusal 7: the flags byte; of refusal 10: the index of the first bad record, from 0 */
     uint8_t added;     /* of fuzzy: quirks that the packet shows and the record does not */
     uint8_t missing;   /* of fuzzy: quirks of the record that the packet does not show */
     uint8_t hops;      /* of fuzzy, if the TTL is out of the record's range: the hop distance */
-    uint8_t flags;     /* of fuzzy: TERMREAD_OUT_OF_RANGE, or 0 */
+    uint8_t marks;     /* of fuzzy: TERMREAD_OUT_OF_RANGE, or 0 */
 } termread_result;
 
 /* The fields add up to sixteen bytes, so that there is nothing between them. */
@@ -68,9 +68,11 @@ enum {
     TERMREAD_REFUSED_BUNDLE = 12          /* of a bundle, which the caller reads itself: it does not fit */
 };
 
-/* The bit of `flags`. */
+/* The bits of `marks`: the lowest alone is set by now; the next two are kept for a packet that was clipped and for a generic record. */
 enum {
-    TERMREAD_OUT_OF_RANGE = 1 /* the TTL is out of the record's range, and `hops` is the hop distance */
+    TERMREAD_OUT_OF_RANGE = 1, /* the TTL is out of the record's range, and `hops` is the hop distance */
+    TERMREAD_CLIPPED = 2,      /* 0 in every answer */
+    TERMREAD_GENERIC = 4       /* 0 in every answer */
 };
 
 /* Quirks, as in bytes 14 to 17 of a list's record. `added` and `missing` hold only the four that may be tolerated: added ECN and

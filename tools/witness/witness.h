@@ -58,11 +58,15 @@ typedef struct {
     uint32_t bad_record; /* of refusal 10 */
     uint16_t label;      /* of exact and fuzzy */
     uint16_t number;     /* of the record, from 0: of exact and fuzzy */
-    uint8_t outcome;     /* 1 exact, 2 fuzzy, 3 none, 4 refused */
+    uint8_t outcome;     /* 1 exact, 2 fuzzy, 3 none, 5 refused, as for C */
     uint8_t refusal;     /* 9, 10 or 11, else 0 */
     uint8_t far;         /* 1 if the TTL is out of range */
     uint8_t hops;        /* the hop distance then */
 } witness_search_read;
+
+/* As many bytes as the source's structs have, by C's layout on x86-64. */
+typedef char witness_structs_have_their_sizes[sizeof(witness_observation) == 120 && sizeof(witness_packet_read) == 128 &&
+                                              sizeof(witness_options_read) == 96 && sizeof(witness_search_read) == 20 ? 1 : -1];
 
 /* The reading of a packet; a peer's MSS of 0 is an absent one. */
 witness_packet_read witness_packet(const uint8_t *packet, size_t length, uint16_t peer_mss);

@@ -12,11 +12,11 @@ use Rattle.matching.specs.declared.Hops.the-variants as hops
 use Rattle.found.specs.declared.Hit.{Hit}
 use Rattle.found.specs.declared.Found.the-variants as found
 use Rattle.packet_answer.specs.declared.PacketAnswer.the-variants as packet
-use Rattle.gateway.specs.Parts.{GatewayAnswer, hopsOf, flagsOf, fuzzy, foundParts, packetParts, refusedList, partsOf}
+use Rattle.gateway.specs.Parts.{GatewayAnswer, hopsOf, marksOf, fuzzy, foundParts, packetParts, refusedList, partsOf}
 use Rattle.gateway.specs.Decode.{reasonFrom, refusedAs, answerFrom}
 use Rattle.gateway.proofs.Room.{ReasonFits, AnswerFits}
 
-hops-back : (h : Hops) → cond (eqb (flagsOf h % 2) 0) hops.InRange (hops.OutOfRange (hopsOf h)) ≡ h
+hops-back : (h : Hops) → cond (eqb (marksOf h % 2) 0) hops.InRange (hops.OutOfRange (hopsOf h)) ≡ h
 hops-back hops.InRange = refl
 hops-back (hops.OutOfRange d) = refl
 

@@ -16,7 +16,7 @@ use Rattle.found.specs.declared.Hit.{Hit}
 use Rattle.found.specs.declared.Found.{Found}
 use Rattle.found.specs.declared.Found.the-variants as found
 use Rattle.packet_answer.specs.declared.PacketAnswer.the-variants as packet
-use Rattle.gateway.specs.Parts.{GatewayAnswer, plain, refused, hopsOf, flagsOf, fuzzy}
+use Rattle.gateway.specs.Parts.{GatewayAnswer, plain, refused, hopsOf, marksOf, fuzzy}
 use Rattle.gateway.specs.Parts.{foundParts, packetParts, refusedList, partsOf, listParts}
 use Rattle.gateway.specs.Zeros.{Zeros}
 
@@ -29,7 +29,7 @@ plain-zeros outcome kind label number kinds records =
     record {
       tolerated = refl;
       examined = refl;
-      high-flags = omega arith;
+      high-marks = omega arith;
       kind = kinds;
       record-found = records;
       reason = λ h. (refl, refl, refl, refl);
@@ -44,7 +44,7 @@ refused-zeros refusal value values =
     record {
       tolerated = refl;
       examined = refl;
-      high-flags = omega arith;
+      high-marks = omega arith;
       kind = λ h i j. refl;
       record-found = λ h i. (refl, refl);
       reason = λ h. (refl, refl, refl, refl);
@@ -53,11 +53,11 @@ refused-zeros refusal value values =
       value = values;
     }
 
-flags-low : (h : Hops) → flagsOf h < 2
-flags-low hops.InRange = omega arith
-flags-low (hops.OutOfRange d) = omega arith
+marks-low : (h : Hops) → marksOf h < 2
+marks-low hops.InRange = omega arith
+marks-low (hops.OutOfRange d) = omega arith
 
-no-distance : (h : Hops) → flagsOf h ≡ 0 → hopsOf h ≡ 0
+no-distance : (h : Hops) → marksOf h ≡ 0 → hopsOf h ≡ 0
 no-distance hops.InRange e = refl
 no-distance (hops.OutOfRange d) e = absurd (omega arith)
 
@@ -66,7 +66,7 @@ fuzzy-zeros kind hit r =
     record {
       tolerated = refl;
       examined = refl;
-      high-flags = flags-low (r .hops);
+      high-marks = marks-low (r .hops);
       kind = λ h i j. absurd (i refl);
       record-found = λ h i. absurd (i refl);
       reason = λ h. absurd (h refl);

@@ -20,7 +20,7 @@ use Rattle.gateway.specs.Parts.{GatewayAnswer}
 abbrev pub reasonFrom : TermreadResult → FuzzyReason
 reasonFrom a =
     record {
-      hops = cond (eqb (a .flags % 2) 0) hops.InRange (hops.OutOfRange (a .hops));
+      hops = cond (eqb (a .marks % 2) 0) hops.InRange (hops.OutOfRange (a .hops));
       added = setOf (a .added);
       missing = setOf (a .missing);
     }

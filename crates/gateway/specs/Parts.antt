@@ -1,5 +1,5 @@
 -- An answer for C: a struct, whose field `outcome` alone tells exact, fuzzy and none apart. No two of its fields share a meaning, and a
--- field that an answer does not have is 0; so are, of every answer, `tolerated`, `examined` and the bits of `flags` above the lowest.
+-- field that an answer does not have is 0; so are, of every answer, `tolerated`, `examined` and the bits of `marks` above the lowest.
 use Prim.Native.Nat.{ℕ, _%_}
 use mathlib.Core.List.{List}
 use Rattle.quirks.specs.Quirks.{bitsOf}
@@ -38,7 +38,7 @@ plain outcome kind label number =
       added = 0;
       missing = 0;
       hops = 0;
-      flags = 0;
+      marks = 0;
     }
 
 -- `refusal`: document 01's number. `value`, what it returns beside it: of 7 the flags byte, of 10 the index of the first bad record.
@@ -56,18 +56,18 @@ refused refusal value =
       added = 0;
       missing = 0;
       hops = 0;
-      flags = 0;
+      marks = 0;
     }
 
 -- The reason of a fuzzy answer, "the hop distance if out of range, the added and the missing quirks" (document 01, module 7): `added`
--- and `missing`, a bit for each quirk; `hops`; `flags`, whose bit 0 says that the TTL is out of range.
+-- and `missing`, a bit for each quirk; `hops`; `marks`, whose bit 0 says that the TTL is out of range.
 abbrev pub hopsOf : Hops → ℕ
 hopsOf hops.InRange = 0
 hopsOf (hops.OutOfRange d) = d
 
-abbrev pub flagsOf : Hops → ℕ
-flagsOf hops.InRange = 0
-flagsOf (hops.OutOfRange d) = 1
+abbrev pub marksOf : Hops → ℕ
+marksOf hops.InRange = 0
+marksOf (hops.OutOfRange d) = 1
 
 abbrev pub fuzzy : ℕ → Hit → FuzzyReason → TermreadResult
 fuzzy kind hit reason =
@@ -83,7 +83,7 @@ fuzzy kind hit reason =
       added = bitsOf (reason .added) % 256;
       missing = bitsOf (reason .missing) % 256;
       hops = hopsOf (reason .hops);
-      flags = flagsOf (reason .hops);
+      marks = marksOf (reason .hops);
     }
 
 -- ---- the struct of an answer

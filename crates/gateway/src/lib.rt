@@ -2,7 +2,7 @@
 ghost use mathlib.Core.Path.{_≡_};
 ghost use Rattle.siglist.specs.List.{checkList};
 ghost use Rattle.packet_answer.specs.Packet.{peerOf, answerOf};
-ghost use Rattle.gateway.specs.Parts.{plain, refused, hopsOf, flagsOf, fuzzy, foundParts, packetParts, refusedList, partsOf};
+ghost use Rattle.gateway.specs.Parts.{plain, refused, hopsOf, marksOf, fuzzy, foundParts, packetParts, refusedList, partsOf};
 ghost use Rattle.gateway.specs.Parts.{gatewayAnswer, listParts};
 use found::Found;
 use found::Hit;
@@ -34,7 +34,7 @@ pub struct TermreadResult {
     pub added: u8,
     pub missing: u8,
     pub hops: u8,
-    pub flags: u8,
+    pub marks: u8,
 }
 
 // ---- the fields
@@ -54,7 +54,7 @@ fn plain(outcome: u8, kind: u8, label: u16, number: u16) -> TermreadResult
         added: 0,
         missing: 0,
         hops: 0,
-        flags: 0,
+        marks: 0,
     }
 }
 
@@ -73,7 +73,7 @@ fn refused(refusal: u8, value: u16) -> TermreadResult
         added: 0,
         missing: 0,
         hops: 0,
-        flags: 0,
+        marks: 0,
     }
 }
 
@@ -86,8 +86,8 @@ fn hops_of(hops: Hops) -> u8
     }
 }
 
-fn flags_of(hops: Hops) -> u8
-    ensures { λ r. ⌜ r ≡ flagsOf hops ⌝ }
+fn marks_of(hops: Hops) -> u8
+    ensures { λ r. ⌜ r ≡ marksOf hops ⌝ }
 {
     match hops {
         Hops::InRange => 0,
@@ -113,7 +113,7 @@ fn fuzzy(kind: u8, hit: Hit, reason: FuzzyReason) -> TermreadResult
         added: (added.bits() % 256) as u8,
         missing: (missing.bits() % 256) as u8,
         hops: hops_of(hops),
-        flags: flags_of(hops),
+        marks: marks_of(hops),
     }
 }
 

@@ -215,8 +215,8 @@ plainFound (found.Fuzzy hit reason) =
 
 unfoldable pub plainSearch : SearchAnswer → PlainSearch
 plainSearch (search.Found f) = plainFound f
-plainSearch search.LayoutTooLong = outcomeOf 4 0 0 (number refusal.LayoutTooLong) 0
-plainSearch (search.List r) = outcomeOf 4 0 0 (number (refusal.List r)) (listValue r % 4294967296)
+plainSearch search.LayoutTooLong = outcomeOf 5 0 0 (number refusal.LayoutTooLong) 0
+plainSearch (search.List r) = outcomeOf 5 0 0 (number (refusal.List r)) (listValue r % 4294967296)
 
 -- ---- the output of a bundle
 

@@ -75,7 +75,7 @@ pub(crate) fn plain_search(answer: SearchAnswer) -> PlainSearch
     match answer {
         SearchAnswer::Found(found) => plain_found(found),
         SearchAnswer::LayoutTooLong => outcome_of(
-            4,
+            5,
             0,
             0,
             refusal_number(Refusal::LayoutTooLong),
@@ -83,7 +83,7 @@ pub(crate) fn plain_search(answer: SearchAnswer) -> PlainSearch
         ),
         SearchAnswer::List(why) => {
             let refusal = refusal_number(Refusal::List(why));
-            outcome_of(4, 0, 0, refusal, (list_value(why) % 4294967296) as u32)
+            outcome_of(5, 0, 0, refusal, (list_value(why) % 4294967296) as u32)
         }
     }
 }

@@ -5,7 +5,7 @@ use Rattle.gateway.proofs.fuzzy.Tie as tie
 returns : tie.Need-returns
 returns c =
     let at = c .before in
-    rw (c .flags-of .ensures, at .hops-of .ensures, at .before .bits2 .ensures, at .before .before .bits .ensures)
+    rw (c .marks-of .ensures, at .hops-of .ensures, at .before .bits2 .ensures, at .before .before .bits .ensures)
 
 pub fuzzy-spec : {M : Type 1} → statement M
 fuzzy-spec =
