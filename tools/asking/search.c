@@ -4,7 +4,7 @@
 #include <inttypes.h>
 #include <stdio.h>
 
-enum { EXACT = 1, FUZZY, NONE, REFUSED };
+enum { EXACT = 1, FUZZY, NONE, REFUSED = 5 };
 enum { BAD_RECORD = 10 };
 
 static void write_reason(const witness_search_read *read) {
