@@ -1,11 +1,10 @@
 -- What the tests of an answer of `read` or `write` tell.
 use mathlib.Core.Path.{_≡_, refl, sym, _∙_, ap, subst}
-use mathlib.Core.Bool.{Bool, true, false}
+use mathlib.Core.Bool.{Bool, true, false, true≢false}
 use mathlib.Core.List.{List}
 use Prim.Native.Nat.{ℕ, zero, suc, _-_, _≤_, _<_}
 use native.Mathlib.Omega.{arith}
 use borrow.Author.Tests.{ltb-true, ltb-false, leb-false}
-use lib.Dec.{ltb}
 use lib.ListN.{length, take, drop, length-drop}
 use lib.Seq.{take-all}
 use lib.IntN.{ℤ, pos, negsuc}
@@ -14,7 +13,7 @@ use mir.Syntax.{w64}
 use mir.Val.{toZ, ofZ, SFits}
 use mir.Facts.{toZ-ofZ}
 use Rattle.io.specs.Counts.{clamped}
-use Rattle.termread.specs.Came.{ReadAt, ReadSaid, AgainAt, EndsAs, InputCame, InputEnds}
+use Rattle.termread.specs.Came.{ReadAt, ReadSaid, AgainAt}
 use Rattle.termread.specs.Sending.{CutAt}
 
 -- ---- an answer is kept as bits
@@ -65,29 +64,30 @@ pub read-of : (count size size' : ℕ) (got : ℤ) → SFits w64 got → size �
 read-of count size size' got fits same read =
     rw (toZ-ofZ {w = w64} {z = got} fits) (subst (λ (n : ℕ). ReadAt count n got) same read)
 
--- A read that asked for a byte and counts none answered 0, or failed.
-pub stopped : (count size full : ℕ) (got : ℤ) → SFits w64 got → ReadAt count size got → 1 ≤ size → clamped got size ≡ 0
-    → EndsAs (ltZ (toZ w64 (ofZ w64 got)) (pos 0)) count full
-stopped count size full got fits read some none =
-    rw (toZ-ofZ {w = w64} {z = got} fits) (by-answer got read none)
-  where
-    by-answer : (z : ℤ) → ReadAt count size z → clamped z size ≡ 0 → EndsAs (ltZ z (pos 0)) count full
-    by-answer (pos zero) read none = λ less. read .said
-    by-answer (pos (suc k)) read none = absurd (omega (arith, some, none))
-    by-answer (negsuc k) read none = subst (λ (n : ℕ). ReadSaid count (negsuc n)) (read .moved) (read .said)
+pub said-failed : (count size : ℕ) (got : ℤ) → ReadAt count size got → ltZ got (pos 0) ≡ true → ReadSaid count (negsuc 0)
+said-failed count size (pos k) read e = absurd (omega (arith, ltb-true k 0 e))
+said-failed count size (negsuc k) read e = subst (λ (n : ℕ). ReadSaid count (negsuc n)) (read .moved) (read .said)
+
+pub said-none : (count size : ℕ) (got : ℤ) → ReadAt count size got → got ≡ pos 0 → ReadSaid count (pos 0)
+said-none count size got read e = subst (λ (z : ℤ). ReadSaid count z) e (read .said)
+
+pub said-one : (count : ℕ) (got : ℤ) → ReadAt count 1 got → ltZ got (pos 0) ≡ false → (got ≡ pos 0 → ⊥) → ReadSaid count (pos 1)
+said-one count (pos zero) read e none = absurd (none refl)
+said-one count (pos (suc k)) read e none =
+    let one : suc k ≡ 1 = omega (arith, read .moved) in
+    subst (λ (n : ℕ). ReadSaid count (pos n)) one (read .said)
+said-one count (negsuc k) read e none = absurd (true≢false e)
+
+-- A read that asked for a byte and counts none answered 0.
+pub counts-none : (count size : ℕ) (got : ℤ) → ReadAt count size got → ltZ got (pos 0) ≡ false → 1 ≤ size → clamped got size ≡ 0
+    → ReadSaid count (pos 0)
+counts-none count size (pos k) read e some none =
+    let zero-bytes : k ≡ 0 = omega (arith, some, none) in
+    subst (λ (n : ℕ). ReadSaid count (pos n)) zero-bytes (read .said)
+counts-none count size (negsuc k) read e some none = absurd (true≢false e)
 
 -- Behind what came there is room for a byte.
 pub room : (buffer : List ℕ) (count : ℕ) → count < length buffer → 1 ≤ length (take (length buffer - count) (drop count buffer))
 room buffer count more =
     rw (take-all (length buffer - count) (drop count buffer) (omega (arith, length-drop count buffer)))
     (omega (arith, more, length-drop count buffer))
-
--- ---- what is answered
-
--- An input that no read cut: it came whole, or is longer than a bundle may be.
-pub answered : (count size : ℕ) → size ≡ 65536 → InputCame count false size → InputEnds (ltb 65535 count) count
-answered count size full input = by-test (ltb 65535 count) refl
-  where
-    by-test : (longer : Bool) → ltb 65535 count ≡ longer → InputEnds longer count
-    by-test true e = (ltb-true 65535 count e, input .came)
-    by-test false e = input .ends (omega (arith, full, ltb-false 65535 count e))

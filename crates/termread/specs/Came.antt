@@ -5,10 +5,12 @@
 -- that no read is made twice at one place.
 use mathlib.Core.Path.{_≡_}
 use mathlib.Core.Bool.{Bool, true, false}
-use Prim.Native.Nat.{ℕ, _+_, _<_, _≤_}
+use Prim.Native.Nat.{ℕ, _+_, _≤_}
 use lib.IntN.{ℤ, pos, negsuc}
 use Rattle.libc.specs.Io.{Moved}
 use Rattle.io.specs.Counts.{clamped}
+use Rattle.termread.specs.declared.Ending.{Ending}
+use Rattle.termread.specs.declared.Ending.the-variants.{Whole, Longer, Failed}
 
 -- So many bytes of the input came.
 pub Came : ℕ → Type 0
@@ -39,20 +41,21 @@ abbrev pub AgainAt : ℤ → Bool → Type 0
 AgainAt (pos k) again = again ≡ false
 AgainAt (negsuc k) again = Unit {0}
 
--- What an ending means where so many bytes came into a buffer of that size: the next read failed (-1); or, unless the buffer is full, it
--- answered the input's end (0).
-abbrev pub EndsAs : Bool → ℕ → ℕ → Type 0
-EndsAs true count size = ReadSaid count (negsuc 0)
-EndsAs false count size = count < size → ReadSaid count (pos 0)
+-- What an ending means where so many bytes came into a buffer of that size: the next read answered the input's end (0), a byte more than
+-- the buffer holds (1), or a failure (-1).
+abbrev pub EndsAs : Ending → ℕ → ℕ → Type 0
+EndsAs Whole count size = ReadSaid count (pos 0)
+EndsAs Longer count size = (count ≡ size) × ReadSaid count (pos 1)
+EndsAs Failed count size = ReadSaid count (negsuc 0)
 
 -- What is known of an input that was read into a buffer of that size.
-pub record InputCame (count : ℕ) (failed : Bool) (size : ℕ) : Type 0 where
+pub record InputCame (count : ℕ) (ending : Ending) (size : ℕ) : Type 0 where
   pub within : count ≤ size
   pub came : Came count
-  pub ends : EndsAs failed count size
+  pub ends : EndsAs ending count size
 
 -- Of so many bytes answers are given: as of the whole input only where a read answered its end behind them, as of a longer one only where
--- more came than the 65,535 that a bundle may have.
+-- they are the 65,535 that a bundle may have and a read behind them answered a byte more.
 abbrev pub InputEnds : Bool → ℕ → Type 0
 InputEnds false count = ReadSaid count (pos 0)
-InputEnds true count = (65535 < count) × Came count
+InputEnds true count = (count ≡ 65535) × ReadSaid count (pos 1)

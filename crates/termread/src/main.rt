@@ -5,7 +5,7 @@ ghost use Prim.Native.Nat.{_+_, _≤_};
 ghost use lib.ListN.{length};
 ghost use Rattle.report.specs.Pages.{outputOfInput};
 ghost use Rattle.io.specs.Counts.{clamped};
-ghost use Rattle.termread.specs.Came.{Came, ReadAt, AgainAt, InputCame, InputEnds};
+ghost use Rattle.termread.specs.Came.{Came, ReadAt, AgainAt, EndsAs, InputCame, InputEnds};
 ghost use Rattle.termread.specs.Reached.{Reached, ReachedIf};
 ghost use Rattle.termread.specs.Sending.{Follows, CutAt};
 use libc::STDERR_FILENO;
@@ -16,9 +16,6 @@ use report::PAGE;
 use report::Progress;
 use report::first_page;
 use report::next_page;
-
-// The bytes that a bundle may have. The program reads one more, if there is one.
-const MOST: usize = 65535;
 
 // More pages than any output has: each but the last holds a line, and a bundle at most 65,535 packets.
 const PAGES: usize = 65536;
@@ -91,32 +88,64 @@ fn read_some(count: usize, buffer: &mut [u8]) -> isize
     got
 }
 
-// What came of the input: so many bytes, and whether it ends there because a read failed.
+// How the reading of the input ended.
+enum Ending {
+    // The input ended.
+    Whole,
+    // The buffer is full, and the input goes on.
+    Longer,
+    // A read failed.
+    Failed,
+}
+
+// What came of the input: so many bytes, and how it ends behind them.
 struct Input {
     count: usize,
-    failed: bool,
+    ending: Ending,
+}
+
+// Whether the input goes on where the buffer is full: one byte more tells.
+fn after_full(count: usize) -> Ending
+    requires { ⌜ Came count ⌝ }
+    ensures { λ r. ⌜ EndsAs r count count ⌝ }
+{
+    let mut one = [0u8; 1];
+    let got = read_some(count, &mut one);
+    if got < 0 {
+        return Ending::Failed;
+    }
+    if got == 0 {
+        return Ending::Whole;
+    }
+    Ending::Longer
 }
 
 // Reads until the buffer is full, the input ends or a read fails.
 fn read_input(buffer: &mut [u8]) -> Input
-    ensures { λ r. ⌜ InputCame (r .count) (r .failed) (length (now (buffer .exit))) ⌝ }
+    ensures { λ r. ⌜ InputCame (r .count) (r .ending) (length (now (buffer .exit))) ⌝ }
 {
     let mut count = 0;
     while count < buffer.len() {
         let rest = &mut buffer[count..];
         let got = read_some(count, rest);
+        if got < 0 {
+            return Input {
+                count,
+                ending: Ending::Failed,
+            };
+        }
         let more = io::count(got, rest);
         if more == 0 {
             return Input {
                 count,
-                failed: got < 0,
+                ending: Ending::Whole,
             };
         }
         count += more;
     }
     Input {
         count,
-        failed: false,
+        ending: after_full(count),
     }
 }
 
@@ -204,12 +233,13 @@ fn tell(whole: bool) {
 }
 
 fn main() {
-    let mut buffer = [0u8; MOST + 1];
+    let mut buffer = [0u8; 65535];
     let input = read_input(&mut buffer);
     let count = input.count;
-    if input.failed {
-        say(b"termread: standard input could not be read\n");
-        return;
+    let ending = input.ending;
+    match ending {
+        Ending::Whole => tell(write_output(&buffer[0..count], false)),
+        Ending::Longer => tell(write_output(&buffer[0..count], true)),
+        Ending::Failed => say(b"termread: standard input could not be read\n"),
     }
-    tell(write_output(&buffer[0..count], MOST < count));
 }
