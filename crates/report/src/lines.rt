@@ -33,8 +33,14 @@ fn put_found(page: &mut [u8], at: usize, found: Found) -> usize
 {
     match found {
         Found::None => put_word(page, at, b"none\n"),
-        Found::Exact(hit) => put_numbered(page, at, b"exact ", hit.label),
-        Found::Fuzzy(hit, _) => put_numbered(page, at, b"fuzzy ", hit.label),
+        Found::Exact(hit) => {
+            let next = put_word(page, at, b"exact ");
+            put_number(page, next, hit.label)
+        }
+        Found::Fuzzy(hit, _) => {
+            let next = put_word(page, at, b"fuzzy ");
+            put_number(page, next, hit.label)
+        }
     }
 }
 
