@@ -2,7 +2,7 @@
    reaches standard output is always a prefix of that; if it is cut, standard error says so and the status is 1.
 
    usage: gateway [-r] [-u] <BUNDLE
-     -r   print the reason of a fuzzy answer, and what a refusal gives, behind each line
+     -r   print behind each line the number of the record, the reason of a fuzzy answer, and what a refusal gives
      -u   have the list checked with each packet, instead of once
 
    Built and run by tools/link_examples:
@@ -15,6 +15,7 @@
 #include <poll.h>
 #include <stdarg.h>
 #include <stdio.h>
+#include <stdlib.h>
 #include <string.h>
 #include <unistd.h>
 
@@ -94,31 +95,34 @@ static void print_quirks(const char *word, uint32_t quirks) {
         if (quirks & names[i].bit) print(" %s %s", word, names[i].name);
 }
 
-static void print_refused(uint64_t code, int reasons) {
-    print("refused %u", termread_refusal(code));
-    if (reasons && termread_refusal(code) == TERMREAD_REFUSED_FLAGS) print(" flags %u", termread_flags(code));
-    if (reasons && termread_refusal(code) == TERMREAD_REFUSED_RECORD) print(" record %u", termread_bad_record(code));
+static void print_refused(termread_result answer, int reasons) {
+    print("refused %u", answer.refusal);
+    if (reasons && answer.refusal == TERMREAD_REFUSED_FLAGS) print(" flags %u", answer.value);
+    if (reasons && answer.refusal == TERMREAD_REFUSED_RECORD) print(" record %u", answer.value);
 }
 
-static void print_reason(uint64_t code) {
-    if (termread_out_of_range(code)) print(" hops %u", termread_hops(code));
-    print_quirks("added", termread_added(code));
-    print_quirks("missing", termread_missing(code));
+static void print_reason(termread_result answer) {
+    if (answer.marks & TERMREAD_OUT_OF_RANGE) print(" hops %u", answer.hops);
+    print_quirks("added", answer.added);
+    print_quirks("missing", answer.missing);
 }
 
 /* Each outcome is asked for by its name: a fuzzy answer can not pass for an exact one. */
-static void print_answer(uint64_t code, int reasons) {
-    const char *kind = termread_kind(code) == TERMREAD_SYN ? "syn" : "synack";
-    switch (termread_outcome(code)) {
-    case TERMREAD_EXACT: print("%s exact %u", kind, termread_label(code)); break;
+static void print_answer(termread_result answer, int reasons) {
+    const char *kind = answer.kind == TERMREAD_SYN ? "syn" : "synack";
+    switch (answer.outcome) {
+    case TERMREAD_EXACT:
+        print("%s exact %u", kind, answer.label);
+        if (reasons) print(" record %u", answer.number);
+        break;
     case TERMREAD_FUZZY:
-        print("%s fuzzy %u", kind, termread_label(code));
-        if (reasons) print_reason(code);
+        print("%s fuzzy %u", kind, answer.label);
+        if (reasons) print(" record %u", answer.number), print_reason(answer);
         break;
     case TERMREAD_NONE: print("%s none", kind); break;
     case TERMREAD_NOTHING: print("nothing"); break;
-    case TERMREAD_REFUSED: print_refused(code, reasons); break;
-    default: print("unknown code");
+    case TERMREAD_REFUSED: print_refused(answer, reasons); break;
+    default: fprintf(stderr, "gateway: unknown outcome %u\n", answer.outcome), exit(1);
     }
     print("\n");
 }
@@ -153,31 +157,31 @@ static void print_packets(const uint8_t *bundle, size_t length, struct options o
         const uint8_t *packet = bundle + at + BEFORE_PACKET;
         uint16_t peer = (uint16_t)be16(bundle + at);
         size_t size = be16(bundle + at + 2);
-        uint64_t code = options.unchecked ? termread_answer(packet, size, peer, list, list_length)
-                                          : termread_answer_checked(packet, size, peer, list, list_length);
-        print_answer(code, options.reasons);
+        print_answer(options.unchecked ? termread_answer(packet, size, peer, list, list_length)
+                                       : termread_answer_checked(packet, size, peer, list, list_length),
+                     options.reasons);
         at = packet_end(bundle, length, at);
     }
 }
 
-/* TERMREAD_GOOD, or the code of the list's refusal. With -u the list is refused by the answer of an empty packet, whose own refusal
-   comes after the list's. */
-static uint64_t list_code(const uint8_t *list, size_t length, int unchecked) {
-    uint64_t code;
+/* With -u the list is refused by the answer of an empty packet, whose own refusal comes after the list's. */
+static termread_result checked_list(const uint8_t *list, size_t length, int unchecked) {
+    static const termread_result good;
+    termread_result answer;
     if (!unchecked) return termread_check_list(list, length);
-    code = termread_answer(list, 0, 0, list, length);
-    return termread_refusal(code) == TERMREAD_REFUSED_VERSION ? TERMREAD_GOOD : code;
+    answer = termread_answer(list, 0, 0, list, length);
+    return answer.refusal == TERMREAD_REFUSED_VERSION ? good : answer;
 }
 
 static void print_bundle(const uint8_t *bundle, size_t length, struct options options) {
-    uint64_t code;
+    termread_result list;
     if (!bundle_fits(bundle, length)) {
         print("refused %d\n", TERMREAD_REFUSED_BUNDLE);
         return;
     }
-    code = list_code(bundle + be16(bundle + 6), be16(bundle + 4), options.unchecked);
-    if (code != TERMREAD_GOOD) {
-        print_answer(code, options.reasons);
+    list = checked_list(bundle + be16(bundle + 6), be16(bundle + 4), options.unchecked);
+    if (list.outcome != TERMREAD_GOOD) {
+        print_answer(list, options.reasons);
         return;
     }
     print_packets(bundle, length, options);

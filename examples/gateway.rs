@@ -100,11 +100,12 @@ fn list_refusal_text(refusal: ListRefusal, reasons: bool) -> String {
 
 fn answer_text(answer: Answer, reasons: bool) -> String {
     match answer {
-        Answer::Exact { kind, label } => format!("{} exact {label}", kind_text(kind)),
-        Answer::Fuzzy { kind, label, reason } => {
-            let why = if reasons { reason_text(reason) } else { String::new() };
-            format!("{} fuzzy {label}{why}", kind_text(kind))
+        Answer::Exact { kind, hit } if reasons => format!("{} exact {} record {}", kind_text(kind), hit.label, hit.number),
+        Answer::Exact { kind, hit } => format!("{} exact {}", kind_text(kind), hit.label),
+        Answer::Fuzzy { kind, hit, reason } if reasons => {
+            format!("{} fuzzy {} record {}{}", kind_text(kind), hit.label, hit.number, reason_text(reason))
         }
+        Answer::Fuzzy { kind, hit, .. } => format!("{} fuzzy {}", kind_text(kind), hit.label),
         Answer::None { kind } => format!("{} none", kind_text(kind)),
         Answer::Nothing => "nothing".into(),
         Answer::Refused(refusal) => refusal_text(refusal, reasons),

@@ -72,13 +72,21 @@ pub enum ListRefusal {
     BadRecord(u16),
 }
 
+/// The record that an answer names.
+#[derive(Clone, Copy, Debug, PartialEq, Eq)]
+pub struct Hit {
+    pub label: u16,
+    /// Which record of the list it is, from 0.
+    pub number: u16,
+}
+
 /// The answer of a packet. Exact, fuzzy and none are three cases, and a `match` has to name each.
 #[derive(Clone, Copy, Debug, PartialEq, Eq)]
 pub enum Answer {
     /// A record fits, and nothing was tolerated.
-    Exact { kind: Kind, label: u16 },
+    Exact { kind: Kind, hit: Hit },
     /// A record fits, but for what the reason names.
-    Fuzzy { kind: Kind, label: u16, reason: Reason },
+    Fuzzy { kind: Kind, hit: Hit, reason: Reason },
     /// No record of the list fits.
     None { kind: Kind },
     /// A good packet that is neither SYN nor SYN+ACK.
@@ -93,9 +101,10 @@ pub struct List<'a>(&'a [u8]);
 impl<'a> List<'a> {
     pub fn new(bytes: &'a [u8]) -> Result<List<'a>, ListRefusal> {
         // SAFETY: pointer and length are those of one slice, which the callee only reads.
-        match unsafe { termread_check_list(bytes.as_ptr(), bytes.len()) } {
-            0 => Ok(List(bytes)),
-            code => Err(Code(code).list_refusal().unwrap_or_else(|| Code(code).unknown())),
+        let given = unsafe { termread_check_list(bytes.as_ptr(), bytes.len()) };
+        match given.outcome {
+            GOOD => Ok(List(bytes)),
+            _ => Err(given.list_refusal().unwrap_or_else(|| given.unknown())),
         }
     }
 
@@ -103,10 +112,10 @@ impl<'a> List<'a> {
     pub fn answer(self, packet: &[u8], peer_mss: Option<u16>) -> Answer {
         let peer = peer_mss.unwrap_or(0);
         // SAFETY: as above, for two slices.
-        let code = unsafe {
+        let given = unsafe {
             termread_answer_checked(packet.as_ptr(), packet.len(), peer, self.0.as_ptr(), self.0.len())
         };
-        Code(code).answer().unwrap_or_else(|| Code(code).unknown())
+        given.answer().unwrap_or_else(|| given.unknown())
     }
 }
 
@@ -114,96 +123,117 @@ impl<'a> List<'a> {
 pub fn answer(packet: &[u8], peer_mss: Option<u16>, list: &[u8]) -> Result<Answer, ListRefusal> {
     let peer = peer_mss.unwrap_or(0);
     // SAFETY: as above.
-    let code = unsafe { termread_answer(packet.as_ptr(), packet.len(), peer, list.as_ptr(), list.len()) };
-    match Code(code).list_refusal() {
+    let given = unsafe { termread_answer(packet.as_ptr(), packet.len(), peer, list.as_ptr(), list.len()) };
+    match given.list_refusal() {
         Some(refusal) => Err(refusal),
-        None => Ok(Code(code).answer().unwrap_or_else(|| Code(code).unknown())),
+        None => Ok(given.answer().unwrap_or_else(|| given.unknown())),
     }
 }
 
-/// An answer as one number: crates/gateway/specs/Code.antt.
-#[derive(Clone, Copy)]
-struct Code(u64);
+/// The answer as the library gives it: crates/gateway/specs/Parts.antt, and in C `termread_result`. Nothing reads `tolerated` and
+/// `examined`, which are 0 and kept for what is to come.
+#[repr(C)]
+#[derive(Clone, Copy, Debug)]
+#[allow(dead_code)]
+struct Given {
+    outcome: u8,
+    kind: u8,
+    refusal: u8,
+    tolerated: u8,
+    label: u16,
+    number: u16,
+    examined: u16,
+    value: u16,
+    added: u8,
+    missing: u8,
+    hops: u8,
+    marks: u8,
+}
 
-impl Code {
-    fn byte(self, place: u32) -> u8 {
-        (self.0 >> (8 * place)) as u8
-    }
+const _: () = assert!(std::mem::size_of::<Given>() == 16);
 
-    fn value(self) -> u16 {
-        (self.0 >> 16) as u16
-    }
+const GOOD: u8 = 0;
+const EXACT: u8 = 1;
+const FUZZY: u8 = 2;
+const NONE: u8 = 3;
+const NOTHING: u8 = 4;
+const REFUSED: u8 = 5;
+const OUT_OF_RANGE: u8 = 1;
 
+impl Given {
     fn kind(self) -> Option<Kind> {
-        match self.byte(1) {
+        match self.kind {
             1 => Some(Kind::Syn),
             2 => Some(Kind::SynAck),
             _ => None,
         }
     }
 
+    fn hit(self) -> Hit {
+        Hit { label: self.label, number: self.number }
+    }
+
     fn reason(self) -> Reason {
         Reason {
-            hops: (self.byte(7) == 1).then(|| self.byte(6)),
-            added: Quirks(self.byte(4)),
-            missing: Quirks(self.byte(5)),
+            hops: (self.marks & OUT_OF_RANGE != 0).then_some(self.hops),
+            added: Quirks(self.added),
+            missing: Quirks(self.missing),
         }
     }
 
     fn packet_refusal(self) -> Option<PacketRefusal> {
-        Some(match self.byte(1) {
+        Some(match self.refusal {
             1 => PacketRefusal::Version,
             2 => PacketRefusal::TooShort,
             3 => PacketRefusal::HeaderLength,
             4 => PacketRefusal::UnsupportedProtocol,
             5 => PacketRefusal::Fragment,
             6 => PacketRefusal::TcpTooShort,
-            7 => PacketRefusal::InvalidTcpFlags(self.byte(2)),
+            7 => PacketRefusal::InvalidTcpFlags(self.value as u8),
             _ => return None,
         })
     }
 
     fn list_refusal(self) -> Option<ListRefusal> {
-        match (self.byte(0), self.byte(1)) {
-            (5, 9) => Some(ListRefusal::DoesNotFit),
-            (5, 10) => Some(ListRefusal::BadRecord(self.value())),
+        match (self.outcome, self.refusal) {
+            (REFUSED, 9) => Some(ListRefusal::DoesNotFit),
+            (REFUSED, 10) => Some(ListRefusal::BadRecord(self.value)),
             _ => None,
         }
     }
 
     fn answer(self) -> Option<Answer> {
-        let label = self.value();
-        Some(match self.byte(0) {
-            1 => Answer::Exact { kind: self.kind()?, label },
-            2 => Answer::Fuzzy { kind: self.kind()?, label, reason: self.reason() },
-            3 => Answer::None { kind: self.kind()? },
-            4 => Answer::Nothing,
-            5 => Answer::Refused(self.packet_refusal()?),
+        Some(match self.outcome {
+            EXACT => Answer::Exact { kind: self.kind()?, hit: self.hit() },
+            FUZZY => Answer::Fuzzy { kind: self.kind()?, hit: self.hit(), reason: self.reason() },
+            NONE => Answer::None { kind: self.kind()? },
+            NOTHING => Answer::Nothing,
+            REFUSED => Answer::Refused(self.packet_refusal()?),
             _ => return None,
         })
     }
 
     /// The library promises that this is not reached; it would mean that another library was linked.
     fn unknown(self) -> ! {
-        panic!("the linked terminal reader gave the unknown code {:#x}", self.0)
+        panic!("the linked terminal reader gave an unknown answer: {self:?}")
     }
 }
 
 // A slice goes as its pointer and its length.
 extern "C" {
-    fn termread_check_list(list: *const u8, list_length: usize) -> u64;
+    fn termread_check_list(list: *const u8, list_length: usize) -> Given;
     fn termread_answer_checked(
         packet: *const u8,
         packet_length: usize,
         peer_mss: u16,
         list: *const u8,
         list_length: usize,
-    ) -> u64;
+    ) -> Given;
     fn termread_answer(
         packet: *const u8,
         packet_length: usize,
         peer_mss: u16,
         list: *const u8,
         list_length: usize,
-    ) -> u64;
+    ) -> Given;
 }

@@ -4,9 +4,7 @@
    keeps nothing between calls and only reads what it is lent, so that any number of threads may call it.
 
    Nothing checks this file against the source: tools/link_examples compares what C and Rust programs get through it with what the
-   program `termread` prints. What the functions promise is in crates/gateway/src/lib.rt and crates/gateway/specs/Code.antt.
-
-   An answer is one number, its code. termread_outcome alone tells exact, fuzzy and none apart. */
+   program `termread` prints. What the functions promise is in crates/gateway/src/lib.rt and crates/gateway/specs/Parts.antt. */
 #ifndef TERMREAD_H
 #define TERMREAD_H
 
@@ -17,35 +15,37 @@
 extern "C" {
 #endif
 
-/* ---- the functions
+/* ---- an answer
 
-   Each pointer is to as many bytes as its length says, and never null: of an empty part give any address.
-   peer_mss: the MSS that the peer announced, 0 if it is not known; only a SYN+ACK's answer depends on it.
-   list: a signature list as document 01 lays it out. */
+   Sixteen bytes, which come back in two registers. The outcome alone tells exact, fuzzy and none apart. No two different answers are
+   alike in all fields. A field that an answer does not have is 0; `tolerated`, `examined` and the other bits of `marks` are 0 in every
+   answer, and kept for what is to come. */
+typedef struct termread_result {
+    uint8_t outcome;   /* one of the outcomes */
+    uint8_t kind;      /* of exact, fuzzy and none: TERMREAD_SYN or TERMREAD_SYNACK */
+    uint8_t refusal;   /* of refused: its number */
+    uint8_t tolerated; /* kept for what was tolerated of a fit: 0 */
+    uint16_t label;    /* of exact and fuzzy: the label of the record */
+    uint16_t number;   /* of exact and fuzzy: which record of the list it is, from 0 */
+    uint16_t examined; /* kept for how many records were examined: 0 */
+    uint16_t value;    /* of refusal 7: the flags byte; of refusal 10: the index of the first bad record, from 0 */
+    uint8_t added;     /* of fuzzy: quirks that the packet shows and the record does not */
+    uint8_t missing;   /* of fuzzy: quirks of the record that the packet does not show */
+    uint8_t hops;      /* of fuzzy, if the TTL is out of the record's range: the hop distance */
+    uint8_t marks;     /* of fuzzy: TERMREAD_OUT_OF_RANGE, or 0 */
+} termread_result;
 
-/* Whether a list is well formed: TERMREAD_GOOD, or the code of refusal 9 or 10. Check a list once, when it is loaded. */
-uint64_t termread_check_list(const uint8_t *list, size_t list_length);
-
-/* The answer of a packet (from its IP header on) against a list that termread_check_list found good: the same as termread_answer's.
-   It does not refuse a list: on one with bad records it answers as if those were not there, on one that does not fit it finds none. */
-uint64_t termread_answer_checked(const uint8_t *packet, size_t packet_length, uint16_t peer_mss, const uint8_t *list,
-                                 size_t list_length);
-
-/* The same against a list that was not checked: refusals 9 and 10 come before any of the packet's. */
-uint64_t termread_answer(const uint8_t *packet, size_t packet_length, uint16_t peer_mss, const uint8_t *list, size_t list_length);
-
-/* ---- the parts of a code */
-
-/* What termread_check_list gives for a well-formed list. No answer of a packet has this code. */
-#define TERMREAD_GOOD UINT64_C(0)
+/* The fields add up to sixteen bytes, so that there is nothing between them. */
+typedef char termread_result_has_sixteen_bytes[sizeof(termread_result) == 16 ? 1 : -1];
 
 /* Outcomes. */
 enum {
+    TERMREAD_GOOD = 0,    /* of termread_check_list alone: the list is well formed */
     TERMREAD_EXACT = 1,   /* a record fits, and nothing was tolerated */
-    TERMREAD_FUZZY = 2,   /* a record fits, but for what the reason names; never to be stored as exact */
+    TERMREAD_FUZZY = 2,   /* a record fits, but for what `added`, `missing` and `hops` name; never to be stored as exact */
     TERMREAD_NONE = 3,    /* no record of the list fits */
     TERMREAD_NOTHING = 4, /* a good packet that is neither SYN nor SYN+ACK */
-    TERMREAD_REFUSED = 5  /* see termread_refusal */
+    TERMREAD_REFUSED = 5  /* see `refusal` */
 };
 
 /* Kinds, of an exact, fuzzy or none. */
@@ -68,8 +68,15 @@ enum {
     TERMREAD_REFUSED_BUNDLE = 12          /* of a bundle, which the caller reads itself: it does not fit */
 };
 
-/* Quirks, as in bytes 14 to 17 of a list's record. A reason holds only the four that may be tolerated: added ECN and ID_ZERO, missing
-   DF and ID_NONZERO. */
+/* The bits of `marks`: the lowest alone is set by now; the next two are kept for a packet that was clipped and for a generic record. */
+enum {
+    TERMREAD_OUT_OF_RANGE = 1, /* the TTL is out of the record's range, and `hops` is the hop distance */
+    TERMREAD_CLIPPED = 2,      /* 0 in every answer */
+    TERMREAD_GENERIC = 4       /* 0 in every answer */
+};
+
+/* Quirks, as in bytes 14 to 17 of a list's record. `added` and `missing` hold only the four that may be tolerated: added ECN and
+   ID_ZERO, missing DF and ID_NONZERO. */
 #define TERMREAD_QUIRK_ECN UINT32_C(0x00000001)
 #define TERMREAD_QUIRK_DF UINT32_C(0x00000002)
 #define TERMREAD_QUIRK_ID_NONZERO UINT32_C(0x00000004)
@@ -88,30 +95,23 @@ enum {
 #define TERMREAD_QUIRK_EXCESSIVE_SCALE UINT32_C(0x08000000)
 #define TERMREAD_QUIRK_OPTIONS_BAD UINT32_C(0x10000000)
 
-/* One of the outcomes. */
-static inline unsigned termread_outcome(uint64_t code) { return (unsigned)(code & 255); }
+/* ---- the functions
 
-/* One of the kinds, of an exact, fuzzy or none. */
-static inline unsigned termread_kind(uint64_t code) { return (unsigned)(code >> 8 & 255); }
+   Each pointer is to as many bytes as its length says, and never null: of an empty part give any address.
+   peer_mss: the MSS that the peer announced, 0 if it is not known; only a SYN+ACK's answer depends on it.
+   list: a signature list as document 01 lays it out. */
 
-/* The number of the refusal, of a refused. */
-static inline unsigned termread_refusal(uint64_t code) { return (unsigned)(code >> 8 & 255); }
+/* Whether a list is well formed: TERMREAD_GOOD, and every other field 0; or refusal 9 or 10. Check a list once, when it is loaded. */
+termread_result termread_check_list(const uint8_t *list, size_t list_length);
 
-/* The label of the record, of an exact or fuzzy. */
-static inline uint16_t termread_label(uint64_t code) { return (uint16_t)(code >> 16 & 65535); }
+/* The answer of a packet (from its IP header on) against a list that termread_check_list found good: the same as termread_answer's.
+   It does not refuse a list: on one with bad records it answers as if those were not there, on one that does not fit it finds none. */
+termread_result termread_answer_checked(const uint8_t *packet, size_t packet_length, uint16_t peer_mss, const uint8_t *list,
+                                        size_t list_length);
 
-/* The flags byte, of refusal 7. */
-static inline uint8_t termread_flags(uint64_t code) { return (uint8_t)(code >> 16 & 255); }
-
-/* The index of the first bad record, of refusal 10. */
-static inline uint16_t termread_bad_record(uint64_t code) { return (uint16_t)(code >> 16 & 65535); }
-
-/* The reason of a fuzzy: quirks that the packet shows and the record does not, quirks of the record that the packet does not show,
-   whether the TTL is out of the record's range, and then the hop distance. */
-static inline uint32_t termread_added(uint64_t code) { return (uint32_t)(code >> 32 & 255); }
-static inline uint32_t termread_missing(uint64_t code) { return (uint32_t)(code >> 40 & 255); }
-static inline unsigned termread_hops(uint64_t code) { return (unsigned)(code >> 48 & 255); }
-static inline int termread_out_of_range(uint64_t code) { return (int)(code >> 56 & 1); }
+/* The same against a list that was not checked: refusals 9 and 10 come before any of the packet's. */
+termread_result termread_answer(const uint8_t *packet, size_t packet_length, uint16_t peer_mss, const uint8_t *list,
+                                size_t list_length);
 
 #ifdef __cplusplus
 }

@@ -81,7 +81,8 @@ if [ ! -d "$cache/crates" ]; then
     echo "deb [signed-by=$keys] $site unstable main" >"$apt/sources.list"
     : >"$apt/status"
     apt_in "$apt" update
-    closure=$(names_in "$apt" -o Dir::State::status="$apt/status" librust-pnet-packet-dev librust-nom-dev librust-thiserror-dev librust-tracing-dev)
+    closure=$(names_in "$apt" -o Dir::State::status="$apt/status" librust-pnet-packet-dev librust-nom-dev librust-thiserror-dev \
+        librust-tracing-dev)
     fetch "$apt" "$cache/crates" librust-pnet-dev $(echo "$closure" | grep '^librust-')
 fi
 [ -d "$cache/crates/usr/share/cargo/registry/pnet_packet-0.35.0" ] || { echo "unstable gave no pnet_packet 0.35.0" >&2; exit 2; }

@@ -117,7 +117,8 @@ module _ (r : List ℕ) (entries : ℕ) (layout : List ℕ) where
           let above = leb-false form 2 eb in
           let most = leb-true form 4 ec in
           let much = leb-false n 255 e in
-          elim (ℕ-discrete form 3) [ yes three ↦ Bad.mss-multiple (omega arith) (omega arith) | no other ↦ Bad.mtu-multiple (omega arith) (omega arith) ]
+          elim (ℕ-discrete form 3)
+          [ yes three ↦ Bad.mss-multiple (omega arith) (omega arith) | no other ↦ Bad.mtu-multiple (omega arith) (omega arith) ]
 
   bad-quirks : quirksGood (be32 r 14) ≡ false → Bad r entries layout
   unfolding quirksGood
@@ -141,7 +142,8 @@ module _ (r : List ℕ) (entries : ℕ) (layout : List ℕ) where
       (either-false _ _
       (either-false _ _
       (either-false _ _
-      (either-false _ _ (either-false _ _ (either-false _ _ bad-version bad-ttl) (bad-presence (byteAt r 5) (be16 r 6) Bad.mss-present Bad.absent-mss))
+      (either-false _ _
+      (either-false _ _ (either-false _ _ bad-version bad-ttl) (bad-presence (byteAt r 5) (be16 r 6) Bad.mss-present Bad.absent-mss))
       (bad-window (byteAt r 8) (be16 r 9) refl refl))
       (bad-presence (byteAt r 11) (byteAt r 12) Bad.scale-present Bad.absent-scale))
       bad-payload)

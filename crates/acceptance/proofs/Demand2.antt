@@ -17,7 +17,8 @@ use Rattle.window_size.proofs.First.{exactly-if, the-first}
 use Rattle.observable.specs.declared.TcpObservation.{TcpObservation}
 use Rattle.observable.specs.Observation.{emptyLayout, emptyObservation}
 use Rattle.one_option.specs.Options.{asked, runsPast, optionsAfter}
-use Rattle.one_option.specs.See.{laterMss, laterScale, trailingNonzero, excessiveScaling, ownTimestampZero, peerTimestampNonzero, laterQuirks, seeOption}
+use Rattle.one_option.specs.See.{laterMss, laterScale, trailingNonzero, excessiveScaling, ownTimestampZero, peerTimestampNonzero}
+use Rattle.one_option.specs.See.{laterQuirks, seeOption}
 use Rattle.syn_options.specs.Walk.{entryByte, putEntry, walkFrom, walkOf}
 use Rattle.refusals.specs.declared.PacketRefusal.the-variants as refusal
 use Rattle.refusals.specs.declared.ListRefusal.the-variants as why
@@ -29,15 +30,15 @@ use Rattle.matching.specs.declared.SignatureFit.{SignatureFit}
 use Rattle.matching.specs.declared.SignatureFit.the-variants as fit
 use Rattle.siglist.specs.declared.ListAnswer.{ListAnswer}
 use Rattle.siglist.specs.declared.ListAnswer.the-variants as list
-use Rattle.sigrecord.specs.Record.{labelOf}
-use Rattle.siglist.specs.List.{recordCount, recordAt, listFits, recordGood, checkList}
+use Rattle.siglist.specs.List.{recordCount, listFits, recordGood, checkList}
 use Rattle.siglist.proofs.FirstBad.{does-not-fit, Checked, first-bad-named}
+use Rattle.found.specs.declared.Hit.{Hit}
 use Rattle.found.specs.declared.Found.the-variants as found
 use Rattle.search.specs.declared.SearchAnswer.the-variants as answer
 use Rattle.found.specs.Rank.{foundOf}
-use Rattle.search.specs.Search.{fitAt, candidateAt, searchList}
+use Rattle.search.specs.Search.{fitAt, hitAt, candidateAt, searchList}
 use Rattle.search.proofs.Order.{single}
-use Rattle.acceptance.specs.Values.{packetA, exampleList}
+use Rattle.acceptance.specs.Values.{packetA, exampleList, theRecord}
 use Rattle.acceptance.specs.Demand2.{MultiplierTheorem, ofOne, SingleFit, ShutOut, Demand2}
 use Rattle.acceptance.proofs.Observation.{the-observation}
 use Rattle.acceptance.proofs.Values.{values}
@@ -62,11 +63,11 @@ multiplier-theorem =
 
 -- ---- the single fit
 
-of-one : (label : ℕ) (x : SignatureFit) → foundOf label x ≡ ofOne label x
+of-one : (hit : Hit) (x : SignatureFit) → foundOf hit x ≡ ofOne hit x
 unfolding foundOf
-of-one label fit.None = refl
-of-one label fit.Exact = refl
-of-one label (fit.Fuzzy r) = refl
+of-one hit fit.None = refl
+of-one hit fit.Exact = refl
+of-one hit (fit.Fuzzy r) = refl
 
 module _ (l : List ℕ) (good : checkList l ≡ list.Good) where
   -- A good list fits, and its records are good.
@@ -90,7 +91,7 @@ single-fit o l few good one =
     rw (le-ltb 40 (o .olayout .count) few, good)
     (ap answer.Found
     (single o l one
-    ∙ rw (fits l good, lt-ltb 0 (recordCount l) (omega arith), record-good l good 0 (omega arith)) (of-one (labelOf (recordAt l 0)) _)))
+    ∙ rw (fits l good, lt-ltb 0 (recordCount l) (omega arith), record-good l good 0 (omega arith)) (of-one (hitAt l 0) _)))
 
 -- ---- what is shut out
 
@@ -109,7 +110,8 @@ unfolding searchList checkList listFits emptyObservation emptyLayout be16
 nothing-fits = refl
 
 shut-out : ShutOut
-unfolding emptyObservation walkOf walkFrom optionsAfter asked runsPast putEntry entryByte seeOption laterMss laterScale laterQuirks trailingNonzero excessiveScaling ownTimestampZero peerTimestampNonzero anyNonzero addIf with bitOf placeOf empty fromQuirks be16 be32
+unfolding emptyObservation walkOf walkFrom optionsAfter asked runsPast putEntry entryByte seeOption laterMss laterScale laterQuirks
+    trailingNonzero excessiveScaling ownTimestampZero peerTimestampNonzero anyNonzero addIf with bitOf placeOf empty fromQuirks be16 be32
 shut-out =
     record {
       refuses-all = λ h.
@@ -133,7 +135,7 @@ shut-out =
           let z : _≡_ {A = ℕ} 0 1 = cc in
           omega arith;
       constant-search = λ c h.
-          let e : answer.Found (found.Exact 7) ≡ answer.List why.DoesNotFit =
+          let e : answer.Found (found.Exact theRecord) ≡ answer.List why.DoesNotFit =
           sym (values .search .exact)
           ∙ h (readPacket packetA mss.Absent .observation) exampleList
           ∙ sym (h emptyObservation [])
@@ -143,4 +145,5 @@ shut-out =
     }
 
 pub demand2 : Demand2
-demand2 = record { multiplier = multiplier-theorem; observation = the-observation; single = single-fit; values = values; shutOut = shut-out }
+demand2 =
+    record { multiplier = multiplier-theorem; observation = the-observation; single = single-fit; values = values; shutOut = shut-out }

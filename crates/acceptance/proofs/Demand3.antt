@@ -16,18 +16,18 @@ use Rattle.packet_answer.specs.declared.PacketAnswer.{PacketAnswer}
 use Rattle.packet_answer.specs.Packet.{peerOf, answerOf, afterReading}
 use Rattle.bundle.specs.declared.BundleCheck.{BundleCheck}
 use Rattle.bundle.specs.declared.BundleCheck.the-variants as check
-use Rattle.bundle.specs.Bundle.{packetCount, packetsOffset, listOf, packetBytes, packetPeer, packetEnd, packetFits, packetsFit, listLies, bundleFits, checkBundle}
+use Rattle.bundle.specs.Bundle.{packetCount, packetsOffset, listOf, packetBytes, packetPeer, packetEnd, packetFits, packetsFit, listLies}
+use Rattle.bundle.specs.Bundle.{bundleFits, checkBundle}
 use Rattle.bundle.specs.Answers.{answerAt, packetLies, answersFrom, bundleAnswer}
 use Rattle.report.specs.Text.{lineOf}
 use Rattle.report.specs.Pages.{outputOf, outputOfInput}
-use Rattle.gateway.specs.declared.GatewayAnswer.{GatewayAnswer}
-use Rattle.gateway.specs.declared.GatewayAnswer.the-variants as gateway
-use Rattle.gateway.specs.Code.{packetFields, fieldsOf, codeOf, afterList, gatewayAnswer}
+use Rattle.gateway.specs.Parts.{GatewayAnswer, packetParts, partsOf, afterList, gatewayAnswer}
 use Rattle.acceptance.proofs.Overlap.{overlap}
 use Rattle.one_option.specs.Options.{optionsOf}
 use Rattle.alike.specs.Ip.{AlikeIpv4, AlikeIpv6}
 use Rattle.alike.specs.Packets.{Alike}
-use Rattle.alike.proofs.Equivalence.{row-refl, row-sym, row-trans, ipv4-sym, ipv4-trans, ipv6-sym, ipv6-trans, tcp-refl, tcp-sym, tcp-trans, alike-refl, alike-sym, alike-trans}
+use Rattle.alike.proofs.Equivalence.{row-refl, row-sym, row-trans, ipv4-sym, ipv4-trans, ipv6-sym, ipv6-trans, tcp-refl, tcp-sym, tcp-trans}
+use Rattle.alike.proofs.Equivalence.{alike-refl, alike-sym, alike-trans}
 use Rattle.alike.proofs.Exact.{exact, free-byte}
 use Rattle.alike.proofs.TcpExact.{exact-tcp}
 use Rattle.alike.proofs.OptionsDiffer.{exact-options}
@@ -122,16 +122,16 @@ unfolding gatewayAnswer
 gateway-alike p q peer l a = by-list (checkList l)
   where
     by-list : (c : ListAnswer) → afterList c p (peerOf peer) l ≡ afterList c q (peerOf peer) l
-    by-list list.Good = ap gateway.Packet (answer-alike p q (peerOf peer) l a)
+    by-list list.Good = ap GatewayAnswer.answered (answer-alike p q (peerOf peer) l a)
     by-list (list.Refused r) = refl
 
 gateway-same : GatewaySame
 gateway-same =
     record {
       checked = λ κs p q l peer r s a x y.
-          x ∙ ap (λ (z : PacketAnswer). codeOf (packetFields z)) (answer-alike (now p) (now q) (peerOf peer) (now l) a) ∙ sym y;
+          x ∙ ap packetParts (answer-alike (now p) (now q) (peerOf peer) (now l) a) ∙ sym y;
       not-checked = λ κs p q l peer r s a x y.
-          x ∙ ap (λ (z : GatewayAnswer). codeOf (fieldsOf z)) (gateway-alike (now p) (now q) peer (now l) a) ∙ sym y;
+          x ∙ ap partsOf (gateway-alike (now p) (now q) peer (now l) a) ∙ sym y;
     }
 
 -- ---- whole bundles

@@ -1,93 +1,31 @@
 -- The three answers stay three: what each means.
 use mathlib.Core.Path.{_≡_, refl, sym, _∙_, ap}
-use mathlib.Core.Bool.{Bool, true, false, cond}
 use mathlib.Core.List.{List}
-use Prim.Native.Nat.{ℕ, _%_, _<_}
+use Prim.Native.Nat.{ℕ}
 use native.Mathlib.Omega.{arith}
-use lib.Dec.{ltb}
-use lib.ListN.{length, getD}
 use Rattle.tcp.specs.declared.Mss.{Mss}
-use Rattle.observable.specs.declared.TcpObservation.{TcpObservation}
 use Rattle.refusals.specs.declared.PacketRefusal.{PacketRefusal}
 use Rattle.flow.specs.declared.Answer.the-variants as reading
 use Rattle.flow.specs.Reading.{readPacket}
 use Rattle.matching.specs.Fit.{featuresOf}
-use Rattle.siglist.specs.declared.ListAnswer.{ListAnswer}
-use Rattle.siglist.specs.declared.ListAnswer.the-variants as list
-use Rattle.siglist.specs.List.{recordCount, checkList}
+use Rattle.siglist.specs.List.{checkList}
 use Rattle.found.specs.declared.Found.{Found}
 use Rattle.found.specs.declared.Found.the-variants as found
-use Rattle.search.specs.declared.SearchAnswer.{SearchAnswer}
-use Rattle.search.specs.declared.SearchAnswer.the-variants as answer
-use Rattle.found.specs.Least.{numbersFrom}
-use Rattle.found.proofs.Least.{numbers-length, numbers-at}
-use Rattle.search.specs.Search.{fitAt, searchOver, searchAll, afterListCheck, searchList}
-use Rattle.search.proofs.Order as order
+use Rattle.search.specs.Search.{searchOver, searchAll}
 use Rattle.search.proofs.Rows.{longer-row}
 use Rattle.packet_answer.specs.declared.PacketAnswer.{PacketAnswer}
 use Rattle.packet_answer.specs.declared.PacketAnswer.the-variants as packet
 use Rattle.packet_answer.specs.Packet.{peerOf, answerOf}
-use Rattle.gateway.specs.declared.GatewayAnswer.{GatewayAnswer}
-use Rattle.gateway.specs.declared.GatewayAnswer.the-variants as gateway
-use Rattle.gateway.specs.Code.{foundFields, packetFields, fieldsOf, gatewayAnswer}
-use Rattle.gateway.specs.Decode.{AllBytes, fieldsFrom, answerFrom}
+use Rattle.gateway.specs.Parts.{GatewayAnswer, foundParts, packetParts, refusedList, partsOf, gatewayAnswer}
+use Rattle.gateway.specs.Decode.{AllBytes, answerFrom}
+use Rattle.gateway.specs.Zeros.{Zeros}
 use Rattle.gateway.proofs.Room.{PacketFits}
 use Rattle.gateway.proofs.ReadBack as back
-use Rattle.gateway.proofs.Fits.{packet-fits, answers-fit, codes-differ}
-use Rattle.acceptance.specs.Honesty.{fitOfRecord, Outcome, whichOf, outcomeOf, checkedAnswer, checkedCode, Honesty}
+use Rattle.gateway.proofs.Fits.{packet-fits, answers-fit, structs-differ}
+use Rattle.gateway.proofs.Zeros.{zeros, list-zeros}
+use Rattle.acceptance.specs.Honesty.{whichOf, outcomeOf, checkedAnswer, checkedStruct, Honesty}
+use Rattle.acceptance.proofs.Outcome.{answered, search-outcome}
 use Rattle.acceptance.proofs.Fit.{exact-to, exact-from, fuzzy-to, fuzzy-from}
-
--- ---- a search
-
-module _ (o : TcpObservation) (l : List ℕ) where
-  places : List ℕ
-  places = numbersFrom 0 (recordCount l)
-
-  -- A record at a place of the row is the record of that number.
-  here : (k : ℕ) → k < length places → getD places k 0 ≡ k
-  unfolding places
-  here k h = numbers-at 0 (recordCount l) k (omega (arith, numbers-length 0 (recordCount l))) ∙ omega arith
-
-  few : length places ≡ recordCount l
-  unfolding places
-  few = numbers-length 0 (recordCount l)
-
-  fit-here : (k : ℕ) → k < length places → fitAt (featuresOf o) (o .olayout .kinds) (o .olayout .bytes) l (getD places k 0) ≡ fitOfRecord o l k
-  fit-here k h = ap (fitOfRecord o l) (here k h)
-
-  as-outcome : {x : Found} → order.Outcome (featuresOf o) (o .olayout .kinds) (o .olayout .bytes) l places x → Outcome o l x
-  as-outcome (order.Outcome.first-exact k h e before) =
-      let size = few in
-      rw (here k h)
-      (Outcome.first-exact k (omega arith) (sym (fit-here k h) ∙ e) (λ j b x. before j b (fit-here j (omega arith) ∙ x)))
-  as-outcome (order.Outcome.first-fuzzy k r h e before exact) =
-      let size = few in
-      rw (here k h)
-      (Outcome.first-fuzzy k r (omega arith) (sym (fit-here k h) ∙ e)
-      (λ j b. sym (fit-here j (omega arith)) ∙ before j b)
-      (λ j b x. exact j (omega arith) (fit-here j (omega arith) ∙ x)))
-  as-outcome (order.Outcome.none before) =
-      let size = few in
-      Outcome.none (λ i b. sym (fit-here i (omega arith)) ∙ before i (omega arith))
-
-  found-outcome : Outcome o l (searchAll o l)
-  unfolding searchAll searchOver places
-  found-outcome = as-outcome (order.outcome (featuresOf o) (o .olayout .kinds) (o .olayout .bytes) l places)
-
-  after-found : (a : ListAnswer) (x : Found) → afterListCheck a o l ≡ answer.Found x → Outcome o l x
-  after-found list.Good x e = let same : searchAll o l ≡ x = cc in rw (← same) found-outcome
-  after-found (list.Refused r) x e = let z : _≡_ {A = ℕ} 0 1 = cc in absurd (omega arith)
-
-  search-outcome : (x : Found) → searchList o l ≡ answer.Found x → Outcome o l x
-  unfolding searchList
-  search-outcome x = by-count (ltb 40 (o .olayout .count))
-    where
-      by-count
-          : (t : Bool)
-          → cond {A = SearchAnswer} t answer.LayoutTooLong (afterListCheck (checkList l) o l) ≡ answer.Found x
-          → Outcome o l x
-      by-count true e = let z : _≡_ {A = ℕ} 0 1 = cc in absurd (omega arith)
-      by-count false e = after-found (checkList l) x e
 
 -- ---- a packet's answer
 
@@ -111,56 +49,56 @@ module _ (p : List ℕ) (peer : Mss) (l : List ℕ) where
   unfolding answerOf
   refused-answer r e = rw e
 
--- ---- the number that a gateway gets
+-- ---- the struct that a gateway gets
 
--- The outcome among a search's fields is which of the three it is.
-found-outcome-of : (kind : ℕ) (f : Found) → foundFields kind f .outcome ≡ whichOf f
-unfolding foundFields
+-- The outcome in a search's struct is which of the three it is.
+found-outcome-of : (kind : ℕ) (f : Found) → foundParts kind f .outcome ≡ whichOf f
+unfolding foundParts
 found-outcome-of kind found.None = refl
-found-outcome-of kind (found.Exact label) = refl
-found-outcome-of kind (found.Fuzzy label reason) = refl
+found-outcome-of kind (found.Exact hit) = refl
+found-outcome-of kind (found.Fuzzy hit reason) = refl
 
--- The outcome among an answer's fields is what the answer is.
-outcome-of : (a : GatewayAnswer) → fieldsOf a .outcome ≡ outcomeOf a
-unfolding fieldsOf packetFields
-outcome-of (gateway.Packet (packet.Syn f)) = found-outcome-of 1 f
-outcome-of (gateway.Packet (packet.SynAck f)) = found-outcome-of 2 f
-outcome-of (gateway.Packet packet.Nothing) = refl
-outcome-of (gateway.Packet (packet.Refused r)) = refl
-outcome-of (gateway.List r) = refl
+-- The outcome in an answer's struct is what the answer is.
+outcome-of : (a : GatewayAnswer) → partsOf a .outcome ≡ outcomeOf a
+unfolding packetParts refusedList
+outcome-of (GatewayAnswer.answered (packet.Syn f)) = found-outcome-of 1 f
+outcome-of (GatewayAnswer.answered (packet.SynAck f)) = found-outcome-of 2 f
+outcome-of (GatewayAnswer.answered packet.Nothing) = refl
+outcome-of (GatewayAnswer.answered (packet.Refused r)) = refl
+outcome-of (GatewayAnswer.list-refused r) = refl
 
 -- A packet's own answer, as the gateway's that holds it.
-unwrapped : (a b : PacketAnswer) → gateway.Packet a ≡ gateway.Packet b → a ≡ b
+unwrapped : (a b : PacketAnswer) → GatewayAnswer.answered a ≡ GatewayAnswer.answered b → a ≡ b
 unwrapped a b e = cc
 
 module _ (p : List ℕ) (peer : ℕ) (l : List ℕ) (hp : AllBytes p) (hl : AllBytes l) where
   checked-fits : PacketFits (checkedAnswer p peer l)
   checked-fits = packet-fits p (peerOf peer) l hp hl
 
-  checked-read-back : answerFrom (fieldsFrom (checkedCode p peer l)) ≡ gateway.Packet (checkedAnswer p peer l)
-  unfolding fieldsOf
-  checked-read-back = back.read-back (gateway.Packet (checkedAnswer p peer l)) checked-fits
+  checked-read-back : answerFrom (checkedStruct p peer l) ≡ GatewayAnswer.answered (checkedAnswer p peer l)
+  checked-read-back = back.read-back (GatewayAnswer.answered (checkedAnswer p peer l)) checked-fits
 
-  checked-lowest-byte : checkedCode p peer l % 256 ≡ outcomeOf (gateway.Packet (checkedAnswer p peer l))
-  unfolding fieldsOf
-  checked-lowest-byte =
-      back.lowest-byte (gateway.Packet (checkedAnswer p peer l)) checked-fits ∙ outcome-of (gateway.Packet (checkedAnswer p peer l))
-
-checked-codes-differ
+checked-structs-differ
     : (p q : List ℕ) (m n : ℕ) (l k : List ℕ)
     → AllBytes p
     → AllBytes q
     → AllBytes l
     → AllBytes k
-    → checkedCode p m l ≡ checkedCode q n k
+    → checkedStruct p m l ≡ checkedStruct q n k
     → checkedAnswer p m l ≡ checkedAnswer q n k
-unfolding fieldsOf
-checked-codes-differ p q m n l k hp hq hl hk e =
+checked-structs-differ p q m n l k hp hq hl hk e =
     unwrapped (checkedAnswer p m l) (checkedAnswer q n k)
-    (back.injective (gateway.Packet (checkedAnswer p m l)) (gateway.Packet (checkedAnswer q n k))
+    (back.injective (GatewayAnswer.answered (checkedAnswer p m l)) (GatewayAnswer.answered (checkedAnswer q n k))
     (packet-fits p (peerOf m) l hp hl)
     (packet-fits q (peerOf n) k hq hk)
     e)
+
+module _ (p : List ℕ) (peer : ℕ) (l : List ℕ) where
+  checked-outcome-field : checkedStruct p peer l .outcome ≡ outcomeOf (GatewayAnswer.answered (checkedAnswer p peer l))
+  checked-outcome-field = outcome-of (GatewayAnswer.answered (checkedAnswer p peer l))
+
+  checked-zeros : Zeros (checkedStruct p peer l)
+  checked-zeros = zeros (GatewayAnswer.answered (checkedAnswer p peer l))
 
 pub honesty : Honesty
 unfolding searchOver
@@ -170,7 +108,7 @@ honesty =
       fuzzy = λ f ks bs s n es r. (fuzzy-to f ks bs s n es r, fuzzy-from f ks bs s n es r);
       search = search-outcome;
       longer-row = λ o l is js. longer-row (featuresOf o) (o .olayout .kinds) (o .olayout .bytes) l is js;
-      answered = found-outcome;
+      answered = answered;
       syn-answer = syn-answer;
       syn-ack-answer = syn-ack-answer;
       nothing-answer = nothing-answer;
@@ -179,11 +117,12 @@ honesty =
       exact-not-none = λ a e. let z : _≡_ {A = ℕ} 0 1 = cc in omega arith;
       fuzzy-not-none = λ a r e. let z : _≡_ {A = ℕ} 0 1 = cc in omega arith;
       read-back = λ p peer l hp hl. back.read-back (gatewayAnswer p peer l) (answers-fit p peer l hp hl);
-      codes-differ = codes-differ;
-      lowest-byte =
-          λ p peer l hp hl.
-          back.lowest-byte (gatewayAnswer p peer l) (answers-fit p peer l hp hl) ∙ outcome-of (gatewayAnswer p peer l);
+      structs-differ = structs-differ;
+      outcome-field = λ p peer l. outcome-of (gatewayAnswer p peer l);
+      zeros = λ p peer l. zeros (gatewayAnswer p peer l);
       checked-read-back = checked-read-back;
-      checked-codes-differ = checked-codes-differ;
-      checked-lowest-byte = checked-lowest-byte;
+      checked-structs-differ = checked-structs-differ;
+      checked-outcome-field = checked-outcome-field;
+      checked-zeros = checked-zeros;
+      list-zeros = λ l. list-zeros (checkList l);
     }

@@ -13,12 +13,15 @@ pub mod Lines
 pub mod NotFree
 pub mod Observation
 pub mod OnPaper
+pub mod Outcome
 pub mod Overlap
 pub mod PacketGives
 pub mod PacketRefusals
 pub mod PaperRows
 pub mod PaperStages
 pub mod PaperTold
+pub mod Promised
+pub mod Promises
 pub mod Refusals
 pub mod Stages
 pub mod Unchecked

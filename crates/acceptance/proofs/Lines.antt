@@ -28,7 +28,8 @@ use Rattle.gateway.proofs.Room.{FoundFits, PacketFits}
 use Rattle.gateway.proofs.Fits.{packet-fits}
 use Rattle.text.specs.Decimal.{width, decimal, newline}
 use Rattle.text.proofs.Decimal.{digitsRead, read-back}
-use Rattle.report.specs.Text.{refusedWord, nothingWord, synWord, synackWord, noneWord, exactWord, fuzzyWord, foundText, answerText, lineOf, headLine, refusedLine}
+use Rattle.report.specs.Text.{refusedWord, nothingWord, synWord, synackWord, noneWord, exactWord, fuzzyWord, foundText, answerText, lineOf}
+use Rattle.report.specs.Text.{headLine, refusedLine}
 use Rattle.acceptance.specs.Lines.{PrintedFound, Printed, printed, TwoBytes, LabelFits, Words, Lines}
 
 -- ---- a line, read back
@@ -49,11 +50,11 @@ readLine s =
 
 read-line : (a : PacketAnswer) → LabelFits a → readLine (lineOf a) ≡ printed a
 unfolding lineOf answerText foundText readLine readFound
-read-line (packet.Syn (found.Exact label)) h = ap (λ (n : ℕ). Printed.syn (PrintedFound.exact n)) (read-decimal label h)
-read-line (packet.Syn (found.Fuzzy label reason)) h = ap (λ (n : ℕ). Printed.syn (PrintedFound.fuzzy n)) (read-decimal label h)
+read-line (packet.Syn (found.Exact hit)) h = ap (λ (n : ℕ). Printed.syn (PrintedFound.exact n)) (read-decimal (hit .label) h)
+read-line (packet.Syn (found.Fuzzy hit reason)) h = ap (λ (n : ℕ). Printed.syn (PrintedFound.fuzzy n)) (read-decimal (hit .label) h)
 read-line (packet.Syn found.None) h = refl
-read-line (packet.SynAck (found.Exact label)) h = ap (λ (n : ℕ). Printed.synack (PrintedFound.exact n)) (read-decimal label h)
-read-line (packet.SynAck (found.Fuzzy label reason)) h = ap (λ (n : ℕ). Printed.synack (PrintedFound.fuzzy n)) (read-decimal label h)
+read-line (packet.SynAck (found.Exact hit)) h = ap (λ (n : ℕ). Printed.synack (PrintedFound.exact n)) (read-decimal (hit .label) h)
+read-line (packet.SynAck (found.Fuzzy hit reason)) h = ap (λ (n : ℕ). Printed.synack (PrintedFound.fuzzy n)) (read-decimal (hit .label) h)
 read-line (packet.SynAck found.None) h = refl
 read-line packet.Nothing h = refl
 read-line (packet.Refused r) h = ap Printed.refused (read-decimal (packetNumber r) (let few = numbered (table.Packet r) .1 in omega arith))
@@ -73,11 +74,11 @@ linePrinted (Printed.refused n) = refusedWord ++ decimal n ++ newline
 
 line-printed : (a : PacketAnswer) → lineOf a ≡ linePrinted (printed a)
 unfolding lineOf answerText foundText linePrinted foundPrinted
-line-printed (packet.Syn (found.Exact label)) = refl
-line-printed (packet.Syn (found.Fuzzy label reason)) = refl
+line-printed (packet.Syn (found.Exact hit)) = refl
+line-printed (packet.Syn (found.Fuzzy hit reason)) = refl
 line-printed (packet.Syn found.None) = refl
-line-printed (packet.SynAck (found.Exact label)) = refl
-line-printed (packet.SynAck (found.Fuzzy label reason)) = refl
+line-printed (packet.SynAck (found.Exact hit)) = refl
+line-printed (packet.SynAck (found.Fuzzy hit reason)) = refl
 line-printed (packet.SynAck found.None) = refl
 line-printed packet.Nothing = refl
 line-printed (packet.Refused r) = refl
@@ -88,10 +89,10 @@ told a b ha hb = (
   λ e. line-printed a ∙ ap linePrinted e ∙ sym (line-printed b),
 )
 
--- The labels of what fits a code fit.
+-- The labels of what fits a struct fit.
 found-fits : (f : Found) → FoundFits f → TwoBytes f
-found-fits (found.Exact label) h = h
-found-fits (found.Fuzzy label reason) h = h .0
+found-fits (found.Exact hit) h = h .0
+found-fits (found.Fuzzy hit reason) h = h .0 .0
 found-fits found.None h = tt
 
 label-fits : (a : PacketAnswer) → PacketFits a → LabelFits a
@@ -175,11 +176,11 @@ all-words =
     record {
       packets-0 = refl;
       packets-16383 = refl;
-      syn-exact = refl;
-      syn-fuzzy = λ reason. refl;
+      syn-exact = λ n. refl;
+      syn-fuzzy = λ n reason. refl;
       syn-none = refl;
-      synack-exact = refl;
-      synack-fuzzy = λ reason. refl;
+      synack-exact = λ n. refl;
+      synack-fuzzy = λ n reason. refl;
       synack-none = refl;
       nothing = refl;
       refused-1 = refl;

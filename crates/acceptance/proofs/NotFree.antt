@@ -19,7 +19,8 @@ use Rattle.window_size.specs.Multiplier.{firstMultiple, multiplierOf}
 use Rattle.ip_options.specs.IpOptions.{ipv4OptionLength, ipv6ExtensionLength}
 use Rattle.observable.specs.Observation.{holdsKind, ownTimestampNonzero, windowMultiplier}
 use Rattle.one_option.specs.Options.{asked, runsPast, optionsAfter}
-use Rattle.one_option.specs.See.{laterMss, laterScale, trailingNonzero, excessiveScaling, ownTimestampZero, peerTimestampNonzero, laterQuirks, seeOption}
+use Rattle.one_option.specs.See.{laterMss, laterScale, trailingNonzero, excessiveScaling, ownTimestampZero, peerTimestampNonzero}
+use Rattle.one_option.specs.See.{laterQuirks, seeOption}
 use Rattle.syn_options.specs.Walk.{entryByte, putEntry, walkFrom, walkOf}
 use Rattle.ip.specs.Ip.{ipv4Quirks, ipv4Facts, readIpv4, ipv6Quirks, ipv6Facts, readIpv6, readIp}
 use Rattle.flow.specs.declared.Reading.{Reading}
@@ -41,7 +42,7 @@ use Rattle.found.specs.Least.{prefer, leastFrom, firstLeast, numbersFrom}
 use Rattle.found.specs.Rank.{foundOf}
 use Rattle.search.specs.Search.{fitAt, candidateAt, rankAt, foundAt, searchRow, searchOver, searchAll, searchList}
 use Rattle.alike.proofs.Packets.{read-alike}
-use Rattle.acceptance.specs.Values.{packetA, exampleList}
+use Rattle.acceptance.specs.Values.{packetA, exampleList, theRecord}
 use Rattle.acceptance.specs.NotFree.{ReadApart, AnsweredApart, stamped, overIpv6, noLength, noLengthIpv6, NotFree}
 use Rattle.acceptance.proofs.Values.{values}
 
@@ -81,17 +82,30 @@ firstKind r = byteAt (r .observation .olayout .kinds) 0
 -- An answer that is another than packet A's.
 not-exact
     : (p : List ℕ)
-    → (searchList (readPacket p mss.Absent .observation) exampleList ≡ answer.Found (found.Exact 7) → ⊥)
+    → (searchList (readPacket p mss.Absent .observation) exampleList ≡ answer.Found (found.Exact theRecord) → ⊥)
     → AnsweredApart packetA p
 not-exact p differs same = differs (sym same ∙ values .search .exact)
 
 -- With another kind of option packet A does not fit.
 other-kind : searchList (readPacket (set packetA 40 3) mss.Absent .observation) exampleList ≡ answer.Found found.None
-unfolding readPacket readIp readIpv4 ipv4Facts ipv4Quirks ipv4OptionLength readingOf guessOf initialOf readTcp flagsInvalid maskedType isSynType observationFrom observationOf quirksOfHeaders headerQuirks payloadClass walkOf walkFrom optionsAfter asked runsPast putEntry entryByte seeOption laterMss laterScale laterQuirks trailingNonzero excessiveScaling ownTimestampZero peerTimestampNonzero anyNonzero addIf with bitOf placeOf empty fromQuirks be16 be32 checkList listFits recordsFrom recordGood layoutLies scalarsGood versionGood ttlGood presenceGood windowGood payloadGood quirksGood entryGood entriesGood allBelow isEmpty difference seventeen displayOrder searchList searchAll searchOver searchRow foundAt firstLeast leastFrom prefer numbersFrom rankAt candidateAt foundOf fitAt featuresOf windowMultiplier ownTimestampNonzero holdsKind contains holds digit multiplierOf firstMultiple twelve divides signatureOf versionOf ttlOf mssOf scaleOf windowOf payloadOf fitOf scalarGates versionMatches olenMatches mssMatches windowMatches scaleMatches payloadMatches layoutMatches entriesMatch toleranceOf ttlFit quirksFit maskedQuirks maskWhenObsV4 maskWhenObsV6 fuzzyDeletable fuzzyAddable judge judgeInRange
+unfolding readPacket readIp readIpv4 ipv4Facts ipv4Quirks ipv4OptionLength readingOf guessOf initialOf readTcp flagsInvalid maskedType
+    isSynType observationFrom observationOf quirksOfHeaders headerQuirks payloadClass walkOf walkFrom optionsAfter asked runsPast putEntry
+    entryByte seeOption laterMss laterScale laterQuirks trailingNonzero excessiveScaling ownTimestampZero peerTimestampNonzero anyNonzero
+    addIf with bitOf placeOf empty fromQuirks be16 be32 checkList listFits recordsFrom recordGood layoutLies scalarsGood versionGood ttlGood
+    presenceGood windowGood payloadGood quirksGood entryGood entriesGood allBelow isEmpty difference seventeen displayOrder searchList
+    searchAll searchOver searchRow foundAt firstLeast leastFrom prefer numbersFrom rankAt candidateAt foundOf fitAt featuresOf
+    windowMultiplier ownTimestampNonzero holdsKind contains holds digit multiplierOf firstMultiple twelve divides signatureOf versionOf
+    ttlOf mssOf scaleOf windowOf payloadOf fitOf scalarGates versionMatches olenMatches mssMatches windowMatches scaleMatches payloadMatches
+    layoutMatches entriesMatch toleranceOf ttlFit quirksFit maskedQuirks maskWhenObsV4 maskWhenObsV6 fuzzyDeletable fuzzyAddable judge
+    judgeInRange
 other-kind = refl
 
 pub not-free : NotFree
-unfolding readPacket readIp readIpv4 ipv4Facts ipv4Quirks ipv4OptionLength readIpv6 ipv6Facts ipv6Quirks ipv6ExtensionLength readingOf guessOf initialOf readTcp flagsInvalid maskedType isSynType isSynAckType knownPeer observationFrom observationOf quirksOfHeaders headerQuirks payloadClass walkOf walkFrom optionsAfter asked runsPast putEntry entryByte seeOption laterMss laterScale laterQuirks trailingNonzero excessiveScaling ownTimestampZero peerTimestampNonzero anyNonzero addIf with bitOf placeOf empty fromQuirks be16 be32 refusalOf
+unfolding readPacket readIp readIpv4 ipv4Facts ipv4Quirks ipv4OptionLength readIpv6 ipv6Facts ipv6Quirks ipv6ExtensionLength readingOf
+    guessOf initialOf readTcp flagsInvalid maskedType isSynType isSynAckType knownPeer observationFrom observationOf quirksOfHeaders
+    headerQuirks payloadClass walkOf walkFrom optionsAfter asked runsPast putEntry entryByte seeOption laterMss laterScale laterQuirks
+    trailingNonzero excessiveScaling ownTimestampZero peerTimestampNonzero anyNonzero addIf with bitOf placeOf empty fromQuirks be16 be32
+    refusalOf
 not-free =
     record {
       apart = λ p q differs a. differs (read-alike p q mss.Absent a);

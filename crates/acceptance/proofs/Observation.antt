@@ -127,7 +127,8 @@ module _ (f : IpFacts) (t : List ℕ) (peer : Mss) (fits : FactsFit f) where
             absurd
             (false≢true
             (sym
-            (walk-lacks (startWalk (quirksOfHeaders t (f .quirks))) (optionsOf (take 40 (options t))) (header-lacks t (f .quirks) (fits .lacks)))
+            (walk-lacks (startWalk (quirksOfHeaders t (f .quirks))) (optionsOf (take 40 (options t)))
+            (header-lacks t (f .quirks) (fits .lacks)))
             ∙ e));
       }
 

@@ -12,7 +12,8 @@ use Rattle.window_size.specs.Multiplier.{firstMultiple, multiplierOf}
 use Rattle.ip_options.specs.IpOptions.{ipv4OptionLength}
 use Rattle.observable.specs.Observation.{holdsKind, ownTimestampNonzero, windowMultiplier}
 use Rattle.one_option.specs.Options.{asked, runsPast, optionsAfter}
-use Rattle.one_option.specs.See.{laterMss, laterScale, trailingNonzero, excessiveScaling, ownTimestampZero, peerTimestampNonzero, laterQuirks, seeOption}
+use Rattle.one_option.specs.See.{laterMss, laterScale, trailingNonzero, excessiveScaling, ownTimestampZero, peerTimestampNonzero}
+use Rattle.one_option.specs.See.{laterQuirks, seeOption}
 use Rattle.syn_options.specs.Walk.{entryByte, putEntry, walkFrom, walkOf}
 use Rattle.ip.specs.Ip.{ipv4Quirks, ipv4Facts, readIpv4, readIp}
 use Rattle.flow.specs.Flags.{maskedType, flagsInvalid, isSynType}
@@ -42,7 +43,17 @@ use Rattle.acceptance.specs.Values.{packetA}
 use Rattle.acceptance.specs.Overlap.{Overlap}
 
 pub overlap : Overlap
-unfolding readPacket readIp readIpv4 ipv4Facts ipv4Quirks ipv4OptionLength readingOf guessOf initialOf readTcp flagsInvalid maskedType isSynType observationFrom observationOf quirksOfHeaders headerQuirks payloadClass walkOf walkFrom optionsAfter asked runsPast putEntry entryByte seeOption laterMss laterScale laterQuirks trailingNonzero excessiveScaling ownTimestampZero peerTimestampNonzero anyNonzero addIf with bitOf placeOf empty fromQuirks be16 be32 checkList listFits recordsFrom recordGood layoutLies scalarsGood versionGood ttlGood presenceGood windowGood payloadGood quirksGood entryGood entriesGood allBelow isEmpty difference seventeen displayOrder searchList searchAll searchOver searchRow foundAt firstLeast leastFrom prefer numbersFrom rankAt candidateAt foundOf fitAt featuresOf windowMultiplier ownTimestampNonzero holdsKind contains holds digit multiplierOf firstMultiple twelve divides signatureOf versionOf ttlOf mssOf scaleOf windowOf payloadOf fitOf scalarGates versionMatches olenMatches mssMatches windowMatches scaleMatches payloadMatches layoutMatches entriesMatch toleranceOf ttlFit quirksFit maskedQuirks maskWhenObsV4 maskWhenObsV6 fuzzyDeletable fuzzyAddable judge judgeInRange outputOf bundleAnswer checkBundle bundleFits packetsFit packetFits packetEnd peerOf answersFrom packetLies listLies answerAt answerOf linesOf lineOf answerText foundText headLine refusedLine decimal width
+unfolding readPacket readIp readIpv4 ipv4Facts ipv4Quirks ipv4OptionLength readingOf guessOf initialOf readTcp flagsInvalid maskedType
+    isSynType observationFrom observationOf quirksOfHeaders headerQuirks payloadClass walkOf walkFrom optionsAfter asked runsPast putEntry
+    entryByte seeOption laterMss laterScale laterQuirks trailingNonzero excessiveScaling ownTimestampZero peerTimestampNonzero anyNonzero
+    addIf with bitOf placeOf empty fromQuirks be16 be32 checkList listFits recordsFrom recordGood layoutLies scalarsGood versionGood ttlGood
+    presenceGood windowGood payloadGood quirksGood entryGood entriesGood allBelow isEmpty difference seventeen displayOrder searchList
+    searchAll searchOver searchRow foundAt firstLeast leastFrom prefer numbersFrom rankAt candidateAt foundOf fitAt featuresOf
+    windowMultiplier ownTimestampNonzero holdsKind contains holds digit multiplierOf firstMultiple twelve divides signatureOf versionOf
+    ttlOf mssOf scaleOf windowOf payloadOf fitOf scalarGates versionMatches olenMatches mssMatches windowMatches scaleMatches payloadMatches
+    layoutMatches entriesMatch toleranceOf ttlFit quirksFit maskedQuirks maskWhenObsV4 maskWhenObsV6 fuzzyDeletable fuzzyAddable judge
+    judgeInRange outputOf bundleAnswer checkBundle bundleFits packetsFit packetFits packetEnd peerOf answersFrom packetLies listLies
+    answerAt answerOf linesOf lineOf answerText foundText headLine refusedLine decimal width
 overlap =
     record {
       alike = free-byte packetA 12 1 (FreePacket.header (ItemBy.four refl FreeIpv4.addresses)) (omega arith) (omega arith);

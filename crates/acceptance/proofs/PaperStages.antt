@@ -71,10 +71,12 @@ rows6 = 1 ∷ 2 ∷ 3 ∷ 4 ∷ 5 ∷ 6 ∷ []
 past-six : (t : Bool) (n : ℕ) → n ≡ cond t 7 0 → NotAmong n rows6
 past-six true n e =
     more {m = 1} (λ (h : n ≡ 1). omega arith) (more {m = 2} (λ (h : n ≡ 2). omega arith) (more {m = 3} (λ (h : n ≡ 3). omega arith)
-    (more {m = 4} (λ (h : n ≡ 4). omega arith) (more {m = 5} (λ (h : n ≡ 5). omega arith) (more {m = 6} (λ (h : n ≡ 6). omega arith) end)))))
+    (more {m = 4} (λ (h : n ≡ 4). omega arith)
+    (more {m = 5} (λ (h : n ≡ 5). omega arith) (more {m = 6} (λ (h : n ≡ 6). omega arith) end)))))
 past-six false n e =
     more {m = 1} (λ (h : n ≡ 1). omega arith) (more {m = 2} (λ (h : n ≡ 2). omega arith) (more {m = 3} (λ (h : n ≡ 3). omega arith)
-    (more {m = 4} (λ (h : n ≡ 4). omega arith) (more {m = 5} (λ (h : n ≡ 5). omega arith) (more {m = 6} (λ (h : n ≡ 6). omega arith) end)))))
+    (more {m = 4} (λ (h : n ≡ 4). omega arith)
+    (more {m = 5} (λ (h : n ≡ 5). omega arith) (more {m = 6} (λ (h : n ≡ 6). omega arith) end)))))
 
 pub ip-row : (p : List ℕ) → IsRow (PacketRow p) rows6 p [] (ipPaper (readIp p))
 unfolding readPacket refusalOf
@@ -103,7 +105,8 @@ ip-row p = by-stage (readIp p) refl (given p)
     by-stage (ip.Facts f) e gives =
         let n = stage-number (ip.Facts f) e ∙ by-flags f (tcpPart f p) mss.Absent in
         record {
-          first = none-of 7 rows6 at-seven (past-six (flagsInvalid (control (tcpPart f p))) (refusalOf (readPacket p mss.Absent .answer)) n);
+          first =
+              none-of 7 rows6 at-seven (past-six (flagsInvalid (control (tcpPart f p))) (refusalOf (readPacket p mss.Absent .answer)) n);
           also = others p [] 0 (λ e. omega arith) (λ e. omega arith);
         }
 
@@ -132,6 +135,8 @@ header-row l = by-fit (listFits l) refl
     by-fit false e =
         rw e
         (record {
-          first = without-last 10 (9 ∷ []) (refusals .list l 9 .0 (ap listRefusal (does-not-fit l e) ∙ nine)) (λ (s : _≡_ {A = ℕ} 9 10). omega arith);
+          first =
+              without-last 10 (9 ∷ []) (refusals .list l 9 .0 (ap listRefusal (does-not-fit l e) ∙ nine))
+              (λ (s : _≡_ {A = ℕ} 9 10). omega arith);
           also = others [] l 9 (λ e. omega arith) (λ e. omega arith);
         })

@@ -21,8 +21,7 @@ use Rattle.packet_answer.specs.declared.PacketAnswer.the-variants as packet
 use Rattle.packet_answer.specs.Packet.{packetVerdict}
 use Rattle.bundle.specs.declared.BundleCheck.the-variants as bundle
 use Rattle.bundle.specs.Bundle.{bundleVerdict}
-use Rattle.gateway.specs.declared.GatewayAnswer.the-variants as gateway
-use Rattle.gateway.specs.Code.{gatewayVerdict}
+use Rattle.gateway.specs.Parts.{GatewayAnswer, gatewayVerdict}
 use Rattle.gateway.specs.Decode.{refusedAs}
 use Rattle.acceptance.specs.OnPaper.{Paper, paperOf, ToldApart, Told}
 
@@ -81,11 +80,11 @@ bundle-again bundle.DoesNotFit = refl
 bundle-again (bundle.List r) = refl
 
 gateway-again : Again refusedAs gatewayVerdict
-gateway-again (gateway.Packet (packet.Syn f)) = tt
-gateway-again (gateway.Packet (packet.SynAck f)) = tt
-gateway-again (gateway.Packet packet.Nothing) = tt
-gateway-again (gateway.Packet (packet.Refused r)) = refl
-gateway-again (gateway.List r) = refl
+gateway-again (GatewayAnswer.answered (packet.Syn f)) = tt
+gateway-again (GatewayAnswer.answered (packet.SynAck f)) = tt
+gateway-again (GatewayAnswer.answered packet.Nothing) = tt
+gateway-again (GatewayAnswer.answered (packet.Refused r)) = refl
+gateway-again (GatewayAnswer.list-refused r) = refl
 
 pub told : Told
 told =

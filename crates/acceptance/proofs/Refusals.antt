@@ -36,7 +36,10 @@ use Rattle.acceptance.proofs.PacketRefusals.{packet-first}
 -- ---- option strings
 
 options-first : (s : List ℕ) (n : ℕ) → (optionsRefusal (parseOptionsRaw s .answer) ≡ n) ↔ First (OptionsRow s) (8 ∷ []) n
-options-first s = exactly (rw (refused-over-forty s) (by-test (ltb 40 (length s)) (λ e. OptionsRow.over-40 (ltb-true 40 (length s) e)) short (λ e. First.none)))
+options-first s =
+    exactly
+    (rw (refused-over-forty s)
+    (by-test (ltb 40 (length s)) (λ e. OptionsRow.over-40 (ltb-true 40 (length s) e)) short (λ e. First.none)))
   where
     short : ltb 40 (length s) ≡ false → OptionsRow s 8 → ⊥
     short e (OptionsRow.over-40 h) = let few = ltb-false 40 (length s) e in omega arith

@@ -32,7 +32,7 @@ use Rattle.bundle.specs.Bundle.{packetCount, checkBundle}
 use Rattle.bundle.specs.Answers.{answerAt, packetLies, packetAt, startOf}
 use Rattle.bundle.proofs.Packets.{good-fits, fits-lies, packets-within, start-first}
 use Rattle.bundle.proofs.BundleOrder.{each-within}
-use Rattle.gateway.specs.Code.{fieldsOf, codeOf, gatewayAnswer, listCode}
+use Rattle.gateway.specs.Parts.{refusedList, gatewayAnswer, listParts}
 use Rattle.acceptance.specs.Unchecked.{goodOnes, SearchUnchecked, PacketUnchecked, BundleUnchecked, OptionsUnchecked, Unchecked}
 use Rattle.acceptance.proofs.Honesty.{honesty}
 
@@ -97,10 +97,10 @@ unfit l e = by-test (listFits l) refl
     by-test true fits = absurd (never-unfit (first-bad-named l fits) e)
     by-test false fits = refl
 
-good-code : (a : ListAnswer) → listCode a ≡ 0 → a ≡ list.Good
-unfolding listCode codeOf fieldsOf
-good-code list.Good e = refl
-good-code (list.Refused r) e = absurd (omega arith)
+good-outcome : (a : ListAnswer) → listParts a .outcome ≡ 0 → a ≡ list.Good
+unfolding listParts refusedList
+good-outcome list.Good e = refl
+good-outcome (list.Refused r) e = absurd (omega arith)
 
 -- ---- the statements
 
@@ -113,19 +113,21 @@ search-unchecked =
           sym
           (without (featuresOf o) (o .olayout .kinds) (o .olayout .bytes) l
           (good-ones (featuresOf o) (o .olayout .kinds) (o .olayout .bytes) l (numbersFrom 0 (recordCount l))));
-      does-not-fit = λ o l e. none-found (featuresOf o) (o .olayout .kinds) (o .olayout .bytes) l (unfit l e) (numbersFrom 0 (recordCount l));
+      does-not-fit =
+          λ o l e. none-found (featuresOf o) (o .olayout .kinds) (o .olayout .bytes) l (unfit l e) (numbersFrom 0 (recordCount l));
       layout-too-long = λ o l long.
           none-fits (featuresOf o) (o .olayout .kinds) (o .olayout .bytes) l
           (long-fits-not (featuresOf o) (o .olayout .kinds) (o .olayout .bytes) l long) (numbersFrom 0 (recordCount l));
     }
 
 packet-unchecked : PacketUnchecked
-unfolding gatewayAnswer listCode fieldsOf
+unfolding gatewayAnswer listParts
 packet-unchecked =
     record {
       same = λ p peer l good. rw good;
-      same-code = λ p peer l good. rw good;
-      checked = λ l. (good-code (checkList l), λ good. rw good);
+      same-struct = λ p peer l good. rw good;
+      checked = λ l. (good-outcome (checkList l), λ good. rw good);
+      checked-good = λ l good. rw good;
       syn = λ p peer l e.
           honesty .syn-answer p peer l e ∙ ap packet.Syn (search-unchecked .bad-record (readPacket p peer .observation) l);
       syn-ack = λ p peer l e.

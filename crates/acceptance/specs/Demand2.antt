@@ -32,6 +32,7 @@ use Rattle.matching.specs.Fit.{featuresOf, fitOf}
 use Rattle.siglist.specs.declared.ListAnswer.the-variants as list
 use Rattle.sigrecord.specs.Record.{signatureOf, entryCount, labelOf}
 use Rattle.siglist.specs.List.{recordCount, recordAt, entriesOf, checkList}
+use Rattle.found.specs.declared.Hit.{Hit}
 use Rattle.found.specs.declared.Found.{Found}
 use Rattle.found.specs.declared.Found.the-variants as found
 use Rattle.search.specs.declared.SearchAnswer.{SearchAnswer}
@@ -78,8 +79,10 @@ pub record TheObservation (p : List ℕ) (peer : Mss) : Type 0 where
   pub no-guess : (t : ℕ) → readPacket p peer .observation .ittl ≡ ttl.Guess t → ⊥
   -- "A layout has at most 40 entries"; "two byte arrays of 40 and a count, entries past it 0"
   pub at-most-40 : readPacket p peer .observation .olayout .count ≤ 40
-  pub kinds-past : (i : ℕ) → readPacket p peer .observation .olayout .count ≤ i → byteAt (readPacket p peer .observation .olayout .kinds) i ≡ 0
-  pub bytes-past : (i : ℕ) → readPacket p peer .observation .olayout .count ≤ i → byteAt (readPacket p peer .observation .olayout .bytes) i ≡ 0
+  pub kinds-past
+      : (i : ℕ) → readPacket p peer .observation .olayout .count ≤ i → byteAt (readPacket p peer .observation .olayout .kinds) i ≡ 0
+  pub bytes-past
+      : (i : ℕ) → readPacket p peer .observation .olayout .count ≤ i → byteAt (readPacket p peer .observation .olayout .bytes) i ≡ 0
   -- "Seventeen bits": no other is shown
   pub of-seventeen : SubsetByPlaces (readPacket p peer .observation .quirks) seventeen
   -- "`OptBad` is never set, `PeerTimestampNonZero` on a SYN only."
@@ -94,11 +97,11 @@ pub record TheObservation (p : List ℕ) (peer : Mss) : Type 0 where
 
 -- ---- the single fit
 
--- What a search finds in one record, by its label and its fit.
-abbrev pub ofOne : ℕ → SignatureFit → Found
-ofOne label fit.None = found.None
-ofOne label fit.Exact = found.Exact label
-ofOne label (fit.Fuzzy reason) = found.Fuzzy label reason
+-- What a search finds in one record, by its label and number and its fit.
+abbrev pub ofOne : Hit → SignatureFit → Found
+ofOne hit fit.None = found.None
+ofOne hit fit.Exact = found.Exact hit
+ofOne hit (fit.Fuzzy reason) = found.Fuzzy hit reason
 
 -- "a single fit is the search of a list of one record"
 abbrev pub SingleFit : Type 0
@@ -109,7 +112,7 @@ SingleFit =
     → recordCount l ≡ 1
     → searchList o l
     ≡ answer.Found
-    (ofOne (labelOf (recordAt l 0))
+    (ofOne (record { label = labelOf (recordAt l 0); number = 0 })
     (fitOf (featuresOf o) (o .olayout .kinds) (o .olayout .bytes) (signatureOf (recordAt l 0)) (entryCount (recordAt l 0))
     (entriesOf l (recordAt l 0))))
 

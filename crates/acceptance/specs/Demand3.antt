@@ -27,6 +27,7 @@ use Rattle.packet_answer.specs.Packet.{answerOf}
 use Rattle.bundle.specs.Answers.{answerAt}
 use Rattle.report.specs.Text.{lineOf}
 use Rattle.report.specs.Pages.{outputOfInput}
+use Rattle.gateway.specs.declared.TermreadResult.{TermreadResult}
 use Rattle.gateway.proofs.termread_answer_checked.Reads as answer-checked'
 use Rattle.gateway.proofs.termread_answer.Reads as answer'
 use Rattle.alike.specs.Options.{AlikeOptions}
@@ -100,13 +101,13 @@ pub record SameAnswer : Type 0 where
 -- What the gateway's functions return.
 pub record GatewaySame : Type 0 where
   pub checked
-      : (κs : Lfts 2) (p q list : RefT (List ℕ)) (peer r s : ℕ)
+      : (κs : Lfts 2) (p q list : RefT (List ℕ)) (peer : ℕ) (r s : TermreadResult)
       → Alike (now p) (now q)
       → answer-checked'.Post κs (p, (peer, (list, tt))) r (p, (peer, (list, tt)))
       → answer-checked'.Post κs (q, (peer, (list, tt))) s (q, (peer, (list, tt)))
       → r ≡ s
   pub not-checked
-      : (κs : Lfts 2) (p q list : RefT (List ℕ)) (peer r s : ℕ)
+      : (κs : Lfts 2) (p q list : RefT (List ℕ)) (peer : ℕ) (r s : TermreadResult)
       → Alike (now p) (now q)
       → answer'.Post κs (p, (peer, (list, tt))) r (p, (peer, (list, tt)))
       → answer'.Post κs (q, (peer, (list, tt))) s (q, (peer, (list, tt)))

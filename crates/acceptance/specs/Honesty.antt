@@ -1,10 +1,10 @@
 -- "Exact, fuzzy and none stay three answers": what each of the three means, for a record, for a search and for a packet (document 01,
--- module 7 and "The signature list"), and that they stay three as the numbers that a gateway gets. `Honesty` is the statement.
+-- module 7 and "The signature list"), and that they stay three in the struct that a gateway gets. `Honesty` is the statement.
 use mathlib.Core.Path.{_≡_}
 use mathlib.Core.Bool.{true, false}
 use mathlib.Core.List.{List, _++_}
 use mathlib.Core.Logic.{_↔_, _⊎_}
-use Prim.Native.Nat.{ℕ, _%_, _<_}
+use Prim.Native.Nat.{ℕ, _<_}
 use Rattle.tcp.specs.declared.Mss.{Mss}
 use Rattle.quirks.specs.Quirks.{isEmpty}
 use Rattle.observable.specs.declared.TcpObservation.{TcpObservation}
@@ -20,26 +20,26 @@ use Rattle.matching.specs.declared.Hops.the-variants as hops
 use Rattle.matching.specs.declared.QuirksFit.{QuirksFit}
 use Rattle.matching.specs.declared.QuirksFit.the-variants as quirksfit
 use Rattle.sigrecord.specs.declared.Signature.{Signature}
-use Rattle.matching.specs.declared.SignatureFit.{SignatureFit}
 use Rattle.matching.specs.declared.SignatureFit.the-variants as fit
 use Rattle.matching.specs.declared.Tolerated.{Tolerated}
 use Rattle.matching.specs.Gates.{layoutMatches}
 use Rattle.matching.specs.Tolerance.{maskedQuirks, quirksFit}
-use Rattle.matching.specs.Fit.{featuresOf, scalarGates, fitOf}
-use Rattle.sigrecord.specs.Record.{labelOf}
-use Rattle.siglist.specs.List.{recordCount, recordAt}
+use Rattle.matching.specs.Fit.{scalarGates, fitOf}
+use Rattle.siglist.specs.List.{checkList}
+use Rattle.found.specs.declared.Hit.{Hit}
 use Rattle.found.specs.declared.Found.{Found}
 use Rattle.found.specs.declared.Found.the-variants as found
 use Rattle.found.specs.Rank.{rankOf}
 use Rattle.search.specs.declared.SearchAnswer.the-variants as answer
-use Rattle.search.specs.Search.{fitAt, searchOver, searchAll, searchList}
+use Rattle.search.specs.Search.{searchOver, searchAll, searchList}
 use Rattle.packet_answer.specs.declared.PacketAnswer.{PacketAnswer}
 use Rattle.packet_answer.specs.declared.PacketAnswer.the-variants as packet
 use Rattle.packet_answer.specs.Packet.{peerOf, answerOf}
-use Rattle.gateway.specs.declared.GatewayAnswer.{GatewayAnswer}
-use Rattle.gateway.specs.declared.GatewayAnswer.the-variants as gateway
-use Rattle.gateway.specs.Code.{packetFields, fieldsOf, codeOf, gatewayAnswer}
-use Rattle.gateway.specs.Decode.{AllBytes, fieldsFrom, answerFrom}
+use Rattle.gateway.specs.declared.TermreadResult.{TermreadResult}
+use Rattle.gateway.specs.Parts.{GatewayAnswer, packetParts, partsOf, gatewayAnswer, listParts}
+use Rattle.gateway.specs.Decode.{AllBytes, answerFrom}
+use Rattle.gateway.specs.Zeros.{Zeros}
+use Rattle.acceptance.specs.Outcome.{Outcome}
 
 -- "Nothing tolerated": the TTL is in range, and no quirk is added or missing.
 pub data NothingTolerated : TtlFit → QuirksFit → Type 0 where
@@ -83,54 +83,34 @@ pub record FitsFuzzily (f : Features) (kinds bytes : List ℕ) (s : Signature) (
     pub tolerated
         : ToleratedWith (ttlFit (f .ttl) (s .ittl)) (quirksFit (f .quirks) (maskedQuirks (s .quirks) (s .version) (f .version))) reason
 
--- How record i of a list fits an observation; what is not a well-formed record of the list does not fit.
-abbrev pub fitOfRecord : TcpObservation → List ℕ → ℕ → SignatureFit
-fitOfRecord o l i = fitAt (featuresOf o) (o .olayout .kinds) (o .olayout .bytes) l i
-
-abbrev pub labelAt : List ℕ → ℕ → ℕ
-labelAt l i = labelOf (recordAt l i)
-
--- "the first exact record in list order; else the first fuzzy one, with its reason; else none"
-pub data Outcome (o : TcpObservation) (l : List ℕ) : Found → Type 0 where
-  first-exact
-      : (i : ℕ)
-      → i < recordCount l
-      → fitOfRecord o l i ≡ fit.Exact
-      → ((j : ℕ) → j < i → fitOfRecord o l j ≡ fit.Exact → ⊥)
-      → Outcome o l (found.Exact (labelAt l i))
-  first-fuzzy
-      : (i : ℕ) (reason : FuzzyReason)
-      → i < recordCount l
-      → fitOfRecord o l i ≡ fit.Fuzzy reason
-      → ((j : ℕ) → j < i → fitOfRecord o l j ≡ fit.None)
-      → ((j : ℕ) → j < recordCount l → fitOfRecord o l j ≡ fit.Exact → ⊥)
-      → Outcome o l (found.Fuzzy (labelAt l i) reason)
-  none : ((i : ℕ) → i < recordCount l → fitOfRecord o l i ≡ fit.None) → Outcome o l found.None
-
 -- Which of the three a search's answer is: 1 exact, 2 fuzzy, 3 none.
 abbrev pub whichOf : Found → ℕ
-whichOf (found.Exact label) = 1
-whichOf (found.Fuzzy label reason) = 2
+whichOf (found.Exact hit) = 1
+whichOf (found.Fuzzy hit reason) = 2
 whichOf found.None = 3
 
 -- Of a gateway's answer: one of the three, or 4 (neither SYN nor SYN+ACK), or 5 (refused).
 abbrev pub outcomeOf : GatewayAnswer → ℕ
-outcomeOf (gateway.Packet (packet.Syn f)) = whichOf f
-outcomeOf (gateway.Packet (packet.SynAck f)) = whichOf f
-outcomeOf (gateway.Packet packet.Nothing) = 4
-outcomeOf (gateway.Packet (packet.Refused r)) = 5
-outcomeOf (gateway.List r) = 5
+outcomeOf (GatewayAnswer.answered (packet.Syn f)) = whichOf f
+outcomeOf (GatewayAnswer.answered (packet.SynAck f)) = whichOf f
+outcomeOf (GatewayAnswer.answered packet.Nothing) = 4
+outcomeOf (GatewayAnswer.answered (packet.Refused r)) = 5
+outcomeOf (GatewayAnswer.list-refused r) = 5
 
--- The number that a gateway gets for a packet, the peer's MSS and a list (`termread_answer`).
-abbrev pub codeAt : List ℕ → ℕ → List ℕ → ℕ
-codeAt p peer l = codeOf (fieldsOf (gatewayAnswer p peer l))
+-- The struct that a gateway gets for a packet, the peer's MSS and a list (`termread_answer`).
+abbrev pub structAt : List ℕ → ℕ → List ℕ → TermreadResult
+structAt p peer l = partsOf (gatewayAnswer p peer l)
 
--- The answer that a gateway gets which checked its list once, and its number (`termread_answer_checked`).
+-- The answer that a gateway gets which checked its list once, and its struct (`termread_answer_checked`).
 abbrev pub checkedAnswer : List ℕ → ℕ → List ℕ → PacketAnswer
 checkedAnswer p peer l = answerOf p (peerOf peer) l
 
-abbrev pub checkedCode : List ℕ → ℕ → List ℕ → ℕ
-checkedCode p peer l = codeOf (packetFields (checkedAnswer p peer l))
+abbrev pub checkedStruct : List ℕ → ℕ → List ℕ → TermreadResult
+checkedStruct p peer l = packetParts (checkedAnswer p peer l)
+
+-- The struct that a gateway gets for a list alone (`termread_check_list`).
+abbrev pub listStruct : List ℕ → TermreadResult
+listStruct l = listParts (checkList l)
 
 pub record Honesty : Type 0 where
   -- "Nothing tolerated is exact, else fuzzy": exact exactly when the gates hold and nothing is tolerated.
@@ -142,15 +122,16 @@ pub record Honesty : Type 0 where
   pub fuzzy
       : (f : Features) (kinds bytes : List ℕ) (s : Signature) (count : ℕ) (entries : List ℕ) (reason : FuzzyReason)
       → (fitOf f kinds bytes s count entries ≡ fit.Fuzzy reason) ↔ FitsFuzzily f kinds bytes s count entries reason
-  -- What a search finds is one of the three outcomes.
+  -- What a search finds: the first exact record of its list, else the first fuzzy one with its reason, else none.
   pub search : (o : TcpObservation) (l : List ℕ) (x : Found) → searchList o l ≡ answer.Found x → Outcome o l x
   -- Over a longer row of record numbers a search finds the same, or what has strictly less rank: exact before fuzzy before none.
   pub longer-row
       : (o : TcpObservation) (l is js : List ℕ)
       → (searchOver (is ++ js) o l ≡ searchOver is o l) ⊎ (rankOf (searchOver (is ++ js) o l) < rankOf (searchOver is o l))
-  -- What the program and the gateway answer of a SYN or SYN+ACK is the search for its observation, and is one of the three outcomes
-  -- on any list, checked or not.
-  pub answered : (o : TcpObservation) (l : List ℕ) → Outcome o l (searchAll o l)
+  -- What the program and the gateway answer of a SYN or SYN+ACK is the search for its observation. It is an answer exactly when the
+  -- records are so, on any list, checked or not: this record, by number and label, exactly when it is the first exact one, or the first
+  -- fuzzy one where none is exact; none exactly when no record fits.
+  pub answered : (o : TcpObservation) (l : List ℕ) (x : Found) → (searchAll o l ≡ x) ↔ Outcome o l x
   pub syn-answer
       : (p : List ℕ) (peer : Mss) (l : List ℕ)
       → readPacket p peer .answer ≡ reading.Syn
@@ -167,46 +148,44 @@ pub record Honesty : Type 0 where
       → readPacket p peer .answer ≡ reading.Refused r
       → answerOf p peer l ≡ packet.Refused r
   -- No two of the three answers are one.
-  pub exact-not-fuzzy : (a b : ℕ) (r : FuzzyReason) → found.Exact a ≡ found.Fuzzy b r → ⊥
-  pub exact-not-none : (a : ℕ) → found.Exact a ≡ found.None → ⊥
-  pub fuzzy-not-none : (a : ℕ) (r : FuzzyReason) → found.Fuzzy a r ≡ found.None → ⊥
-  -- Nothing of an answer is lost in its number: the answer is read back from it.
+  pub exact-not-fuzzy : (a b : Hit) (r : FuzzyReason) → found.Exact a ≡ found.Fuzzy b r → ⊥
+  pub exact-not-none : (a : Hit) → found.Exact a ≡ found.None → ⊥
+  pub fuzzy-not-none : (a : Hit) (r : FuzzyReason) → found.Fuzzy a r ≡ found.None → ⊥
+  -- Nothing of an answer is lost in its struct: the answer is read back from it.
   pub read-back
       : (p : List ℕ) (peer : ℕ) (l : List ℕ)
       → AllBytes p
       → AllBytes l
-      → answerFrom (fieldsFrom (codeAt p peer l)) ≡ gatewayAnswer p peer l
-  -- No two different answers of the gateway share a number.
-  pub codes-differ
+      → answerFrom (structAt p peer l) ≡ gatewayAnswer p peer l
+  -- No two different answers of the gateway share a struct.
+  pub structs-differ
       : (p q : List ℕ) (m n : ℕ) (l k : List ℕ)
       → AllBytes p
       → AllBytes q
       → AllBytes l
       → AllBytes k
-      → codeAt p m l ≡ codeAt q n k
+      → structAt p m l ≡ structAt q n k
       → gatewayAnswer p m l ≡ gatewayAnswer q n k
-  -- The lowest byte of the number is the outcome, so it alone tells the three apart.
-  pub lowest-byte
-      : (p : List ℕ) (peer : ℕ) (l : List ℕ)
-      → AllBytes p
-      → AllBytes l
-      → codeAt p peer l % 256 ≡ outcomeOf (gatewayAnswer p peer l)
-  -- The same three of the function that gateways are told to call, on any byte strings, also where the list was not checked.
+  -- The field `outcome` alone tells the three apart, and them from 4 and 5.
+  pub outcome-field : (p : List ℕ) (peer : ℕ) (l : List ℕ) → structAt p peer l .outcome ≡ outcomeOf (gatewayAnswer p peer l)
+  -- What an answer does not have is 0 in its struct, and so is what no answer has yet.
+  pub zeros : (p : List ℕ) (peer : ℕ) (l : List ℕ) → Zeros (structAt p peer l)
+  -- The same four of the function that gateways are told to call, on any byte strings, also where the list was not checked.
   pub checked-read-back
       : (p : List ℕ) (peer : ℕ) (l : List ℕ)
       → AllBytes p
       → AllBytes l
-      → answerFrom (fieldsFrom (checkedCode p peer l)) ≡ gateway.Packet (checkedAnswer p peer l)
-  pub checked-codes-differ
+      → answerFrom (checkedStruct p peer l) ≡ GatewayAnswer.answered (checkedAnswer p peer l)
+  pub checked-structs-differ
       : (p q : List ℕ) (m n : ℕ) (l k : List ℕ)
       → AllBytes p
       → AllBytes q
       → AllBytes l
       → AllBytes k
-      → checkedCode p m l ≡ checkedCode q n k
+      → checkedStruct p m l ≡ checkedStruct q n k
       → checkedAnswer p m l ≡ checkedAnswer q n k
-  pub checked-lowest-byte
-      : (p : List ℕ) (peer : ℕ) (l : List ℕ)
-      → AllBytes p
-      → AllBytes l
-      → checkedCode p peer l % 256 ≡ outcomeOf (gateway.Packet (checkedAnswer p peer l))
+  pub checked-outcome-field
+      : (p : List ℕ) (peer : ℕ) (l : List ℕ) → checkedStruct p peer l .outcome ≡ outcomeOf (GatewayAnswer.answered (checkedAnswer p peer l))
+  pub checked-zeros : (p : List ℕ) (peer : ℕ) (l : List ℕ) → Zeros (checkedStruct p peer l)
+  -- And the zeros of what is said of a list.
+  pub list-zeros : (l : List ℕ) → Zeros (listStruct l)

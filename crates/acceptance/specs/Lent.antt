@@ -6,7 +6,8 @@ use Prim.Native.Nat.{ℕ, suc}
 use contract.Lifetimes.{Lfts}
 use denote.RattleType.{RattleType}
 use denote.Signature.{Signature, typesAt}
-use mir.Syntax.{Ty, Tys, Tyss, tyInt, tyBool, tyFloat, tyPtr, tyRef, tyArray, tyUnit, tyStruct, tyEnum, tyNamed, tnil, tcons, ttnil, ttcons, imm, mut}
+use mir.Syntax.{Ty, Tys, Tyss, tyInt, tyBool, tyFloat, tyPtr, tyRef, tyArray, tyUnit, tyStruct, tyEnum, tyNamed, tnil, tcons, ttnil, ttcons}
+use mir.Syntax.{imm, mut}
 
 -- Nothing can be written through a value of the type: it holds no `&mut`, and no pointer of which nothing is said.
 abbrev mutual

@@ -10,6 +10,7 @@ use Rattle.tcp.specs.declared.Mss.{Mss}
 use Rattle.refusals.specs.declared.PacketRefusal.the-variants as refusal
 use Rattle.refusals.specs.Refusals.{packetNumber}
 use Rattle.matching.specs.declared.FuzzyReason.{FuzzyReason}
+use Rattle.found.specs.declared.Hit.{Hit}
 use Rattle.found.specs.declared.Found.{Found}
 use Rattle.found.specs.declared.Found.the-variants as found
 use Rattle.packet_answer.specs.declared.PacketAnswer.{PacketAnswer}
@@ -35,10 +36,10 @@ pub data Printed : Type 0 where
   nothing : Printed
   refused : ℕ → Printed
 
--- Exact, fuzzy or none, with the label; the reason of a fuzzy answer is not printed.
+-- Exact, fuzzy or none, with the record's label; its number in the list and the reason of a fuzzy answer are not printed.
 abbrev pub printedFound : Found → PrintedFound
-printedFound (found.Exact label) = PrintedFound.exact label
-printedFound (found.Fuzzy label reason) = PrintedFound.fuzzy label
+printedFound (found.Exact hit) = PrintedFound.exact (hit .label)
+printedFound (found.Fuzzy hit reason) = PrintedFound.fuzzy (hit .label)
 printedFound found.None = PrintedFound.none
 
 -- SYN or SYN+ACK with what was found, nothing, or a refusal by its number; the flags byte of refusal 7 is not printed.
@@ -50,8 +51,8 @@ printed (packet.Refused r) = Printed.refused (packetNumber r)
 
 -- "22 label (two)": a label is a number of two bytes.
 abbrev pub TwoBytes : Found → Type 0
-TwoBytes (found.Exact label) = label < 65536
-TwoBytes (found.Fuzzy label reason) = label < 65536
+TwoBytes (found.Exact hit) = hit .label < 65536
+TwoBytes (found.Fuzzy hit reason) = hit .label < 65536
 TwoBytes found.None = Unit {0}
 
 abbrev pub LabelFits : PacketAnswer → Type 0
@@ -67,16 +68,22 @@ abbrev pub ascii : String → List ℕ
 ascii end = []
 ascii (c then rest) = code c ∷ ascii rest
 
+-- Record n of a list, with this label.
+abbrev pub labelled : ℕ → ℕ → Hit
+labelled label n = record { label = label; number = n }
+
 -- "`packets N`, then a line each", "`refused N`", "`syn none`, `synack` with the same endings, `nothing`, `refused 1` to `refused 7`":
--- every word, with numbers of one digit to five.
+-- every word, with numbers of one digit to five; whichever record of the list was found.
 pub record Words : Type 0 where
   pub packets-0 : headLine 0 ≡ ascii "packets 0\n"
   pub packets-16383 : headLine 16383 ≡ ascii "packets 16383\n"
-  pub syn-exact : lineOf (packet.Syn (found.Exact 7)) ≡ ascii "syn exact 7\n"
-  pub syn-fuzzy : (reason : FuzzyReason) → lineOf (packet.Syn (found.Fuzzy 10254 reason)) ≡ ascii "syn fuzzy 10254\n"
+  pub syn-exact : (n : ℕ) → lineOf (packet.Syn (found.Exact (labelled 7 n))) ≡ ascii "syn exact 7\n"
+  pub syn-fuzzy
+      : (n : ℕ) (reason : FuzzyReason) → lineOf (packet.Syn (found.Fuzzy (labelled 10254 n) reason)) ≡ ascii "syn fuzzy 10254\n"
   pub syn-none : lineOf (packet.Syn found.None) ≡ ascii "syn none\n"
-  pub synack-exact : lineOf (packet.SynAck (found.Exact 0)) ≡ ascii "synack exact 0\n"
-  pub synack-fuzzy : (reason : FuzzyReason) → lineOf (packet.SynAck (found.Fuzzy 65535 reason)) ≡ ascii "synack fuzzy 65535\n"
+  pub synack-exact : (n : ℕ) → lineOf (packet.SynAck (found.Exact (labelled 0 n))) ≡ ascii "synack exact 0\n"
+  pub synack-fuzzy
+      : (n : ℕ) (reason : FuzzyReason) → lineOf (packet.SynAck (found.Fuzzy (labelled 65535 n) reason)) ≡ ascii "synack fuzzy 65535\n"
   pub synack-none : lineOf (packet.SynAck found.None) ≡ ascii "synack none\n"
   pub nothing : lineOf packet.Nothing ≡ ascii "nothing\n"
   pub refused-1 : lineOf (packet.Refused refusal.Version) ≡ ascii "refused 1\n"

@@ -4,7 +4,7 @@
 -- `OnPaper` is the statement.
 use mathlib.Core.Path.{_≡_}
 use mathlib.Core.List.{List, [], _∷_}
-use Prim.Native.Nat.{ℕ, _+_, _*_, _<_}
+use Prim.Native.Nat.{ℕ, _<_}
 use Rattle.tcp.specs.declared.Mss.{Mss}
 use Rattle.observable.specs.declared.TcpObservation.{TcpObservation}
 use Rattle.refusals.specs.declared.Refusal.{Refusal}
@@ -24,10 +24,10 @@ use Rattle.packet_answer.specs.declared.PacketAnswer.{PacketAnswer}
 use Rattle.packet_answer.specs.Packet.{answerOf, packetVerdict}
 use Rattle.bundle.specs.declared.BundleCheck.{BundleCheck}
 use Rattle.bundle.specs.Bundle.{listOf, checkBundle, bundleVerdict}
-use Rattle.gateway.specs.declared.GatewayAnswer.{GatewayAnswer}
-use Rattle.gateway.specs.Code.{gatewayAnswer, listCode, gatewayVerdict}
+use Rattle.gateway.specs.declared.TermreadResult.{TermreadResult}
+use Rattle.gateway.specs.Parts.{GatewayAnswer, refused, gatewayAnswer, gatewayVerdict}
 use Rattle.gateway.specs.Decode.{AllBytes}
-use Rattle.acceptance.specs.Honesty.{codeAt, checkedAnswer, checkedCode}
+use Rattle.acceptance.specs.Honesty.{structAt, checkedAnswer, checkedStruct, listStruct}
 use Rattle.acceptance.specs.Refusals.{First, PacketRow, packetOrder, FlagsByte, OptionsRow, FirstBad, ListRow, SearchRow, BundleRow}
 
 -- ---- the paper's number and values
@@ -97,11 +97,11 @@ pub data GatewayRow (p l : List ℕ) : ℕ → Type 0 where
   of-list : {n : ℕ} → ListRow l n → GatewayRow p l n
   of-packet : {n : ℕ} → PacketRow p n → GatewayRow p l n
 
--- ---- the numbers of include/termread.h
+-- ---- the struct of include/termread.h
 
--- Outcome 5, the refusal's number, and what it returns in two bytes.
-abbrev pub refusedCode : Paper → ℕ
-refusedCode x = 5 + 256 * (x .number + 256 * valueOf (x .also))
+-- Outcome 5, the refusal's number, and what it returns; all else is 0.
+abbrev pub refusedStruct : Paper → TermreadResult
+refusedStruct x = refused (x .number) (valueOf (x .also))
 
 -- ---- the statement
 
@@ -121,7 +121,8 @@ pub record Rows : Type 0 where
       : (p : List ℕ) (peer : ℕ) (l : List ℕ)
       → IsRow (GatewayRow p l) (9 ∷ 10 ∷ packetOrder) p l (gatewayPaper (gatewayAnswer p peer l))
 
--- The table of both documents as it stands on paper: the refusals by name, as `everyRefusal` lists them, have these numbers and return this.
+-- The table of both documents as it stands on paper: the refusals by name, as `everyRefusal` lists them, have these numbers and return
+-- this.
 abbrev pub papersOf : List Refusal → List Paper
 papersOf [] = []
 papersOf (r ∷ rest) = refusalPaper r ∷ papersOf rest
@@ -156,21 +157,21 @@ TheTable =
     ∷ []
 
 -- A gateway gets a refusal by its number and its value.
-pub record Codes : Type 0 where
+pub record Structs : Type 0 where
   pub answer
       : (p : List ℕ) (peer : ℕ) (l : List ℕ)
       → AllBytes l
       → 0 < gatewayPaper (gatewayAnswer p peer l) .number
-      → codeAt p peer l ≡ refusedCode (gatewayPaper (gatewayAnswer p peer l))
+      → structAt p peer l ≡ refusedStruct (gatewayPaper (gatewayAnswer p peer l))
   pub checked
       : (p : List ℕ) (peer : ℕ) (l : List ℕ)
       → 0 < packetPaper (checkedAnswer p peer l) .number
-      → checkedCode p peer l ≡ refusedCode (packetPaper (checkedAnswer p peer l))
+      → checkedStruct p peer l ≡ refusedStruct (packetPaper (checkedAnswer p peer l))
   pub list
       : (l : List ℕ)
       → AllBytes l
       → 0 < listPaper (checkList l) .number
-      → listCode (checkList l) ≡ refusedCode (listPaper (checkList l))
+      → listStruct l ≡ refusedStruct (listPaper (checkList l))
 
 -- Nothing of a refusal is lost on paper.
 abbrev pub ToldApart : {A : Type 0} → (A → Paper) → Type 0
@@ -191,5 +192,5 @@ pub record Told : Type 0 where
 pub record OnPaper : Type 0 where
   pub rows : Rows
   pub table : TheTable
-  pub codes : Codes
+  pub structs : Structs
   pub told : Told

@@ -27,7 +27,8 @@ use Rattle.flow.specs.Flags.{maskedType}
 use Rattle.flow.specs.Reading.{readPacket, refusalOf}
 use Rattle.siglist.specs.declared.ListAnswer.the-variants as listAnswer
 use Rattle.sigrecord.specs.Record.{firstEntry, entryCount}
-use Rattle.siglist.specs.List.{recordCount, recordsOffset, layoutCount, layoutOffset, recordAt, entriesOf, recordGood, checkList, listRefusal}
+use Rattle.siglist.specs.List.{recordCount, recordsOffset, layoutCount, layoutOffset, recordAt, entriesOf, recordGood, checkList}
+use Rattle.siglist.specs.List.{listRefusal}
 use Rattle.search.specs.declared.SearchAnswer.the-variants as searchAnswer
 use Rattle.search.specs.Search.{searchList, searchRefusal}
 use Rattle.bundle.specs.declared.BundleCheck.the-variants as bundleCheck

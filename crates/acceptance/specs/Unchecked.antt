@@ -28,9 +28,8 @@ use Rattle.bundle.specs.declared.BundleCheck.the-variants as check
 use Rattle.bundle.specs.declared.PacketAt.the-variants as there
 use Rattle.bundle.specs.Bundle.{packetCount, listOf, packetBytes, packetPeer, packetEnd, checkBundle}
 use Rattle.bundle.specs.Answers.{packetLies, packetAt, startOf}
-use Rattle.gateway.specs.declared.GatewayAnswer.the-variants as gateway
-use Rattle.gateway.specs.Code.{gatewayAnswer, listCode}
-use Rattle.acceptance.specs.Honesty.{codeAt, checkedCode}
+use Rattle.gateway.specs.Parts.{GatewayAnswer, plain, gatewayAnswer}
+use Rattle.acceptance.specs.Honesty.{structAt, checkedStruct, listStruct}
 
 -- Of a row of record numbers, those of well-formed records; and all of a list: the list without its bad records.
 unfoldable pub goodOnes : List ℕ → List ℕ → List ℕ
@@ -59,10 +58,11 @@ pub record PacketUnchecked : Type 0 where
   pub same
       : (p : List ℕ) (peer : ℕ) (l : List ℕ)
       → checkList l ≡ list.Good
-      → gatewayAnswer p peer l ≡ gateway.Packet (answerOf p (peerOf peer) l)
-  pub same-code : (p : List ℕ) (peer : ℕ) (l : List ℕ) → checkList l ≡ list.Good → checkedCode p peer l ≡ codeAt p peer l
-  -- `termread_check_list` says 0 of a good list and of no other.
-  pub checked : (l : List ℕ) → (listCode (checkList l) ≡ 0) ↔ (checkList l ≡ list.Good)
+      → gatewayAnswer p peer l ≡ GatewayAnswer.answered (answerOf p (peerOf peer) l)
+  pub same-struct : (p : List ℕ) (peer : ℕ) (l : List ℕ) → checkList l ≡ list.Good → checkedStruct p peer l ≡ structAt p peer l
+  -- `termread_check_list` has outcome 0 of a good list and of no other, and every other field is then 0.
+  pub checked : (l : List ℕ) → (listStruct l .outcome ≡ 0) ↔ (checkList l ≡ list.Good)
+  pub checked-good : (l : List ℕ) → checkList l ≡ list.Good → listStruct l ≡ plain 0 0 0 0
   -- 10: that of the list without its bad records.
   pub syn
       : (p : List ℕ) (peer : Mss) (l : List ℕ)

@@ -21,6 +21,7 @@ use Rattle.distances.specs.declared.TtlFit.the-variants as ttlfit
 use Rattle.sigrecord.specs.declared.WindowSize.the-variants as wsize
 use Rattle.distances.specs.DistanceGates.{windowMatches}
 use Rattle.distances.specs.Distances.{initialTtl, ttlFit}
+use Rattle.found.specs.declared.Hit.{Hit}
 use Rattle.found.specs.declared.Found.the-variants as found
 use Rattle.siglist.specs.declared.ListAnswer.the-variants as list
 use Rattle.search.specs.declared.SearchAnswer.the-variants as search
@@ -137,13 +138,17 @@ exampleList =
     ∷ 0 ∷ 0 ∷ 64 ∷ 0 ∷ 0 ∷ 0 ∷ 0 ∷ 0 ∷ 3 ∷ 0 ∷ 4 ∷ 0 ∷ 0 ∷ 0 ∷ 0 ∷ 0 ∷ 0 ∷ 2 ∷ 0 ∷ 0 ∷ 1 ∷ 0 ∷ 0 ∷ 7
     ∷ 2 ∷ 0 ∷ []
 
+-- Its record: label 7, the list's first.
+abbrev pub theRecord : Hit
+theRecord = record { label = 7; number = 0 }
+
 -- Packet A, packet B (A with TTL byte 1c) and an observation of another window: the three answers.
 pub record ThreeAnswers : Type 0 where
   pub list-good : checkList exampleList ≡ list.Good
-  pub exact : searchList (readPacket packetA mss.Absent .observation) exampleList ≡ search.Found (found.Exact 7)
+  pub exact : searchList (readPacket packetA mss.Absent .observation) exampleList ≡ search.Found (found.Exact theRecord)
   pub fuzzy
       : searchList (readPacket (set packetA 8 0x1c) mss.Absent .observation) exampleList
-      ≡ search.Found (found.Fuzzy 7 (record { hops = hops.OutOfRange 36; added = setOf 0; missing = setOf 0 }))
+      ≡ search.Found (found.Fuzzy theRecord (record { hops = hops.OutOfRange 36; added = setOf 0; missing = setOf 0 }))
   pub none : searchList (readPacket (set packetA 34 0x17) mss.Absent .observation) exampleList ≡ search.Found found.None
 
 -- "The whole example", as a bundle: its header, the list behind it, then A, B (A with TTL byte 1c) and C, peer absent; and its four lines.

@@ -11,7 +11,8 @@ use Rattle.one_option.specs.Options.{asked, optionsAfter}
 use Rattle.one_option.proofs.Options.{skipped}
 use Rattle.alike.specs.Options.{AlikeStamps, AlikeOption, AlikeRow, AlikeOptions}
 use Rattle.alike.specs.Free.{ZeroAlike, Within, DifferOnly, WalkReaches, Half, FreeStamp}
-use Rattle.alike.proofs.Places.{agrees, be32-agree, be32-take, be32-drop, zero-alike, take-alike, drop-alike, take-byte, drop-byte, take-same}
+use Rattle.alike.proofs.Places.{agrees, be32-agree, be32-take, be32-drop, zero-alike}
+use Rattle.alike.proofs.Places.{take-alike, drop-alike, take-byte, drop-byte, take-same}
 
 -- ---- what an option asks for, and places behind it
 

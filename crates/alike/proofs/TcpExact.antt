@@ -11,7 +11,8 @@ use Rattle.rfc.specs.Rfc9293.{sequence, acknowledgment, dataOffset, urgentPoint
 use Rattle.alike.specs.Options.{AlikeOptions}
 use Rattle.alike.specs.Tcp.{AlikeTcp}
 use Rattle.alike.specs.Free.{ZeroAlike, Within, DifferOnly, FreeStamp, FreeTcp}
-use Rattle.alike.proofs.Places.{upTo, agrees, past-both, be16-agree, be32-agree, zero-alike, part-alike, part-byte, part-within, part-differ}
+use Rattle.alike.proofs.Places.{upTo, agrees, past-both, be16-agree, be32-agree, zero-alike}
+use Rattle.alike.proofs.Places.{part-alike, part-byte, part-within, part-differ}
 use Rattle.alike.proofs.OptionsAlike.{options-alike-by}
 use Rattle.alike.proofs.OptionsDiffer.{options-differ}
 

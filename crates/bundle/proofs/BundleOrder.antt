@@ -16,9 +16,11 @@ use Rattle.siglist.specs.List.{checkList, listRefusal}
 use Rattle.siglist.specs.declared.ListAnswer.{ListAnswer}
 use Rattle.siglist.specs.declared.ListAnswer.the-variants as list
 use Rattle.bundle.specs.declared.BundleCheck.the-variants as check
-use Rattle.bundle.specs.Bundle.{packetCount, packetsOffset, listLength, listOffset, listOf, listLies, packetEnd, packetFits, packetsFit, bundleFits, ofList, checkBundle, bundleRefusal}
+use Rattle.bundle.specs.Bundle.{packetCount, packetsOffset, listLength, listOffset, listOf, packetEnd, packetFits, packetsFit}
+use Rattle.bundle.specs.Bundle.{listLies, bundleFits, ofList, checkBundle, bundleRefusal}
 use Rattle.bundle.specs.Answers.{answerAt, packetLies, startOf, answersFrom}
-use Rattle.bundle.proofs.Packets.{head-within, end-within, head-before-end, packets-within, list-within, at-most, fits-lies, start-first}
+use Rattle.bundle.proofs.Packets.{head-within, end-within, head-before-end, start-first}
+use Rattle.bundle.proofs.Packets.{packets-within, list-within, at-most, fits-lies}
 
 fits-by : (b : List ℕ) (at : ℕ) → packetEnd b at ≤ length b → packetFits b at ≡ true
 unfolding packetFits
@@ -54,7 +56,8 @@ past-of b (suc n) i inside fails = by-first (packetFits b (startOf b i)) refl (p
         → Past b (i + suc n)
     by-first false e later = record { packet = i; counted = omega arith; past = packet-past b (startOf b i) e }
     by-first true e later =
-        wider (omega arith) (later (end-within b (startOf b i) e) (sym (ap (λ (t : Bool). t && packetsFit b (packetEnd b (startOf b i)) n) e) ∙ fails))
+        let first = ap (λ (t : Bool). t && packetsFit b (packetEnd b (startOf b i)) n) e in
+        wider (omega arith) (later (end-within b (startOf b i) e) (sym first ∙ fails))
 
 -- Each of the packets that all fit ends within the bundle.
 pub each-within : (b : List ℕ) (n i j : ℕ) → packetsFit b (startOf b i) n ≡ true → i ≤ j → j < i + n → packetFits b (startOf b j) ≡ true
@@ -86,7 +89,13 @@ pub data Unfit (b : List ℕ) : Type 0 where
   offset : length b < packetsOffset b → Unfit b
   a-packet : Past b (packetCount b) → Unfit b
 
-packets-unfit : (b : List ℕ) → bundleFits b ≡ false → leb (length b) 65535 ≡ true → leb 8 (length b) ≡ true → leb (listOffset b + listLength b) (length b) ≡ true → packetsFit b (startOf b 0) (packetCount b) ≡ false
+packets-unfit
+    : (b : List ℕ)
+    → bundleFits b ≡ false
+    → leb (length b) 65535 ≡ true
+    → leb 8 (length b) ≡ true
+    → leb (listOffset b + listLength b) (length b) ≡ true
+    → packetsFit b (startOf b 0) (packetCount b) ≡ false
 unfolding bundleFits listLies startOf
 packets-unfit b fails p q r =
     let areas : (leb (length b) 65535 && (leb 8 (length b) && leb (listOffset b + listLength b) (length b))) ≡ true = rw (p, q, r) in
@@ -94,7 +103,11 @@ packets-unfit b fails p q r =
 
 pub unfit : (b : List ℕ) → bundleFits b ≡ false → Unfit b
 unfit b fails =
-    by-tests (leb (length b) 65535) refl (leb 8 (length b)) refl (leb (listOffset b + listLength b) (length b)) refl (leb (packetsOffset b) (length b)) refl
+    by-tests
+    (leb (length b) 65535) refl
+    (leb 8 (length b)) refl
+    (leb (listOffset b + listLength b) (length b)) refl
+    (leb (packetsOffset b) (length b)) refl
   where
     by-tests
         : (p : Bool) → leb (length b) 65535 ≡ p
@@ -107,7 +120,8 @@ unfit b fails =
     by-tests true e true f false g s h = Unfit.list-area (leb-false (listOffset b + listLength b) (length b) g)
     by-tests true e true f true g false h = Unfit.offset (leb-false (packetsOffset b) (length b) h)
     by-tests true e true f true g true h =
-        Unfit.a-packet (wider (omega arith) (past-of b (packetCount b) 0 (rw (start-first b) (leb-true (packetsOffset b) (length b) h)) (packets-unfit b fails e f g)))
+        let inside : startOf b 0 ≤ length b = rw (start-first b) (leb-true (packetsOffset b) (length b) h) in
+        Unfit.a-packet (wider (omega arith) (past-of b (packetCount b) 0 inside (packets-unfit b fails e f g)))
 
 pub fit-not-unfit : (b : List ℕ) → bundleFits b ≡ true → Unfit b → ⊥
 fit-not-unfit b fits (Unfit.over h) = omega (arith, at-most b fits)
@@ -115,8 +129,9 @@ fit-not-unfit b fits (Unfit.header h) = omega (arith, list-within b fits .0)
 fit-not-unfit b fits (Unfit.list-area h) = omega (arith, list-within b fits .1)
 fit-not-unfit b fits (Unfit.offset h) = omega (arith, start-within b (packetsOffset b) (packetCount b) (packets-within b fits))
 fit-not-unfit b fits (Unfit.a-packet p) =
-    let inside = end-within b (startOf b (p .packet)) (each-within b (packetCount b) 0 (p .packet) (rw (start-first b) (packets-within b fits)) (omega arith) (omega (arith, p .counted))) in
-    omega (arith, p .past, inside)
+    let all : packetsFit b (startOf b 0) (packetCount b) ≡ true = rw (start-first b) (packets-within b fits) in
+    let this = each-within b (packetCount b) 0 (p .packet) all (omega arith) (omega (arith, p .counted)) in
+    omega (arith, p .past, end-within b (startOf b (p .packet)) this)
 
 refusal-of-list : (a : ListAnswer) → bundleRefusal (ofList a) ≡ listRefusal a
 unfolding bundleRefusal listRefusal
@@ -125,7 +140,8 @@ refusal-of-list (list.Refused r) = refl
 
 -- "A bundle meets 12, then 9, then 10".
 pub bundle-order
-    : (b : List ℕ) → bundleRefusal (checkBundle b) ≡ cond (bundleFits b) (listRefusal (checkList (listOf b))) (number refusal.BundleDoesNotFit)
+    : (b : List ℕ)
+    → bundleRefusal (checkBundle b) ≡ cond (bundleFits b) (listRefusal (checkList (listOf b))) (number refusal.BundleDoesNotFit)
 unfolding checkBundle bundleRefusal
 bundle-order b = by-fit (bundleFits b)
   where
@@ -139,12 +155,22 @@ bundle-order b = by-fit (bundleFits b)
 -- ---- all packets of a bundle that fits are answered
 
 -- The answers of the packets from the i-th on begin with the i-th's.
-pub answers-from : (b : List ℕ) → bundleFits b ≡ true → (n i : ℕ) → packetsFit b (startOf b i) (suc n) ≡ true → answersFrom b (startOf b i) (suc n) ≡ answerAt b (startOf b i) ∷ answersFrom b (startOf b (suc i)) n
+pub answers-from
+    : (b : List ℕ)
+    → bundleFits b ≡ true
+    → (n i : ℕ)
+    → packetsFit b (startOf b i) (suc n) ≡ true
+    → answersFrom b (startOf b i) (suc n) ≡ answerAt b (startOf b i) ∷ answersFrom b (startOf b (suc i)) n
 unfolding answersFrom packetsFit packetLies startOf
 answers-from b fits n i fit = rw (fits-lies b fits, and-left (packetFits b (startOf b i)) _ fit)
 
 -- A bundle that fits has as many answers as packets.
-answers-length : (b : List ℕ) → bundleFits b ≡ true → (n i : ℕ) → packetsFit b (startOf b i) n ≡ true → length (answersFrom b (startOf b i) n) ≡ n
+answers-length
+    : (b : List ℕ)
+    → bundleFits b ≡ true
+    → (n i : ℕ)
+    → packetsFit b (startOf b i) n ≡ true
+    → length (answersFrom b (startOf b i) n) ≡ n
 unfolding answersFrom packetsFit packetLies startOf
 answers-length b fits zero i fit = refl
 answers-length b fits (suc n) i fit =

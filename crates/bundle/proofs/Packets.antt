@@ -15,7 +15,8 @@ use Rattle.packet_answer.specs.declared.PacketAnswer.{PacketAnswer}
 use Rattle.bundle.specs.declared.PacketAt.{PacketAt}
 use Rattle.bundle.specs.declared.PacketAt.the-variants as there
 use Rattle.bundle.specs.Answers.{answerAt, packetLies, packetAt, startOf}
-use Rattle.bundle.specs.Bundle.{listLength, listOffset, packetEnd, packetFits, packetsFit, packetsOffset, packetCount, listLies, bundleFits, checkBundle, ofList, listOf}
+use Rattle.bundle.specs.Bundle.{listLength, listOffset, listOf, packetsOffset, packetCount, packetEnd, packetFits, packetsFit}
+use Rattle.bundle.specs.Bundle.{ListWithin, listLies, bundleFits, checkBundle, ofList}
 
 module _ (b : List ℕ) (at : ℕ) (fits : packetFits b at ≡ true) where
   pub head-within : at + 4 ≤ length b
@@ -51,7 +52,7 @@ packets-end b at i n h = let none : n - i ≡ 0 = omega arith in rw none
 -- ---- a bundle that fits
 
 -- Its header and its list's area do.
-pub lies-within : (b : List ℕ) → listLies b ≡ true → (8 ≤ length b) × (listOffset b + listLength b ≤ length b)
+pub lies-within : (b : List ℕ) → listLies b ≡ true → ListWithin b
 unfolding listLies
 lies-within b e = (
   leb-true 8 (length b) (and-left (leb 8 (length b)) _ e),
@@ -73,7 +74,7 @@ module _ (b : List ℕ) (fits : bundleFits b ≡ true) where
   pub fits-lies : listLies b ≡ true
   fits-lies = and-right (leb (length b) 65535) (listLies b) small-and-lies
 
-  pub list-within : (8 ≤ length b) × (listOffset b + listLength b ≤ length b)
+  pub list-within : ListWithin b
   list-within = lies-within b fits-lies
 
 -- A bundle that passes its check fits.

@@ -8,7 +8,8 @@ use Rattle.bundle.specs.declared.BundleCheck.{BundleCheck}
 use Rattle.bundle.specs.declared.BundleCheck.the-variants as check
 use Rattle.bundle.specs.declared.PacketAt.{PacketAt}
 use Rattle.bundle.specs.declared.PacketAt.the-variants as there
-use Rattle.bundle.specs.Bundle.{packetCount, packetsOffset, listOf, packetBytes, packetPeer, packetEnd, listLies, packetFits, checkBundle}
+use Rattle.bundle.specs.Bundle.{packetCount, packetsOffset, listOf, listLies, checkBundle}
+use Rattle.bundle.specs.Bundle.{packetBytes, packetPeer, packetEnd, packetFits}
 
 -- The answer of the packet that starts at a place.
 unfoldable pub answerAt : List ℕ → ℕ → PacketAnswer

@@ -1,5 +1,5 @@
 -- The bundle (document 01, "The bundle program"): its header, its list and its packets, and when it is refused.
-use Prim.Native.Nat.{ℕ, zero, suc, _+_}
+use Prim.Native.Nat.{ℕ, zero, suc, _+_, _≤_}
 use mathlib.Core.Bool.{Bool, cond, _&&_}
 use mathlib.Core.List.{List}
 use lib.Dec.{leb}
@@ -58,6 +58,10 @@ packetsFit b at (suc n) = packetFits b at && packetsFit b (packetEnd b at) n
 -- The header and the list's area fit; the area may lie over the header.
 unfoldable pub listLies : List ℕ → Bool
 listLies b = leb 8 (length b) && areaFits (listOffset b) (listLength b) b
+
+-- The same as a fact.
+abbrev pub ListWithin : List ℕ → Type 0
+ListWithin b = (8 ≤ length b) × (listOffset b + listLength b ≤ length b)
 
 -- ---- refusals
 

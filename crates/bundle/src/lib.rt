@@ -1,12 +1,11 @@
 // The bundle (document 01, "The bundle program"): added by the port. A bundle is checked first, then each packet has its answer.
 ghost use mathlib.Core.Path.{_≡_};
-ghost use mathlib.Core.Bool.{true};
-ghost use Prim.Native.Nat.{_+_, _≤_, _<_};
+ghost use Prim.Native.Nat.{_+_, _≤_};
 ghost use lib.ListN.{length};
 ghost use Rattle.basis.specs.Bytes.{be16};
-ghost use Rattle.siglist.specs.List.{areaFits, checkList};
-ghost use Rattle.bundle.specs.Bundle.{packetCount, listLength, listOffset, listOf, packetEnd, packetFits, packetsFit, listLies, bundleFits, checkBundle};
-ghost use Rattle.bundle.specs.Answers.{answerAt, packetAt};
+ghost use Rattle.bundle.specs.Bundle.{ListWithin, listOf, packetEnd, packetFits, packetsFit, listLies};
+ghost use Rattle.bundle.specs.Bundle.{bundleFits, checkBundle};
+ghost use Rattle.bundle.specs.Answers.{packetAt};
 use numbers::be16;
 use packet_answer::PacketAnswer;
 use packet_answer::answer_packet;
@@ -38,11 +37,11 @@ const BEFORE: usize = 4;
 // ---- the check
 
 // A number of two bytes.
-fn number_at(bundle: &[u8], at: usize) -> usize
+fn number_at(bundle: &[u8], at: usize) -> u16
     requires { ⌜ at + 2 ≤ length (now bundle) ⌝ }
-    ensures { λ r. ⌜ (r ≡ be16 (now (bundle .entry)) at) × (r ≤ 65535) ⌝ }
+    ensures { λ r. ⌜ r ≡ be16 (now (bundle .entry)) at ⌝ }
 {
-    be16(bundle[at], bundle[at + 1]) as usize
+    be16(bundle[at], bundle[at + 1])
 }
 
 // The end of the packet that starts at a place.
@@ -50,7 +49,7 @@ fn packet_end(bundle: &[u8], at: usize) -> usize
     requires { ⌜ at + 4 ≤ length (now bundle) ⌝ }
     ensures { λ r. ⌜ r ≡ packetEnd (now (bundle .entry)) at ⌝ }
 {
-    at + BEFORE + number_at(bundle, at + 2)
+    at + BEFORE + number_at(bundle, at + 2) as usize
 }
 
 fn packet_fits(bundle: &[u8], at: usize) -> bool
@@ -88,7 +87,7 @@ fn list_lies(bundle: &[u8]) -> bool
     if bundle.len() < HEADER {
         return false;
     }
-    number_at(bundle, 6) + number_at(bundle, 4) <= bundle.len()
+    number_at(bundle, 6) as usize + number_at(bundle, 4) as usize <= bundle.len()
 }
 
 fn bundle_fits(bundle: &[u8]) -> bool
@@ -100,17 +99,21 @@ fn bundle_fits(bundle: &[u8]) -> bool
     if !list_lies(bundle) {
         return false;
     }
-    packets_fit(bundle, number_at(bundle, 2), number_at(bundle, 0))
+    packets_fit(
+        bundle,
+        number_at(bundle, 2) as usize,
+        number_at(bundle, 0) as usize,
+    )
 }
 
-// The list's bytes lie where the header says.
-fn check_list_of(bundle: &[u8]) -> ListAnswer
-    requires { ⌜ (8 ≤ length (now bundle)) × (listOffset (now bundle) + listLength (now bundle) ≤ length (now bundle)) ⌝ }
-    ensures { λ r. ⌜ r ≡ checkList (listOf (now (bundle .entry))) ⌝ }
+// The list's bytes.
+fn list_of<'a>(bundle: &'a [u8]) -> &'a [u8]
+    requires { ⌜ ListWithin (now bundle) ⌝ }
+    ensures { λ r. ⌜ now r ≡ listOf (now (bundle .entry)) ⌝ }
 {
-    let start = number_at(bundle, 6);
-    let end = start + number_at(bundle, 4);
-    check_list(&bundle[start..end])
+    let start = number_at(bundle, 6) as usize;
+    let end = start + number_at(bundle, 4) as usize;
+    &bundle[start..end]
 }
 
 // A bundle is well formed, or refused: 12, then 9, then 10.
@@ -120,26 +123,13 @@ pub fn check_bundle(bundle: &[u8]) -> BundleCheck
     if !bundle_fits(bundle) {
         return BundleCheck::DoesNotFit;
     }
-    match check_list_of(bundle) {
+    match check_list(list_of(bundle)) {
         ListAnswer::Good => BundleCheck::Good,
         ListAnswer::Refused(refusal) => BundleCheck::List(refusal),
     }
 }
 
 // ---- the answers
-
-// The answer of the packet that starts at a place.
-fn answer_at_place(bundle: &[u8], at: usize) -> PacketAnswer
-    requires { ⌜ (8 ≤ length (now bundle)) × (listOffset (now bundle) + listLength (now bundle) ≤ length (now bundle)) × (at + 4 ≤ length (now bundle)) × (packetEnd (now bundle) at ≤ length (now bundle)) ⌝ }
-    ensures { λ r. ⌜ r ≡ answerAt (now (bundle .entry)) at ⌝ }
-{
-    let peer = peer_of(number_at(bundle, at) as u16);
-    let start = at + BEFORE;
-    let end = packet_end(bundle, at);
-    let list_start = number_at(bundle, 6);
-    let list_end = list_start + number_at(bundle, 4);
-    answer_packet(&bundle[start..end], peer, &bundle[list_start..list_end])
-}
 
 // What is at a place of a bundle, which need not have passed its check.
 pub fn packet_at(bundle: &[u8], at: usize) -> PacketAt
@@ -151,5 +141,11 @@ pub fn packet_at(bundle: &[u8], at: usize) -> PacketAt
     if !packet_fits(bundle, at) {
         return PacketAt::NoPacket;
     }
-    PacketAt::Packet(answer_at_place(bundle, at), packet_end(bundle, at))
+    let peer = peer_of(number_at(bundle, at));
+    let start = at + BEFORE;
+    let end = packet_end(bundle, at);
+    PacketAt::Packet(
+        answer_packet(&bundle[start..end], peer, list_of(bundle)),
+        end,
+    )
 }

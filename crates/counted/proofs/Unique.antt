@@ -1,21 +1,22 @@
--- Exactly one result meets each function's own contract.
-use Prim.Native.Nat.{ℕ}
+-- Exactly one result meets each public function's own contract.
+-- tools/promises makes this file from the contracts, and the gate holds it to them.
 use mathlib.Core.List.{List}
+use Prim.Native.Nat.{ℕ}
 use contract.Lifetimes.{Lfts}
 use denote.Ref.{RefT, now}
 use Rattle.basis.specs.Unique.{ExactlyOne}
 use Rattle.basis.proofs.Unique.{equation}
-use Rattle.witness.specs.declared.Plain.{Plain}
-use Rattle.counted.specs.Counted.{countedReading, countedAnswer}
-use Rattle.counted.proofs.counted_observe.Reads as counted-observe'
+use Rattle.witness.specs.declared.PlainPacket.{PlainPacket}
+use Rattle.counted.specs.Counted.{countedAnswer, countedReading}
 use Rattle.counted.proofs.counted_answer.Reads as counted-answer'
+use Rattle.counted.proofs.counted_observe.Reads as counted-observe'
 
 pub counted-observe-one
     : (κs : Lfts 1) (packet : RefT (List ℕ)) (peer : ℕ)
-    → ExactlyOne Plain (λ (r : Plain). counted-observe'.Post κs (packet, (peer, tt)) r (packet, (peer, tt)))
+    → ExactlyOne PlainPacket (λ (r : PlainPacket). counted-observe'.Post κs (packet, (peer, tt)) r (packet, (peer, tt)))
 counted-observe-one κs packet peer = equation (countedReading (now packet) peer)
 
 pub counted-answer-one
-    : (κs : Lfts 2) (packet list : RefT (List ℕ)) (peer : ℕ)
+    : (κs : Lfts 2) (packet : RefT (List ℕ)) (peer : ℕ) (list : RefT (List ℕ))
     → ExactlyOne ℕ (λ (r : ℕ). counted-answer'.Post κs (packet, (peer, (list, tt))) r (packet, (peer, (list, tt))))
-counted-answer-one κs packet list peer = equation (countedAnswer (now packet) peer (now list))
+counted-answer-one κs packet peer list = equation (countedAnswer (now packet) peer (now list))

@@ -1,15 +1,23 @@
--- What is counted: the reading of a packet, and what the search of a checked list finds for it (number 0 of the crate witness).
-use Prim.Native.Nat.{ℕ}
+-- What is counted: the reading of a packet, and what the search of a checked list finds for it.
+use Prim.Native.Nat.{ℕ, _+_}
 use mathlib.Core.List.{List}
+use Rattle.window_size.specs.declared.Multiplier.the-variants as multiplier
 use Rattle.flow.specs.Reading.{readPacket}
+use Rattle.found.specs.declared.Found.{Found}
+use Rattle.found.specs.declared.Found.the-variants as found
 use Rattle.search.specs.Search.{searchAll}
 use Rattle.packet_answer.specs.Packet.{peerOf}
-use Rattle.witness.specs.declared.Plain.{Plain}
-use Rattle.witness.specs.Reading.{plainOf}
-use Rattle.witness.specs.Searching.{foundNumber}
+use Rattle.witness.specs.declared.PlainPacket.{PlainPacket}
+use Rattle.witness.specs.Written.{plainPacket}
 
-unfoldable pub countedReading : List ℕ → ℕ → Plain
-countedReading p peer = plainOf (readPacket p (peerOf peer))
+unfoldable pub countedReading : List ℕ → ℕ → PlainPacket
+countedReading p peer = plainPacket (readPacket p (peerOf peer)) multiplier.Absent
+
+-- None, or exact or fuzzy with the record's label.
+abbrev pub foundCode : Found → ℕ
+foundCode found.None = 65536
+foundCode (found.Exact hit) = 131072 + hit .label
+foundCode (found.Fuzzy hit reason) = 196608 + hit .label
 
 unfoldable pub countedAnswer : List ℕ → ℕ → List ℕ → ℕ
-countedAnswer p peer l = foundNumber (searchAll (readPacket p (peerOf peer) .observation) l) 0
+countedAnswer p peer l = foundCode (searchAll (readPacket p (peerOf peer) .observation) l)

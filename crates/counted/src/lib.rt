@@ -1,17 +1,28 @@
 // What tools/benchmark counts, in an archive of its own; not part of the product.
 ghost use mathlib.Core.Path.{_≡_};
-ghost use Rattle.counted.specs.Counted.{countedReading, countedAnswer};
+ghost use Rattle.counted.specs.Counted.{countedReading, foundCode, countedAnswer};
+use found::Found;
 use packet_answer::peer_of;
-use witness::Plain;
-use witness::searched::found_number;
-use witness::whole::plain_of;
+use window_size::Multiplier;
+use witness::PlainPacket;
+use witness::written::plain_packet;
 
-// The reading of a packet, whole.
+// The reading of a packet, whole, as a struct that C can read; the window's multiplier, which a search computes, is left out.
 #[no_mangle]
-pub extern "C" fn counted_observe(packet: &[u8], peer: u16) -> Plain
+pub extern "C" fn counted_observe(packet: &[u8], peer: u16) -> PlainPacket
     ensures { λ r. ⌜ r ≡ countedReading (now (packet .entry)) peer ⌝ }
 {
-    plain_of(flow::read_packet(packet, peer_of(peer)))
+    plain_packet(flow::read_packet(packet, peer_of(peer)), Multiplier::Absent)
+}
+
+fn found_code(found: Found) -> u64
+    ensures { λ r. ⌜ r ≡ foundCode found ⌝ }
+{
+    match found {
+        Found::None => 65536,
+        Found::Exact(hit) => 131072 + (hit.label as u64),
+        Found::Fuzzy(hit, _) => 196608 + (hit.label as u64),
+    }
 }
 
 // From a packet to what the search of a checked list finds for it.
@@ -21,5 +32,5 @@ pub extern "C" fn counted_answer(packet: &[u8], peer: u16, list: &[u8]) -> u64
 {
     let reading = flow::read_packet(packet, peer_of(peer));
     let observation = reading.observation;
-    found_number(search::search_checked(observation, list), 0)
+    found_code(search::search_checked(observation, list))
 }

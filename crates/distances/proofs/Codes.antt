@@ -32,7 +32,10 @@ v4-passes (suc (suc (suc (suc zero)))) = refl
 v4-passes (suc (suc (suc (suc (suc zero))))) = refl
 v4-passes (suc (suc (suc (suc (suc (suc zero)))))) = refl
 v4-passes (suc (suc (suc (suc (suc (suc (suc n))))))) =
-    rw (ne-eqb (suc (suc (suc (suc (suc (suc (suc n))))))) 4 (λ e. omega arith), ne-eqb (suc (suc (suc (suc (suc (suc (suc n))))))) 6 (λ e. omega arith))
+    rw (
+      ne-eqb (suc (suc (suc (suc (suc (suc (suc n))))))) 4 (λ e. omega arith),
+      ne-eqb (suc (suc (suc (suc (suc (suc (suc n))))))) 6 (λ e. omega arith),
+    )
 
 pub v6-passes : (code : ℕ) → not (eqb code 4) ≡ versionMatches version.V6 (versionOf code)
 unfolding versionOf versionMatches
@@ -44,4 +47,7 @@ v6-passes (suc (suc (suc (suc zero)))) = refl
 v6-passes (suc (suc (suc (suc (suc zero))))) = refl
 v6-passes (suc (suc (suc (suc (suc (suc zero)))))) = refl
 v6-passes (suc (suc (suc (suc (suc (suc (suc n))))))) =
-    rw (ne-eqb (suc (suc (suc (suc (suc (suc (suc n))))))) 4 (λ e. omega arith), ne-eqb (suc (suc (suc (suc (suc (suc (suc n))))))) 6 (λ e. omega arith))
+    rw (
+      ne-eqb (suc (suc (suc (suc (suc (suc (suc n))))))) 4 (λ e. omega arith),
+      ne-eqb (suc (suc (suc (suc (suc (suc (suc n))))))) 6 (λ e. omega arith),
+    )

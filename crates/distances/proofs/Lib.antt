@@ -1,2 +1,3 @@
 pub mod Codes
+pub mod Hops
 pub mod Unique

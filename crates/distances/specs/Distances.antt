@@ -34,7 +34,8 @@ ttlFit observed signature =
     (ttlfit.OutOfRange (initialTtl signature - observed))
     (ttlfit.InRange (initialTtl signature - observed)))
 
--- The hops to report (distances.rs; document 01 has no rule of its own for it): from the initial TTL, or a guess where the TTL is above it or, but for Bad, out of range.
+-- The hops to report (distances.rs; document 01 has no rule of its own for it): from the initial TTL, or a guess where the TTL is above
+-- it or, but for Bad, out of range.
 unfoldable pub reportedHops : Ttl → Ttl → ℕ
 reportedHops observed signature =
     cond

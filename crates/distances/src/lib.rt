@@ -79,23 +79,17 @@ pub fn ttl_fit(observed: u8, signature: Ttl) -> TtlFit
     TtlFit::InRange(hops)
 }
 
-// The hop count to report: from the signature's initial TTL, or a guess where that is unusable.
+// The hop count to report: that of a TTL in range, else a guess.
 pub fn report_hop_distance(observed: Ttl, signature: Ttl) -> u8
     ensures { λ r. ⌜ r ≡ reportedHops observed signature ⌝ }
 {
     let seen = observed_ttl(observed);
-    let initial = signature_initial_ttl(signature);
-    if initial < seen {
-        return guess_distance(seen);
+    let fit = ttl_fit(seen, signature);
+    match fit {
+        TtlFit::Rejected => guess_distance(seen),
+        TtlFit::InRange(hops) => hops,
+        TtlFit::OutOfRange(_) => guess_distance(seen),
     }
-    let hops = initial - seen;
-    if is_bad(signature) {
-        return hops;
-    }
-    if MAX_DIST < hops {
-        return guess_distance(seen);
-    }
-    hops
 }
 
 // The window is a multiple of the right kind, by the declared factor.

@@ -78,7 +78,11 @@ by-flags f t peer =
 record Numbered (p : List ℕ) (peer : Mss) (r : IpRead) (n : ℕ) : Type 0 where
   says : refusalOf (afterIp readTcp r p peer .answer) ≡ n
 
-over : {p : List ℕ} {peer : Mss} (t : Bool) {a b : IpRead} {m n : ℕ} → Numbered p peer a m → Numbered p peer b n → Numbered p peer (cond t a b) (cond t m n)
+over
+    : {p : List ℕ} {peer : Mss} (t : Bool) {a b : IpRead} {m n : ℕ}
+    → Numbered p peer a m
+    → Numbered p peer b n
+    → Numbered p peer (cond t a b) (cond t m n)
 over true x y = x
 over false x y = y
 

@@ -72,7 +72,9 @@ unfolding quirksOfHeaders headerQuirks placeOf
 header-within t q inside =
     clean-add-if _ _ _ refl
     (clean-add-if _ _ _ refl
-    (clean-add-if _ _ _ refl (clean-add-if _ _ _ refl (clean-add-if _ _ _ refl (clean-add-if _ _ _ refl (clean-add-if _ _ _ refl inside))))))
+    (clean-add-if _ _ _ refl
+    (clean-add-if _ _ _ refl
+    (clean-add-if _ _ _ refl (clean-add-if _ _ _ refl (clean-add-if _ _ _ refl inside))))))
 
 either : (t : Bool) (a b : Reading) → Sound (a .observation) → Sound (b .observation) → Sound ((cond {A = Reading} t a b) .observation)
 either true a b x y = x

@@ -1,13 +1,13 @@
 // flow.rs: from a lent packet to an observation. The IP stage hands on facts and the TCP part; the TCP stage sees nothing else.
 ghost use mathlib.Core.Path.{_≡_};
-ghost use mathlib.Core.Bool.{not, cond, _||_};
-ghost use Prim.Native.Nat.{_*_, _≤_, min, max};
+ghost use mathlib.Core.Bool.{not, cond};
+ghost use Prim.Native.Nat.{_+_, _*_, _≤_, min, max};
+ghost use Rattle.basis.specs.Bytes as bytes;
 ghost use Rattle.rfc.specs.Rfc9293.{dataOffset};
-ghost use lib.Dec.{eqb};
 ghost use lib.ListN.{length};
 ghost use Rattle.flow.specs.Flags.{maskedType, flagsInvalid};
 ghost use Rattle.flow.specs.Reading.{readPacket};
-ghost use Rattle.flow.specs.Tcp.{headerQuirks, quirksOfHeaders, payloadClass, observationOf, observationFrom};
+ghost use Rattle.flow.specs.Tcp.{numberQuirks, urgentQuirks, quirksOfHeaders, payloadClass, observationOf, observationFrom};
 ghost use Rattle.flow.specs.Tcp.{knownPeer, refusing, readTcp};
 use ip::IpFacts;
 use ip::IpRead;
@@ -71,26 +71,36 @@ fn tcp_type(flags: u8) -> u8
     flags % 8 + flags / 16 % 2 * 16
 }
 
-fn header_quirks(
-    flags: u8,
-    sequence: u32,
-    acknowledgment: u32,
-    urgent: u16,
-    quirks: QuirkSet,
-) -> QuirkSet
-    ensures { λ r. ⌜ r ≡ headerQuirks flags sequence acknowledgment urgent quirks ⌝ }
+// Those of the flags, the sequence number and the acknowledgment number.
+fn number_quirks(flags: u8, sequence: u32, acknowledgment: u32, quirks: QuirkSet) -> QuirkSet
+    ensures { λ r. ⌜ r ≡ numberQuirks flags sequence acknowledgment quirks ⌝ }
 {
     let rst = flags / 4 % 2 == 1;
     let ack = flags / 16 % 2 == 1;
-    let urg = flags / 32 % 2 == 1;
     quirks
         .add_if((flags / 64 % 2 == 1) | (flags / 128 % 2 == 1), Quirk::Ecn)
         .add_if(sequence == 0, Quirk::SeqNumZero)
         .add_if(ack & (acknowledgment == 0), Quirk::AckNumZero)
         .add_if(!ack & (acknowledgment != 0) & !rst, Quirk::AckNumNonZero)
+}
+
+// Those of the urgent pointer, and PSH.
+fn urgent_quirks(flags: u8, urgent: u16, quirks: QuirkSet) -> QuirkSet
+    ensures { λ r. ⌜ r ≡ urgentQuirks flags urgent quirks ⌝ }
+{
+    let urg = flags / 32 % 2 == 1;
+    quirks
         .add_if(urg, Quirk::Urg)
         .add_if(!urg & (urgent != 0), Quirk::NonZeroURG)
         .add_if(flags / 8 % 2 == 1, Quirk::Push)
+}
+
+// The four-byte number at a place of the header.
+fn word(tcp: &[u8], at: usize) -> u32
+    requires { ⌜ at + 4 ≤ length (now tcp) ⌝ }
+    ensures { λ r. ⌜ r ≡ bytes.be32 (now (tcp .entry)) at ⌝ }
+{
+    be32(be16(tcp[at], tcp[at + 1]), be16(tcp[at + 2], tcp[at + 3]))
 }
 
 // The quirks that both headers show.
@@ -98,22 +108,24 @@ fn shown_quirks(tcp: &[u8], quirks: QuirkSet) -> QuirkSet
     requires { ⌜ 20 ≤ length (now tcp) ⌝ }
     ensures { λ r. ⌜ r ≡ quirksOfHeaders (now (tcp .entry)) quirks ⌝ }
 {
-    let sequence = be32(be16(tcp[4], tcp[5]), be16(tcp[6], tcp[7]));
-    let acknowledgment = be32(be16(tcp[8], tcp[9]), be16(tcp[10], tcp[11]));
-    header_quirks(
-        tcp[13],
-        sequence,
-        acknowledgment,
-        be16(tcp[18], tcp[19]),
-        quirks,
-    )
+    let flags = tcp[13];
+    let numbered = number_quirks(flags, word(tcp, 4), word(tcp, 8), quirks);
+    urgent_quirks(flags, be16(tcp[18], tcp[19]), numbered)
+}
+
+// What the data offset says, in bytes.
+fn header_bytes(tcp: &[u8]) -> u16
+    requires { ⌜ 20 ≤ length (now tcp) ⌝ }
+    ensures { λ r. ⌜ r ≡ 4 * dataOffset (now (tcp .entry)) ⌝ }
+{
+    4 * wide(tcp[12] / 16)
 }
 
 fn payload_class(tcp: &[u8]) -> PayloadSize
     requires { ⌜ 20 ≤ length (now tcp) ⌝ }
     ensures { λ r. ⌜ r ≡ payloadClass (now (tcp .entry)) ⌝ }
 {
-    let header = 4 * wide(tcp[12] / 16) as usize;
+    let header = header_bytes(tcp) as usize;
     if tcp.len() <= TCP_HEADER {
         return PayloadSize::Zero;
     }
@@ -140,7 +152,7 @@ fn tcp_observation(facts: IpFacts, tcp: &[u8], walked: Walked, peer_mss: Mss) ->
         olen: facts.olen,
         mss,
         wsize: be16(tcp[14], tcp[15]),
-        tot_hdr: saturating_add(facts.header_bytes, 4 * wide(tcp[12] / 16)),
+        tot_hdr: saturating_add(facts.header_bytes, header_bytes(tcp)),
         wscale,
         olayout,
         quirks,
@@ -155,7 +167,7 @@ fn options_end(tcp: &[u8]) -> usize
     requires { ⌜ 20 ≤ length (now tcp) ⌝ }
     ensures { λ r. ⌜ r ≡ max 20 (min (4 * dataOffset (now (tcp .entry))) (length (now (tcp .entry)))) ⌝ }
 {
-    let end = least(4 * wide(tcp[12] / 16) as usize, tcp.len());
+    let end = least(header_bytes(tcp) as usize, tcp.len());
     if end < TCP_HEADER {
         return TCP_HEADER;
     }
@@ -174,10 +186,19 @@ fn observe(facts: IpFacts, tcp: &[u8], syn: bool, peer_mss: Mss) -> TcpObservati
     tcp_observation(facts, tcp, walked, peer_mss)
 }
 
-// A zero peer MSS counts as absent.
-fn known_peer(peer_mss: Mss) -> Mss
-    ensures { λ r. ⌜ r ≡ knownPeer «peer_mss» ⌝ }
+fn opening_answer(syn: bool) -> Answer
+    ensures { λ r. ⌜ r ≡ cond syn Answer.Syn Answer.SynAck ⌝ }
 {
+    if syn { Answer::Syn } else { Answer::SynAck }
+}
+
+// Only a SYN+ACK's observation takes the peer's MSS; a zero one counts as absent.
+fn peer_taken(syn: bool, peer_mss: Mss) -> Mss
+    ensures { λ r. ⌜ r ≡ cond syn Mss.Absent (knownPeer «peer_mss») ⌝ }
+{
+    if syn {
+        return Mss::Absent;
+    }
     match peer_mss {
         Mss::Absent => Mss::Absent,
         Mss::Present(size) => {
@@ -187,32 +208,6 @@ fn known_peer(peer_mss: Mss) -> Mss
             Mss::Present(size)
         }
     }
-}
-
-// A SYN or a SYN+ACK, by its masked type.
-fn is_opening(masked: u8) -> bool
-    ensures { λ r. ⌜ r ≡ eqb masked 2 || eqb masked 18 ⌝ }
-{
-    if masked == SYN {
-        return true;
-    }
-    masked == SYN_ACK
-}
-
-fn opening_answer(syn: bool) -> Answer
-    ensures { λ r. ⌜ r ≡ cond syn Answer.Syn Answer.SynAck ⌝ }
-{
-    if syn { Answer::Syn } else { Answer::SynAck }
-}
-
-// Only a SYN+ACK's observation takes the peer's MSS.
-fn peer_taken(syn: bool, peer_mss: Mss) -> Mss
-    ensures { λ r. ⌜ r ≡ cond syn Mss.Absent (knownPeer «peer_mss») ⌝ }
-{
-    if syn {
-        return Mss::Absent;
-    }
-    known_peer(peer_mss)
 }
 
 // A refusal gives nothing beside.
@@ -235,7 +230,7 @@ fn visit_tcp(facts: IpFacts, tcp: &[u8], peer_mss: Mss) -> Reading
         return refuse(PacketRefusal::InvalidTcpFlags(flags));
     }
     let masked = tcp_type(flags);
-    if !is_opening(masked) {
+    if (masked != SYN) & (masked != SYN_ACK) {
         return Reading {
             answer: Answer::Nothing,
             observation: TcpObservation::empty(),

@@ -5,11 +5,17 @@ ghost use Rattle.found.specs.Rank.{foundOf, rankOf, isNone};
 use matching::FuzzyReason;
 use matching::SignatureFit;
 
-// What a search finds: three answers, with the record's label.
+// The record that a search found: its label, and its number in the list, from 0.
+pub struct Hit {
+    pub label: u16,
+    pub number: u16,
+}
+
+// What a search finds: three answers, with the record.
 pub enum Found {
     None,
-    Exact(u16),
-    Fuzzy(u16, FuzzyReason),
+    Exact(Hit),
+    Fuzzy(Hit, FuzzyReason),
 }
 
 pub fn is_none(fit: SignatureFit) -> bool
@@ -23,13 +29,13 @@ pub fn is_none(fit: SignatureFit) -> bool
 }
 
 // What is found in one record.
-pub fn found_of(label: u16, fit: SignatureFit) -> Found
-    ensures { λ r. ⌜ r ≡ foundOf label fit ⌝ }
+pub fn found_of(hit: Hit, fit: SignatureFit) -> Found
+    ensures { λ r. ⌜ r ≡ foundOf hit fit ⌝ }
 {
     match fit {
         SignatureFit::None => Found::None,
-        SignatureFit::Exact => Found::Exact(label),
-        SignatureFit::Fuzzy(reason) => Found::Fuzzy(label, reason),
+        SignatureFit::Exact => Found::Exact(hit),
+        SignatureFit::Fuzzy(reason) => Found::Fuzzy(hit, reason),
     }
 }
 

@@ -1,10 +1,12 @@
--- Every number of a gateway's answer fits its bytes, so no two different answers of a gateway share a code.
+-- Every number of a gateway's answer fits its field, so no two different answers of a gateway share a struct.
 use mathlib.Core.Path.{_≡_, refl}
-use mathlib.Core.Bool.{Bool, true, false, _&&_}
+use mathlib.Core.Bool.{Bool, true, false, cond, _&&_}
 use mathlib.Core.List.{List}
 use Prim.Native.Nat.{ℕ, _+_, _<_}
 use native.Mathlib.Omega.{arith}
 use lib.Dec.{ltb}
+use borrow.Author.Tests.{ltb-true}
+use Rattle.basis.proofs.Tests.{and-left, and-right}
 use Rattle.tcp.specs.declared.Mss.{Mss}
 use Rattle.flow.specs.declared.Answer.{Answer}
 use Rattle.flow.specs.declared.Answer.the-variants as reading
@@ -17,49 +19,57 @@ use Rattle.matching.specs.Fit.{featuresOf, fitOf}
 use Rattle.refusals.specs.Refusals.{listValue}
 use Rattle.siglist.specs.declared.ListAnswer.{ListAnswer}
 use Rattle.siglist.specs.declared.ListAnswer.the-variants as list
-use Rattle.sigrecord.specs.Record.{signatureOf, entryCount, labelOf}
+use Rattle.sigrecord.specs.Record.{signatureOf, entryCount}
 use Rattle.siglist.specs.List.{recordCount, listFits, recordStart, recordAt, entriesOf, recordGood, checkList}
 use Rattle.siglist.proofs.FirstBad.{Checked, does-not-fit, first-bad-named}
+use Rattle.found.specs.declared.Hit.{Hit}
 use Rattle.found.specs.Least.{Place, nowhere, at}
 use Rattle.found.specs.Rank.{foundOf}
-use Rattle.search.specs.Search.{fitAt, candidateAt, foundAt, searchRow, searchOver, searchAll}
+use Rattle.search.specs.Search.{fitAt, hitAt, candidateAt, foundAt, searchRow, searchOver, searchAll}
 use Rattle.packet_answer.specs.Packet.{peerOf, judged, answerOf}
-use Rattle.gateway.specs.Code.{fieldsOf, codeOf, afterList, gatewayAnswer}
+use Rattle.gateway.specs.Parts.{partsOf, afterList, gatewayAnswer}
 use Rattle.gateway.specs.Decode.{AllBytes}
-use Rattle.gateway.proofs.Room.{FoundFits, PacketFits, AnswerFits}
+use Rattle.gateway.proofs.Room.{HitFits, FoundFits, PacketFits, AnswerFits}
 use Rattle.gateway.proofs.ReadBack.{injective}
 use Rattle.gateway.proofs.Given.{part-bytes, two-bytes, RefusedFits, reading-fits}
-use Rattle.gateway.proofs.Tolerated.{FitSmall, or-none, fit-small}
+use Rattle.gateway.proofs.Tolerated.{FitSmall, fit-small}
 
 -- ---- the search
 
--- What is found in one record fits.
-found-one : (label : ℕ) (x : SignatureFit) → label < 65536 → FitSmall x → FoundFits (foundOf label x)
+-- What is found in one record fits, if only a record of the list is found.
+found-one
+    : (t : Bool) (hit : Hit) (x : SignatureFit)
+    → (t ≡ true → HitFits hit)
+    → FitSmall x
+    → FoundFits (foundOf hit (cond t x fit.None))
 unfolding foundOf
-found-one label fit.None hl hx = tt
-found-one label fit.Exact hl hx = hl
-found-one label (fit.Fuzzy r) hl hx = (hl, hx .0, hx .1, hx .2)
+found-one true hit fit.None hh hx = tt
+found-one true hit fit.Exact hh hx = hh refl
+found-one true hit (fit.Fuzzy r) hh hx = (hh refl, hx)
+found-one false hit x hh hx = tt
 
 module _ (l : List ℕ) (lent : AllBytes l) where
   -- A record of a byte string is one.
   record-bytes : (i : ℕ) → AllBytes (recordAt l i)
   record-bytes i = part-bytes (recordStart l i) (recordStart l i + 24) l lent
 
-  -- How a record fits, if it is one.
-  record-small : (f : Features) (kinds bytes : List ℕ) (i : ℕ) → FitSmall (fitAt f kinds bytes l i)
-  unfolding fitAt
-  record-small f kinds bytes i =
-      or-none (listFits l && ltb i (recordCount l) && recordGood l i)
-      (fitOf f kinds bytes (signatureOf (recordAt l i)) (entryCount (recordAt l i)) (entriesOf l (recordAt l i)))
-      (fit-small f kinds bytes (recordAt l i) (entryCount (recordAt l i)) (entriesOf l (recordAt l i)) (record-bytes i))
+  -- A label is two bytes, and so is the count of records, which every number is below.
+  hit-fits : (i : ℕ) → (listFits l && ltb i (recordCount l) && recordGood l i) ≡ true → HitFits (hitAt l i)
+  hit-fits i e =
+      let within = and-left (listFits l && ltb i (recordCount l)) (recordGood l i) e in
+      let below = ltb-true i (recordCount l) (and-right (listFits l) (ltb i (recordCount l)) within) in
+      let count = two-bytes l 0 lent in
+      (two-bytes (recordAt l i) 22 (record-bytes i), omega arith)
 
   -- What is read at any place fits, and so what the plain search finds.
   read-fits : (f : Features) (kinds bytes : List ℕ) (p : Place) → FoundFits (foundAt f kinds bytes l p)
-  unfolding foundAt candidateAt
+  unfolding foundAt candidateAt fitAt
   read-fits f kinds bytes nowhere = tt
   read-fits f kinds bytes (at i) =
-      found-one (labelOf (recordAt l i)) (fitAt f kinds bytes l i) (two-bytes (recordAt l i) 22 (record-bytes i))
-      (record-small f kinds bytes i)
+      found-one (listFits l && ltb i (recordCount l) && recordGood l i) (hitAt l i)
+      (fitOf f kinds bytes (signatureOf (recordAt l i)) (entryCount (recordAt l i)) (entriesOf l (recordAt l i)))
+      (hit-fits i)
+      (fit-small f kinds bytes (recordAt l i) (entryCount (recordAt l i)) (entriesOf l (recordAt l i)) (record-bytes i))
 
   found-fits : (r : Reading) → FoundFits (searchAll (r .observation) l)
   unfolding searchAll searchOver searchRow
@@ -114,14 +124,14 @@ pub answers-fit : (p : List ℕ) (peer : ℕ) (l : List ℕ) → AllBytes p → 
 unfolding gatewayAnswer
 answers-fit p peer l hp hl = after-list (checkList l) p (peerOf peer) l hp hl (list-fits l hl)
 
--- No two different answers of a gateway share a code.
-pub codes-differ
+-- No two different answers of a gateway share a struct.
+pub structs-differ
     : (p q : List ℕ) (m n : ℕ) (l k : List ℕ)
     → AllBytes p
     → AllBytes q
     → AllBytes l
     → AllBytes k
-    → codeOf (fieldsOf (gatewayAnswer p m l)) ≡ codeOf (fieldsOf (gatewayAnswer q n k))
+    → partsOf (gatewayAnswer p m l) ≡ partsOf (gatewayAnswer q n k)
     → gatewayAnswer p m l ≡ gatewayAnswer q n k
-codes-differ p q m n l k hp hq hl hk e =
+structs-differ p q m n l k hp hq hl hk e =
     injective (gatewayAnswer p m l) (gatewayAnswer q n k) (answers-fit p m l hp hl) (answers-fit q n k hq hk) e

@@ -4,3 +4,4 @@ pub mod ReadBack
 pub mod Room
 pub mod Tolerated
 pub mod Unique
+pub mod Zeros

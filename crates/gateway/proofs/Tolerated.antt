@@ -29,7 +29,7 @@ use Rattle.matching.specs.Tolerance.{maskedQuirks, quirksFit, judgeInRange, jud
 use Rattle.matching.specs.Fit.{scalarGates, toleranceOf, fitOf}
 use Rattle.sigrecord.specs.Record.{ttlOf, signatureOf}
 use Rattle.gateway.specs.Decode.{AllBytes}
-use Rattle.gateway.proofs.Room.{HopsFit}
+use Rattle.gateway.proofs.Room.{ReasonFits}
 
 -- ---- the quirks
 
@@ -132,7 +132,7 @@ initial-small form t d h = form-small (eqb form 0) (eqb form 1) (eqb form 2) t d
 abbrev pub FitSmall : SignatureFit → Type 0
 FitSmall fit.None = Unit {0}
 FitSmall fit.Exact = Unit {0}
-FitSmall (fit.Fuzzy r) = (bitsOf (r .added) < 256) × (bitsOf (r .missing) < 256) × HopsFit (r .hops)
+FitSmall (fit.Fuzzy r) = ReasonFits r
 
 -- With the TTL in range, the reason is the quirks.
 in-range-small
@@ -152,7 +152,7 @@ judge-small (ttlfit.OutOfRange d) quirksfit.Rejected ht hq = tt
 judge-small (ttlfit.OutOfRange d) (quirksfit.Tolerated q) ht hq = (hq .0, hq .1, ht)
 
 -- A fit that a test may turn to nothing.
-pub or-none : (t : Bool) (x : SignatureFit) → FitSmall x → FitSmall (cond t x fit.None)
+or-none : (t : Bool) (x : SignatureFit) → FitSmall x → FitSmall (cond t x fit.None)
 or-none true x h = h
 or-none false x h = tt
 

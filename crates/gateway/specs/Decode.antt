@@ -1,5 +1,5 @@
--- A code read back: which answer a number stands for.
-use Prim.Native.Nat.{ℕ, _/_, _%_, _<_}
+-- An answer for C read back: which answer a struct stands for.
+use Prim.Native.Nat.{ℕ, _%_, _<_}
 use mathlib.Core.Bool.{cond}
 use mathlib.Core.List.{List}
 use lib.Dec.{eqb}
@@ -10,48 +10,40 @@ use Rattle.refusals.specs.declared.Refusal.{Refusal}
 use Rattle.refusals.specs.Refusals.{refusalFrom, byKind}
 use Rattle.matching.specs.declared.FuzzyReason.{FuzzyReason}
 use Rattle.matching.specs.declared.Hops.the-variants as hops
+use Rattle.found.specs.declared.Hit.{Hit}
 use Rattle.found.specs.declared.Found.{Found}
 use Rattle.found.specs.declared.Found.the-variants as found
 use Rattle.packet_answer.specs.declared.PacketAnswer.the-variants as packet
-use Rattle.gateway.specs.declared.GatewayAnswer.{GatewayAnswer}
-use Rattle.gateway.specs.declared.GatewayAnswer.the-variants as gateway
-use Rattle.gateway.specs.declared.Fields.{Fields}
+use Rattle.gateway.specs.declared.TermreadResult.{TermreadResult}
+use Rattle.gateway.specs.Parts.{GatewayAnswer}
 
--- The bytes of a code, from the lowest on.
-unfoldable pub fieldsFrom : ℕ → Fields
-fieldsFrom c =
+abbrev pub reasonFrom : TermreadResult → FuzzyReason
+reasonFrom a =
     record {
-      outcome = c % 256;
-      kind = c / 256 % 256;
-      value = c / 256 / 256 % 65536;
-      added = c / 256 / 256 / 65536 % 256;
-      missing = c / 256 / 256 / 65536 / 256 % 256;
-      hops = c / 256 / 256 / 65536 / 256 / 256 % 256;
-      far = c / 256 / 256 / 65536 / 256 / 256 / 256;
+      hops = cond (eqb (a .marks % 2) 0) hops.InRange (hops.OutOfRange (a .hops));
+      added = setOf (a .added);
+      missing = setOf (a .missing);
     }
 
-abbrev pub reasonFrom : Fields → FuzzyReason
-reasonFrom f =
-    record {
-      hops = cond (eqb (f .far) 0) hops.InRange (hops.OutOfRange (f .hops));
-      added = setOf (f .added);
-      missing = setOf (f .missing);
-    }
+abbrev pub hitFrom : TermreadResult → Hit
+hitFrom a = record { label = a .label; number = a .number }
 
-abbrev pub foundFrom : Fields → Found
-foundFrom f =
-    cond (eqb (f .outcome) 1) (found.Exact (f .value))
-    (cond (eqb (f .outcome) 2) (found.Fuzzy (f .value) (reasonFrom f)) found.None)
+abbrev pub foundFrom : TermreadResult → Found
+foundFrom a =
+    cond (eqb (a .outcome) 1) (found.Exact (hitFrom a))
+    (cond (eqb (a .outcome) 2) (found.Fuzzy (hitFrom a) (reasonFrom a)) found.None)
 
--- A refusal of a packet or a list. No code of a gateway has another; it would be read as a list's, since an answer it is not.
+-- A refusal of a packet or a list. No answer of a gateway has another; it would be read as a list's, since an answer it is not.
 abbrev pub refusedAs : Refusal → GatewayAnswer
-refusedAs r = byKind (λ why. gateway.Packet (packet.Refused why)) gateway.List (gateway.List list.DoesNotFit) r
+refusedAs r =
+    byKind (λ why. GatewayAnswer.answered (packet.Refused why)) GatewayAnswer.list-refused
+    (GatewayAnswer.list-refused list.DoesNotFit) r
 
-abbrev pub answerFrom : Fields → GatewayAnswer
-answerFrom f =
-    cond (eqb (f .outcome) 5) (refusedAs (refusalFrom (f .kind) (f .value)))
-    (cond (eqb (f .outcome) 4) (gateway.Packet packet.Nothing)
-    (gateway.Packet (cond (eqb (f .kind) 1) (packet.Syn (foundFrom f)) (packet.SynAck (foundFrom f)))))
+abbrev pub answerFrom : TermreadResult → GatewayAnswer
+answerFrom a =
+    cond (eqb (a .outcome) 5) (refusedAs (refusalFrom (a .refusal) (a .value)))
+    (cond (eqb (a .outcome) 4) (GatewayAnswer.answered packet.Nothing)
+    (GatewayAnswer.answered (cond (eqb (a .kind) 1) (packet.Syn (foundFrom a)) (packet.SynAck (foundFrom a)))))
 
 -- What a lent byte string is: each of its numbers is a byte.
 abbrev pub AllBytes : List ℕ → Type 0

@@ -1,2 +1,3 @@
-pub mod Code
 pub mod Decode
+pub mod Parts
+pub mod Zeros

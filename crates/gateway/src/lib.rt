@@ -1,10 +1,12 @@
-// What a gateway in C or Rust links: each answer as one number (specs/Code.antt; include/termread.h names its parts).
+// What a gateway in C or Rust links: each answer as a struct of sixteen bytes.
 ghost use mathlib.Core.Path.{_≡_};
-ghost use Prim.Native.Nat.{_%_};
 ghost use Rattle.siglist.specs.List.{checkList};
 ghost use Rattle.packet_answer.specs.Packet.{peerOf, answerOf};
-ghost use Rattle.gateway.specs.Code.{plain, hopsOf, farOf, foundFields, packetFields, fieldsOf, codeOf, gatewayAnswer, listCode};
+ghost use Rattle.gateway.specs.Parts.{plain, refused, hopsOf, marksOf, fuzzy, foundParts, packetParts, refusedList, partsOf};
+ghost use Rattle.gateway.specs.Parts.{gatewayAnswer, listParts};
 use found::Found;
+use found::Hit;
+use matching::FuzzyReason;
 use matching::Hops;
 use packet_answer::PacketAnswer;
 use packet_answer::answer_packet;
@@ -17,36 +19,61 @@ use refusals::refusal_number;
 use siglist::ListAnswer;
 use siglist::check_list;
 
-// The answer of a packet, or why its list is refused.
-pub enum GatewayAnswer {
-    Packet(PacketAnswer),
-    List(ListRefusal),
-}
-
-// The parts of a code, from the lowest byte on.
-pub struct Fields {
+// An answer for C: sixteen bytes, returned in two registers (specs/Parts.antt; include/termread.h has the same struct). What a later
+// request fills is 0 until then.
+#[repr(C)]
+pub struct TermreadResult {
     pub outcome: u8,
     pub kind: u8,
+    pub refusal: u8,
+    pub tolerated: u8,
+    pub label: u16,
+    pub number: u16,
+    pub examined: u16,
     pub value: u16,
     pub added: u8,
     pub missing: u8,
     pub hops: u8,
-    pub far: u8,
+    pub marks: u8,
 }
 
 // ---- the fields
 
-fn plain(outcome: u8, kind: u8, value: u16) -> Fields
-    ensures { λ r. ⌜ r ≡ plain outcome kind value ⌝ }
+fn plain(outcome: u8, kind: u8, label: u16, number: u16) -> TermreadResult
+    ensures { λ r. ⌜ r ≡ plain outcome kind label number ⌝ }
 {
-    Fields {
+    TermreadResult {
         outcome,
         kind,
+        refusal: 0,
+        tolerated: 0,
+        label,
+        number,
+        examined: 0,
+        value: 0,
+        added: 0,
+        missing: 0,
+        hops: 0,
+        marks: 0,
+    }
+}
+
+fn refused(refusal: u8, value: u16) -> TermreadResult
+    ensures { λ r. ⌜ r ≡ refused refusal value ⌝ }
+{
+    TermreadResult {
+        outcome: 5,
+        kind: 0,
+        refusal,
+        tolerated: 0,
+        label: 0,
+        number: 0,
+        examined: 0,
         value,
         added: 0,
         missing: 0,
         hops: 0,
-        far: 0,
+        marks: 0,
     }
 }
 
@@ -59,8 +86,8 @@ fn hops_of(hops: Hops) -> u8
     }
 }
 
-fn far_of(hops: Hops) -> u8
-    ensures { λ r. ⌜ r ≡ farOf hops ⌝ }
+fn marks_of(hops: Hops) -> u8
+    ensures { λ r. ⌜ r ≡ marksOf hops ⌝ }
 {
     match hops {
         Hops::InRange => 0,
@@ -68,110 +95,89 @@ fn far_of(hops: Hops) -> u8
     }
 }
 
-fn low_byte(n: u32) -> u8
-    ensures { λ r. ⌜ r ≡ n % 256 ⌝ }
+fn fuzzy(kind: u8, hit: Hit, reason: FuzzyReason) -> TermreadResult
+    ensures { λ r. ⌜ r ≡ fuzzy kind hit reason ⌝ }
 {
-    (n % 256) as u8
-}
-
-fn found_fields(kind: u8, found: Found) -> Fields
-    ensures { λ r. ⌜ r ≡ foundFields kind found ⌝ }
-{
-    match found {
-        Found::None => plain(3, kind, 0),
-        Found::Exact(label) => plain(1, kind, label),
-        Found::Fuzzy(label, reason) => {
-            let hops = reason.hops;
-            let added = reason.added;
-            let missing = reason.missing;
-            Fields {
-                outcome: 2,
-                kind,
-                value: label,
-                added: low_byte(added.bits()),
-                missing: low_byte(missing.bits()),
-                hops: hops_of(hops),
-                far: far_of(hops),
-            }
-        }
+    let hops = reason.hops;
+    let added = reason.added;
+    let missing = reason.missing;
+    TermreadResult {
+        outcome: 2,
+        kind,
+        refusal: 0,
+        tolerated: 0,
+        label: hit.label,
+        number: hit.number,
+        examined: 0,
+        value: 0,
+        added: (added.bits() % 256) as u8,
+        missing: (missing.bits() % 256) as u8,
+        hops: hops_of(hops),
+        marks: marks_of(hops),
     }
 }
 
-fn packet_fields(answer: PacketAnswer) -> Fields
-    ensures { λ r. ⌜ r ≡ packetFields answer ⌝ }
+fn found_parts(kind: u8, found: Found) -> TermreadResult
+    ensures { λ r. ⌜ r ≡ foundParts kind found ⌝ }
+{
+    match found {
+        Found::None => plain(3, kind, 0, 0),
+        Found::Exact(hit) => plain(1, kind, hit.label, hit.number),
+        Found::Fuzzy(hit, reason) => fuzzy(kind, hit, reason),
+    }
+}
+
+fn packet_parts(answer: PacketAnswer) -> TermreadResult
+    ensures { λ r. ⌜ r ≡ packetParts answer ⌝ }
 {
     match answer {
-        PacketAnswer::Syn(found) => found_fields(1, found),
-        PacketAnswer::SynAck(found) => found_fields(2, found),
-        PacketAnswer::Nothing => plain(4, 0, 0),
-        PacketAnswer::Refused(refusal) => plain(
-            5,
+        PacketAnswer::Syn(found) => found_parts(1, found),
+        PacketAnswer::SynAck(found) => found_parts(2, found),
+        PacketAnswer::Nothing => plain(4, 0, 0, 0),
+        PacketAnswer::Refused(refusal) => refused(
             refusal_number(Refusal::Packet(refusal)),
             packet_value(refusal) as u16,
         ),
     }
 }
 
-fn fields_of(answer: GatewayAnswer) -> Fields
-    ensures { λ r. ⌜ r ≡ fieldsOf answer ⌝ }
+fn refused_list(refusal: ListRefusal) -> TermreadResult
+    ensures { λ r. ⌜ r ≡ refusedList refusal ⌝ }
 {
-    match answer {
-        GatewayAnswer::Packet(packet) => packet_fields(packet),
-        GatewayAnswer::List(refusal) => plain(
-            5,
-            refusal_number(Refusal::List(refusal)),
-            (list_value(refusal) % 65536) as u16,
-        ),
-    }
-}
-
-// ---- the number
-
-fn code_of(fields: Fields) -> u64
-    ensures { λ r. ⌜ r ≡ codeOf fields ⌝ }
-{
-    let hops = fields.hops as u64 + 256 * fields.far as u64;
-    let missing = fields.missing as u64 + 256 * hops;
-    let added = fields.added as u64 + 256 * missing;
-    let value = fields.value as u64 + 65536 * added;
-    let kind = fields.kind as u64 + 256 * value;
-    fields.outcome as u64 + 256 * kind
+    refused(
+        refusal_number(Refusal::List(refusal)),
+        (list_value(refusal) % 65536) as u16,
+    )
 }
 
 // ---- what is exported
 
-// Whether a list is well formed: 0, or the code of its refusal.
+// Whether a list is well formed: outcome 0, or its refusal.
 #[no_mangle]
-pub extern "C" fn termread_check_list(list: &[u8]) -> u64
-    ensures { λ r. ⌜ r ≡ listCode (checkList (now (list .entry))) ⌝ }
+pub extern "C" fn termread_check_list(list: &[u8]) -> TermreadResult
+    ensures { λ r. ⌜ r ≡ listParts (checkList (now (list .entry))) ⌝ }
 {
     match check_list(list) {
-        ListAnswer::Good => 0,
-        ListAnswer::Refused(refusal) => code_of(fields_of(GatewayAnswer::List(refusal))),
+        ListAnswer::Good => plain(0, 0, 0, 0),
+        ListAnswer::Refused(refusal) => refused_list(refusal),
     }
 }
 
 // The answer of a packet against a list that was checked: what is not a well-formed record of it does not fit.
 #[no_mangle]
-pub extern "C" fn termread_answer_checked(packet: &[u8], peer: u16, list: &[u8]) -> u64
-    ensures { λ r. ⌜ r ≡ codeOf (packetFields (answerOf (now (packet .entry)) (peerOf peer) (now (list .entry)))) ⌝ }
+pub extern "C" fn termread_answer_checked(packet: &[u8], peer: u16, list: &[u8]) -> TermreadResult
+    ensures { λ r. ⌜ r ≡ packetParts (answerOf (now (packet .entry)) (peerOf peer) (now (list .entry))) ⌝ }
 {
-    code_of(packet_fields(answer_packet(packet, peer_of(peer), list)))
-}
-
-fn gateway_answer(packet: &[u8], peer: u16, list: &[u8]) -> GatewayAnswer
-    ensures { λ r. ⌜ r ≡ gatewayAnswer (now (packet .entry)) peer (now (list .entry)) ⌝ }
-{
-    match check_list(list) {
-        ListAnswer::Good => GatewayAnswer::Packet(answer_packet(packet, peer_of(peer), list)),
-        ListAnswer::Refused(refusal) => GatewayAnswer::List(refusal),
-    }
+    packet_parts(answer_packet(packet, peer_of(peer), list))
 }
 
 // The answer of a packet against a list that was not checked: refusals 9 and 10 come before the packet's.
 #[no_mangle]
-pub extern "C" fn termread_answer(packet: &[u8], peer: u16, list: &[u8]) -> u64
-    ensures { λ r. ⌜ r ≡ codeOf (fieldsOf (gatewayAnswer (now (packet .entry)) peer (now (list .entry)))) ⌝ }
+pub extern "C" fn termread_answer(packet: &[u8], peer: u16, list: &[u8]) -> TermreadResult
+    ensures { λ r. ⌜ r ≡ partsOf (gatewayAnswer (now (packet .entry)) peer (now (list .entry))) ⌝ }
 {
-    code_of(fields_of(gateway_answer(packet, peer, list)))
+    match check_list(list) {
+        ListAnswer::Good => packet_parts(answer_packet(packet, peer_of(peer), list)),
+        ListAnswer::Refused(refusal) => refused_list(refusal),
+    }
 }

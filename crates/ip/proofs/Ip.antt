@@ -23,7 +23,9 @@ module _ (p : List ℕ) (long : 20 ≤ length p) (words : 5 ≤ v4.ihl p) (tcp :
     (whole : ltb 0 (v4.fragmentOffset p) || eqb (v4.moreFragments p) 1 ≡ false) where
   before-tcp
       : readIpv4 p
-      ≡ cond (ltb (v4.dataEnd p - v4.dataStart p) 20) (ip.Refused refusal.TcpTooShort) (ip.Facts (ipv4Facts p (v4.dataStart p) (v4.dataEnd p)))
+      ≡ cond (ltb (v4.dataEnd p - v4.dataStart p) 20)
+      (ip.Refused refusal.TcpTooShort)
+      (ip.Facts (ipv4Facts p (v4.dataStart p) (v4.dataEnd p)))
   unfolding readIpv4
   before-tcp =
       simp (

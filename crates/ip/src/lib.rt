@@ -7,7 +7,7 @@ ghost use lib.ListN.{length};
 ghost use Rattle.ip.specs.Ip.{ipv4Quirks, ipv4Facts, readIpv4, ipv6Quirks, ipv6Facts, readIpv6, readIp};
 use ip_options::calculate_ipv4_length;
 use ip_options::calculate_ipv6_length;
-use numbers::be16;
+use numbers::be16_at;
 use numbers::be32;
 use numbers::least;
 use numbers::wide;
@@ -73,7 +73,7 @@ fn ipv4_facts(packet: &[u8], start: usize, end: usize) -> IpFacts
     ensures { λ r. ⌜ r ≡ ipv4Facts (now (packet .entry)) start end ⌝ }
 {
     let fields = packet[6];
-    let identification = be16(packet[4], packet[5]);
+    let identification = be16_at(packet, 4);
     IpFacts {
         version: IpVersion::V4,
         ittl: calculate_ttl(packet[8]),
@@ -103,8 +103,8 @@ fn process_tcp_ipv4(packet: &[u8]) -> IpRead
     if is_fragment(packet[6], packet[7]) {
         return IpRead::Refused(PacketRefusal::Fragment);
     }
-    let start = 4 * wide(ihl) as usize;
-    let end = least(be16(packet[2], packet[3]) as usize, packet.len());
+    let start = 4 * (ihl as usize);
+    let end = least(be16_at(packet, 2) as usize, packet.len());
     if end < start + TCP_HEADER {
         return IpRead::Refused(PacketRefusal::TcpTooShort);
     }
@@ -125,7 +125,7 @@ fn ipv6_facts(packet: &[u8], end: usize) -> IpFacts
 {
     let first = packet[0];
     let second = packet[1];
-    let flow_label = be32(wide(second % 16), be16(packet[2], packet[3]));
+    let flow_label = be32(wide(second % 16), be16_at(packet, 2));
     let class = first % 16 * 16 + second / 16;
     IpFacts {
         version: IpVersion::V6,
@@ -149,10 +149,7 @@ fn process_tcp_ipv6(packet: &[u8]) -> IpRead
     if next_header != TCP {
         return IpRead::Refused(PacketRefusal::UnsupportedProtocol);
     }
-    let end = least(
-        IPV6_HEADER + be16(packet[4], packet[5]) as usize,
-        packet.len(),
-    );
+    let end = least(IPV6_HEADER + be16_at(packet, 4) as usize, packet.len());
     if end < IPV6_HEADER + TCP_HEADER {
         return IpRead::Refused(PacketRefusal::TcpTooShort);
     }

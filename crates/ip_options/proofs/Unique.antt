@@ -1,6 +1,7 @@
--- Exactly one result meets each function's own contract.
-use Prim.Native.Nat.{ℕ}
+-- Exactly one result meets each public function's own contract.
+-- tools/promises makes this file from the contracts, and the gate holds it to them.
 use mathlib.Core.List.{List}
+use Prim.Native.Nat.{ℕ}
 use contract.Lifetimes.{Lfts}
 use denote.Ref.{RefT, now}
 use Rattle.basis.specs.Unique.{ExactlyOne}

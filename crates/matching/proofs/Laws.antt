@@ -22,7 +22,10 @@ use Rattle.matching.specs.Fit.{scalarGates, toleranceOf, fitOf}
 -- Nothing was tolerated: the TTL is in range, and no quirk is added or missing.
 pub data Untolerated : TtlFit → QuirksFit → Type 0 where
   nothing-tolerated
-      : {d : ℕ} {q : Tolerated} → isEmpty (q .added) ≡ true → isEmpty (q .missing) ≡ true → Untolerated (ttlfit.InRange d) (quirksfit.Tolerated q)
+      : {d : ℕ} {q : Tolerated}
+      → isEmpty (q .added) ≡ true
+      → isEmpty (q .missing) ≡ true
+      → Untolerated (ttlfit.InRange d) (quirksfit.Tolerated q)
 
 in-range-exact : (q : Tolerated) → judgeInRange q ≡ answer.Exact → (isEmpty (q .added) ≡ true) × (isEmpty (q .missing) ≡ true)
 unfolding judgeInRange
@@ -62,8 +65,7 @@ exact-fit f kinds bytes s count entries = by-gates (scalarGates f s && layoutMat
   where
     by-gates
         : (t : Bool)
-        → cond t (judge (ttlFit (f .ttl) (s .ittl)) (quirksFit (f .quirks) (maskedQuirks (s .quirks) (s .version) (f .version)))) answer.None
-        ≡ answer.Exact
+        → cond t (toleranceOf f s) answer.None ≡ answer.Exact
         → Untolerated (ttlFit (f .ttl) (s .ittl)) (quirksFit (f .quirks) (maskedQuirks (s .quirks) (s .version) (f .version)))
     by-gates true e = exact-untolerated _ _ e
     by-gates false e = let z : _≡_ {A = ℕ} 0 1 = cc in absurd (omega arith)

@@ -1,4 +1,4 @@
--- Gates of a fit (document 01, module 7): option length, MSS, scale, layout. The others, version, window and payload, are those of distances.
+-- Gates of a fit (document 01, module 7): option length, MSS, scale, layout. Version, window and payload are those of distances.
 use Prim.Native.Nat.{ℕ, _+_, _*_}
 use mathlib.Core.Bool.{Bool, true, false, _&&_}
 use mathlib.Core.List.{List}
@@ -6,6 +6,7 @@ use lib.Dec.{eqb, leb}
 use lib.ListN.{length}
 use Rattle.basis.specs.Bytes.{byteAt}
 use Rattle.basis.specs.Tests.{allBelow}
+use Rattle.sigrecord.specs.Layout.{entriesGood}
 use Rattle.tcp.specs.declared.Mss.{Mss}
 use Rattle.tcp.specs.declared.Mss.the-variants as mss
 use Rattle.tcp.specs.declared.Wscale.{Wscale}
@@ -38,3 +39,11 @@ layoutMatches count kinds bytes declared entries =
     eqb count declared
     && (leb declared (length kinds) && leb declared (length bytes) && leb (2 * declared) (length entries))
     && entriesMatch kinds bytes entries declared
+
+-- The same of entries that are good besides: those of a record that is not well formed match nothing.
+abbrev pub goodEntriesMatch : List ℕ → List ℕ → List ℕ → ℕ → Bool
+goodEntriesMatch kinds bytes entries count = entriesMatch kinds bytes entries count && entriesGood entries count
+
+abbrev pub goodLayoutFits : ℕ → List ℕ → List ℕ → ℕ → List ℕ → Bool
+goodLayoutFits count kinds bytes declared entries =
+    layoutMatches count kinds bytes declared entries && entriesGood entries declared

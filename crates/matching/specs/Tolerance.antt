@@ -29,7 +29,8 @@ maskedQuirks quirks sigversion.V6 observed = quirks
 unfoldable pub quirksFit : QuirkSet → QuirkSet → QuirksFit
 quirksFit observed signature =
     cond
-    (isEmpty (difference (difference signature observed) fuzzyDeletable) && isEmpty (difference (difference observed signature) fuzzyAddable))
+    (isEmpty (difference (difference signature observed) fuzzyDeletable)
+    && isEmpty (difference (difference observed signature) fuzzyAddable))
     (quirksfit.Tolerated (record { added = difference observed signature; missing = difference signature observed }))
     quirksfit.Rejected
 

@@ -1,37 +1,24 @@
 // Two gates where they lie in a list: the layout of an observation against a signature's entries, and its window against a record's.
 ghost use mathlib.Core.Path.{_≡_};
-ghost use mathlib.Core.Bool.{_&&_};
-ghost use Prim.Native.Nat.{_*_, _≤_, _<_};
+ghost use Prim.Native.Nat.{_*_, _≤_};
 ghost use lib.ListN.{length};
-ghost use Rattle.basis.specs.Bytes.{byteAt};
-ghost use Rattle.sigrecord.specs.Layout.{entryGood, entriesGood};
 ghost use Rattle.sigrecord.specs.Record.{signatureOf};
 ghost use Rattle.distances.specs.DistanceGates.{windowMatches};
-ghost use Rattle.matching.specs.Gates.{entriesMatch};
+ghost use Rattle.matching.specs.Gates.{goodEntriesMatch};
 use distances::window_size_matches;
 use numbers::byte_at;
 use sigrecord::WINDOW_FORM;
 use sigrecord::WINDOW_LOW;
 use sigrecord::WindowSize;
+use sigrecord::entry_good;
 use sigrecord::window_of;
 use window_size::Multiplier;
-
-// Whether an entry is good, of which the byte was read: its kind is read only where that decides.
-pub(crate) fn kind_allows(entries: &[u8], at: usize, byte: u8) -> bool
-    requires { ⌜ at < length (now entries) ⌝ }
-    ensures { λ r. ⌜ r ≡ entryGood (byteAt (now (entries .entry)) at) byte ⌝ }
-{
-    if byte == 0 {
-        return true;
-    }
-    entries[at] == 0
-}
 
 // Each kind and byte of an observation's layout against the entries of a signature, which lie kind before byte, in one walk with
 // whether the entries are good.
 pub(crate) fn entries_match(kinds: &[u8], bytes: &[u8], entries: &[u8], count: usize) -> bool
     requires { ⌜ (count ≤ length (now kinds)) × (count ≤ length (now bytes)) × (2 * count ≤ length (now entries)) ⌝ }
-    ensures { λ r. ⌜ r ≡ entriesMatch (now (kinds .entry)) (now (bytes .entry)) (now (entries .entry)) count && entriesGood (now (entries .entry)) count ⌝ }
+    ensures { λ r. ⌜ r ≡ goodEntriesMatch (now (kinds .entry)) (now (bytes .entry)) (now (entries .entry)) count ⌝ }
 {
     let mut i = 0;
     while i < count {
@@ -40,10 +27,11 @@ pub(crate) fn entries_match(kinds: &[u8], bytes: &[u8], entries: &[u8], count: u
         if bytes[i] != byte {
             return false;
         }
-        if !kind_allows(entries, at, byte) {
+        let kind = entries[at];
+        if !entry_good(kind, byte) {
             return false;
         }
-        if kinds[i] != entries[at] {
+        if kinds[i] != kind {
             return false;
         }
         i += 1;

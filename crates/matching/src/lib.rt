@@ -1,9 +1,7 @@
 // matching.rs: how an observation fits a signature. Its gates of version, window and payload are in `distances`.
 ghost use mathlib.Core.Path.{_≡_};
-ghost use mathlib.Core.Bool.{_&&_};
-ghost use Rattle.sigrecord.specs.Layout.{entriesGood};
 ghost use Rattle.sigrecord.specs.Record.{signatureOf};
-ghost use Rattle.matching.specs.Gates.{olenMatches, mssMatches, scaleMatches, layoutMatches};
+ghost use Rattle.matching.specs.Gates.{olenMatches, mssMatches, scaleMatches, goodLayoutFits};
 ghost use Rattle.matching.specs.Tolerance.{maskedQuirks, quirksFit, judgeInRange, judge};
 ghost use Rattle.matching.specs.Fit.{featuresOf, passes, toleranceOf};
 use distances::TtlFit;
@@ -125,7 +123,7 @@ pub fn olayout_matches(
     entries: &[u8],
     declared: usize,
 ) -> bool
-    ensures { λ r. ⌜ r ≡ layoutMatches count (now (kinds .entry)) (now (bytes .entry)) declared (now (entries .entry)) && entriesGood (now (entries .entry)) declared ⌝ }
+    ensures { λ r. ⌜ r ≡ goodLayoutFits count (now (kinds .entry)) (now (bytes .entry)) declared (now (entries .entry)) ⌝ }
 {
     if count != declared {
         return false;

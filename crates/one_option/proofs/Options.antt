@@ -8,7 +8,7 @@ use native.Mathlib.Nat.{add-zero, zero-min, suc-min-suc}
 use native.Mathlib.Numerals.{add-one}
 use native.Mathlib.Decide.{decLe}
 use lib.Dec.{ltb}
-use lib.ListN.{length, take, drop, length-take, length-drop}
+use lib.ListN.{length, take, drop, length-take, length-drop, List·getD-eq-default}
 use lib.Seq.{drop-cons, drop-drop, drop-nil, take-nil, getD-take, getD-drop}
 use borrow.Author.Tests.{ltb-true, lt-ltb, le-ltb, ne-eqb}
 use Rattle.basis.specs.Bytes.{byteAt, part}
@@ -60,6 +60,11 @@ never-both o short =
     (le-ltb (length (o .own)) (max (byteAt (o .own) 0) 2 - 1) (omega arith))
 
 -- ---- one step
+
+-- Past the end there are zeros.
+pub inside-nonzero : (s : List ℕ) (at : ℕ) → (byteAt s at ≡ 0 → ⊥) → at < length s
+inside-nonzero s at some =
+    elim (decLe (length s) at) [ yes h ↦ absurd (some (List·getD-eq-default s 0 {n = at} h)) | no h ↦ omega arith ]
 
 -- Its two tests in places of the string.
 module _ (at all b : ℕ) where

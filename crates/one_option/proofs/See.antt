@@ -18,7 +18,8 @@ use Rattle.tcp.specs.declared.Wscale.{Wscale}
 use Rattle.tcp.specs.declared.Wscale.the-variants as wscale
 use Rattle.one_option.specs.declared.Seen.{Seen}
 use Rattle.one_option.specs.Options.{Opt}
-use Rattle.one_option.specs.See.{laterMss, laterScale, trailingNonzero, excessiveScaling, ownTimestampZero, peerTimestampNonzero, laterQuirks, seeOption}
+use Rattle.one_option.specs.See.{laterMss, laterScale, trailingNonzero, excessiveScaling, ownTimestampZero}
+use Rattle.one_option.specs.See.{peerTimestampNonzero, laterQuirks, seeOption}
 
 -- An option of a kind with these own bytes.
 abbrev pub opt : ℕ → List ℕ → Opt
@@ -114,6 +115,11 @@ module _ (syn : Bool) (q : QuirkSet) (own : List ℕ) where
   unfolding trailingNonzero excessiveScaling ownTimestampZero peerTimestampNonzero laterQuirks addIf
   other-quirks kind n0 n3 n8 = simp (ne-eqb kind 0 n0, ne-eqb kind 3 n3, ne-eqb kind 8 n8)
 
+  pub last-quirks
+      : (kind : ℕ) → kind ≡ 0 → laterQuirks syn q (opt kind own) ≡ addIf (anyNonzero own) quirk.TrailinigNonZero q
+  unfolding trailingNonzero excessiveScaling ownTimestampZero peerTimestampNonzero laterQuirks addIf
+  last-quirks kind e = rw e
+
   pub quirks-of : (o : Opt) {t : Seen} → seeOption syn (just q) o ≡ t → laterQuirks syn q o ≡ t .quirks
   unfolding seeOption
   quirks-of o e = ap (λ (x : Seen). x .quirks) e
@@ -127,7 +133,7 @@ module _ (m : Mss) (kind : ℕ) (own : List ℕ) where
   unfolding laterMss
   short-mss e h = rw (eq-eqb kind 2 e, data-short own 1 h)
 
-  pub enough-mss : kind ≡ 2 → 2 < length own → laterMss m (opt kind own) ≡ mss.Present (byteAt own 1 * 256 + byteAt own 2)
+  pub enough-mss : kind ≡ 2 → 2 < length own → laterMss m (opt kind own) ≡ mss.Present (be16 own 1)
   unfolding laterMss be16
   enough-mss e h = simp (eq-eqb kind 2 e, data-enough own 2 h, getD-drop)
 

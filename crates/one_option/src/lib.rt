@@ -1,12 +1,12 @@
 // One option of a TCP header: where it ends, and what it says of MSS, scale and quirks (syn_options.rs, flow.rs).
 ghost use mathlib.Core.Path.{_≡_};
-ghost use mathlib.Core.Bool.{true, false};
 ghost use Prim.Native.Nat.{max};
-ghost use Rattle.basis.specs.Bytes.{byteAt, anyNonzero};
+ghost use Rattle.basis.specs.Bytes.{anyNonzero};
 ghost use Rattle.one_option.specs.Options.{stepOf};
 ghost use Rattle.one_option.specs.See.{laterMss, laterScale, laterQuirks};
-use numbers::be16;
+use numbers::be16_at;
 use numbers::be32;
+use numbers::byte_at;
 use numbers::least;
 use quirks::Quirk;
 use quirks::QuirkSet;
@@ -44,28 +44,6 @@ pub struct OptionStep {
 
 // ---- one step
 
-// An option without a length byte: an end-of-options or a no-op.
-fn lone(kind: u8, end: usize) -> OptionStep
-    ensures { λ r. ⌜ r ≡ record { kind = kind; end = end; past = false; short = false } ⌝ }
-{
-    OptionStep {
-        kind,
-        end,
-        past: false,
-        short: false,
-    }
-}
-
-// The byte after a kind, 0 if it is absent.
-fn length_byte(options: &[u8], start: usize) -> usize
-    ensures { λ r. ⌜ r ≡ byteAt (now (options .entry)) start ⌝ }
-{
-    if options.len() <= start {
-        return 0;
-    }
-    options[start] as usize
-}
-
 // How many bytes an option with this length byte takes: 2 at least.
 fn taken(length: usize) -> usize
     ensures { λ r. ⌜ r ≡ max length 2 ⌝ }
@@ -73,23 +51,30 @@ fn taken(length: usize) -> usize
     if length < 2 { 2 } else { length }
 }
 
-// The option at a place. All is kept in places of the whole string, so that a turn of a walk adds once.
+// The option at a place, past the end an end-of-options. All is kept in places of the whole string: a turn of a walk adds once.
 pub fn option_step(options: &[u8], at: usize) -> OptionStep
     ensures { λ r. ⌜ r ≡ stepOf (now (options .entry)) at ⌝ }
 {
     let all = options.len();
-    if all <= at {
-        return lone(EOL, all);
-    }
-    let kind = options[at];
-    let start = at + 1;
+    let kind = byte_at(options, at);
     if kind == EOL {
-        return lone(kind, all);
+        return OptionStep {
+            kind,
+            end: all,
+            past: false,
+            short: false,
+        };
     }
+    let start = at + 1;
     if kind == NOP {
-        return lone(kind, start);
+        return OptionStep {
+            kind,
+            end: start,
+            past: false,
+            short: false,
+        };
     }
-    let length = length_byte(options, start);
+    let length = byte_at(options, start) as usize;
     let end = at + taken(length);
     OptionStep {
         kind,
@@ -125,7 +110,7 @@ pub fn later_mss(kind: u8, own: &[u8], mss: Mss) -> Mss
     if own.len() < 3 {
         return mss;
     }
-    Mss::Present(be16(own[1], own[2]))
+    Mss::Present(be16_at(own, 1))
 }
 
 // The scale, in the same way.
@@ -139,12 +124,6 @@ pub fn later_scale(kind: u8, own: &[u8], wscale: Wscale) -> Wscale
         return wscale;
     }
     Wscale::Present(own[1])
-}
-
-fn end_quirks(own: &[u8], syn: bool, quirks: QuirkSet) -> QuirkSet
-    ensures { λ r. ⌜ r ≡ laterQuirks syn quirks (record { kind = 0; own = now (own .entry) }) ⌝ }
-{
-    quirks.add_if(any_nonzero(own), Quirk::TrailinigNonZero)
 }
 
 fn scale_quirks(own: &[u8], syn: bool, quirks: QuirkSet) -> QuirkSet
@@ -163,12 +142,12 @@ fn stamp_quirks(own: &[u8], syn: bool, before: QuirkSet) -> QuirkSet
     if own.len() < 5 {
         return before;
     }
-    let own_stamp = be32(be16(own[1], own[2]), be16(own[3], own[4]));
+    let own_stamp = be32(be16_at(own, 1), be16_at(own, 3));
     let quirks = before.add_if(own_stamp == 0, Quirk::OwnTimestampZero);
     if own.len() < 9 {
         return quirks;
     }
-    let peer_stamp = be32(be16(own[5], own[6]), be16(own[7], own[8]));
+    let peer_stamp = be32(be16_at(own, 5), be16_at(own, 7));
     quirks.add_if(syn & (peer_stamp != 0), Quirk::PeerTimestampNonZero)
 }
 
@@ -183,7 +162,7 @@ pub fn later_quirks(kind: u8, own: &[u8], syn: bool, quirks: QuirkSet) -> QuirkS
         return scale_quirks(own, syn, quirks);
     }
     if kind == EOL {
-        return end_quirks(own, syn, quirks);
+        return quirks.add_if(any_nonzero(own), Quirk::TrailinigNonZero);
     }
     quirks
 }

@@ -56,7 +56,9 @@ other-place : (s : QuirkSet) (q : Quirk) (k : ℕ) → (placeOf q ≡ k → ⊥)
 unfolding holds with bitOf
 other-place s q k differs =
     ap (λ (n : ℕ). eqb n 1)
-    (digit-or (bitsOf s) (2 ^ placeOf q) k ∙ ap (max (digit (bitsOf s) k)) (digit-power-other (placeOf q) k differs) ∙ plain (digit (bitsOf s) k))
+    (digit-or (bitsOf s) (2 ^ placeOf q) k
+    ∙ ap (max (digit (bitsOf s) k)) (digit-power-other (placeOf q) k differs)
+    ∙ plain (digit (bitsOf s) k))
   where
     plain : (d : ℕ) → max d 0 ≡ d
     plain d = omega arith

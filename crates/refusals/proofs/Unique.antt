@@ -1,14 +1,15 @@
--- Exactly one result meets each function's own contract.
+-- Exactly one result meets each public function's own contract.
+-- tools/promises makes this file from the contracts, and the gate holds it to them.
 use Prim.Native.Nat.{ℕ}
 use Rattle.basis.specs.Unique.{ExactlyOne}
 use Rattle.basis.proofs.Unique.{equation}
-use Rattle.refusals.specs.declared.PacketRefusal.{PacketRefusal}
 use Rattle.refusals.specs.declared.ListRefusal.{ListRefusal}
+use Rattle.refusals.specs.declared.PacketRefusal.{PacketRefusal}
 use Rattle.refusals.specs.declared.Refusal.{Refusal}
-use Rattle.refusals.specs.Refusals.{number, packetValue, listValue}
-use Rattle.refusals.proofs.refusal_number.Reads as refusal-number'
-use Rattle.refusals.proofs.packet_value.Reads as packet-value'
+use Rattle.refusals.specs.Refusals.{listValue, number, packetValue}
 use Rattle.refusals.proofs.list_value.Reads as list-value'
+use Rattle.refusals.proofs.packet_value.Reads as packet-value'
+use Rattle.refusals.proofs.refusal_number.Reads as refusal-number'
 
 pub refusal-number-one : (refusal : Refusal) → ExactlyOne ℕ (λ (r : ℕ). refusal-number'.Post tt (refusal, tt) r (refusal, tt))
 refusal-number-one refusal = equation (number refusal)

@@ -18,7 +18,9 @@ use Rattle.report.specs.Pages.{Filled, Paged, Page, pageSize, pageFrom, 
 use Rattle.report.proofs.Writing.{line-length, numbered-length}
 
 -- Nothing more is put.
-pub filled-full : (page : List ℕ) (filled left at : ℕ) → Filled page filled (fullPage left at) (record { filled = filled; left = left; at = at }) page
+pub filled-full
+    : (page : List ℕ) (filled left at : ℕ)
+    → Filled page filled (fullPage left at) (record { filled = filled; left = left; at = at }) page
 filled-full page filled left at = ((omega arith, sym (nothing-written page filled)), refl, refl)
 
 module _ (b : List ℕ) (filled at m : ℕ) where
@@ -30,7 +32,11 @@ module _ (b : List ℕ) (filled at m : ℕ) where
   unfolding pageFrom
   ended-here h e = rw (le-leb (filled + 19) pageSize (omega arith), e)
 
-  line-here : 19 ≤ pageSize - filled → packetLies b at ≡ true → pageFrom b filled at (suc m) ≡ behind (lineOf (answerAt b at)) (pageFrom b (filled + length (lineOf (answerAt b at))) (packetEnd b at) m)
+  line-here
+      : 19 ≤ pageSize - filled
+      → packetLies b at ≡ true
+      → pageFrom b filled at (suc m)
+      ≡ behind (lineOf (answerAt b at)) (pageFrom b (filled + length (lineOf (answerAt b at))) (packetEnd b at) m)
   unfolding pageFrom
   line-here h e = rw (le-leb (filled + 19) pageSize (omega arith), e)
 
@@ -47,10 +53,20 @@ module _ (b page : List ℕ) (filled at n : ℕ) (some : 0 < n) where
   pub no-packet : 19 ≤ pageSize - filled → packetLies b at ≡ false → pageFrom b filled at n ≡ fullPage 0 at
   no-packet h e = ap (pageFrom b filled at) more ∙ ended-here b filled at (n - 1) h e
 
-  pub one-line : 19 ≤ pageSize - filled → packetLies b at ≡ true → length page ≡ pageSize → (page' page'' : List ℕ) (next : ℕ) (r : Progress) → PutAll page filled (lineOf (answerAt b at)) next page' → Filled page' next (pageFrom b next (packetEnd b at) (n - 1)) r page'' → Filled page filled (pageFrom b filled at n) r page''
+  pub one-line
+      : 19 ≤ pageSize - filled
+      → packetLies b at ≡ true
+      → length page ≡ pageSize
+      → (page' page'' : List ℕ) (next : ℕ) (r : Progress)
+      → PutAll page filled (lineOf (answerAt b at)) next page'
+      → Filled page' next (pageFrom b next (packetEnd b at) (n - 1)) r page''
+      → Filled page filled (pageFrom b filled at n) r page''
   one-line h e whole page' page'' next r line rest =
-      rw (ap (pageFrom b filled at) more ∙ line-here b filled at (n - 1) h e, sym (line .0))
-      (all-both page page' page'' _ _ filled next (r .filled) (omega (arith, whole, line-length (answerAt b at))) line (rest .0), rest .1, rest .2)
+      rw (ap (pageFrom b filled at) more ∙ line-here b filled at (n - 1) h e, sym (line .0)) (
+        all-both page page' page'' _ _ filled next (r .filled) (omega (arith, whole, line-length (answerAt b at))) line (rest .0),
+        rest .1,
+        rest .2,
+      )
 
 pub no-more : (b : List ℕ) (filled at n : ℕ) → n ≤ 0 → pageFrom b filled at n ≡ fullPage 0 at
 unfolding pageFrom
@@ -68,12 +84,20 @@ paged page page' p r h = (
 
 -- The first line, and the packets' lines behind it.
 module _ (b page page' page'' : List ℕ) (n offset filled : ℕ) (r : Progress) where
-  pub head-paged : 14 ≤ length page → n ≡ packetCount b → offset ≡ packetsOffset b → filled ≡ length (packetsWord ++ decimal n ++ newline) → page' ≡ written page 0 (packetsWord ++ decimal n ++ newline) → Filled page' filled (pageFrom b filled offset n) r page'' → Paged page (headPage b) r page''
+  pub head-paged
+      : 14 ≤ length page
+      → n ≡ packetCount b
+      → offset ≡ packetsOffset b
+      → filled ≡ length (packetsWord ++ decimal n ++ newline)
+      → page' ≡ written page 0 (packetsWord ++ decimal n ++ newline)
+      → Filled page' filled (pageFrom b filled offset n) r page''
+      → Paged page (headPage b) r page''
   unfolding headLine
   head-paged inside count at f w rest =
       rw (sym count, sym at, sym f)
       (paged page page'' (behind (packetsWord ++ decimal n ++ newline) (pageFrom b filled offset n)) r (
-        all-both page page' page'' _ _ 0 filled (r .filled) (omega (arith, numbered-length packetsWord n)) (f ∙ sym (zero-add _), w) (rest .0),
+        all-both page page' page'' _ _ 0 filled (r .filled) (omega (arith, numbered-length packetsWord n))
+            (f ∙ sym (zero-add _), w) (rest .0),
         rest .1,
         rest .2,
       ))

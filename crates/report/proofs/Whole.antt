@@ -17,14 +17,17 @@ use Rattle.report.specs.Text.{packetsWord, refusedWord, lineOf, headLine
 use Rattle.report.specs.declared.Progress.{Progress}
 use Rattle.text.proofs.Writing.{written-length}
 use Rattle.report.proofs.Writing.{line-length, numbered-length}
-use Rattle.report.specs.Pages.{Page, Paged, pageSize, pageFrom, linesOf, textOf, outputOf, outputOfInput, firstOf, firstPage, nextPage, laterPages, allPages}
+use Rattle.report.specs.Pages.{Page, Paged, pageSize, pageFrom, firstOf, firstPage, nextPage, laterPages, allPages}
+use Rattle.report.specs.Pages.{linesOf, textOf, outputOf, outputOfInput}
 
 -- The lines of the packets that a page leaves.
 abbrev rest : List ℕ → Page → List ℕ
 rest b p = linesOf (answersFrom b (p .at) (p .left))
 
 -- A page's text, and the lines of what it leaves, are the lines of what it was given.
-pub page-and-rest : (b : List ℕ) (filled at n : ℕ) → pageFrom b filled at n .text ++ rest b (pageFrom b filled at n) ≡ linesOf (answersFrom b at n)
+pub page-and-rest
+    : (b : List ℕ) (filled at n : ℕ)
+    → pageFrom b filled at n .text ++ rest b (pageFrom b filled at n) ≡ linesOf (answersFrom b at n)
 unfolding pageFrom answersFrom linesOf
 page-and-rest b filled at zero = refl
 page-and-rest b filled at (suc n) =
@@ -34,7 +37,13 @@ page-and-rest b filled at (suc n) =
     next : Page
     next = pageFrom b (filled + length (lineOf (answerAt b at))) (packetEnd b at) n
 
-    by-tests : (t : Bool) → leb (filled + 19) pageSize ≡ t → (u : Bool) → packetLies b at ≡ u → next .text ++ rest b next ≡ linesOf (answersFrom b (packetEnd b at) n) → pageFrom b filled at (suc n) .text ++ rest b (pageFrom b filled at (suc n)) ≡ linesOf (answersFrom b at (suc n))
+    by-tests
+        : (t : Bool)
+        → leb (filled + 19) pageSize ≡ t
+        → (u : Bool)
+        → packetLies b at ≡ u
+        → next .text ++ rest b next ≡ linesOf (answersFrom b (packetEnd b at) n)
+        → pageFrom b filled at (suc n) .text ++ rest b (pageFrom b filled at (suc n)) ≡ linesOf (answersFrom b at (suc n))
     by-tests false e u f ih = rw e
     by-tests true e false f ih = rw (e, f)
     by-tests true e true f ih =
@@ -49,7 +58,13 @@ left-at-most b filled at (suc n) =
     by-tests (leb (filled + 19) pageSize) refl (packetLies b at) refl
     (left-at-most b (filled + length (lineOf (answerAt b at))) (packetEnd b at) n)
   where
-    by-tests : (t : Bool) → leb (filled + 19) pageSize ≡ t → (u : Bool) → packetLies b at ≡ u → pageFrom b (filled + length (lineOf (answerAt b at))) (packetEnd b at) n .left ≤ n → pageFrom b filled at (suc n) .left ≤ suc n
+    by-tests
+        : (t : Bool)
+        → leb (filled + 19) pageSize ≡ t
+        → (u : Bool)
+        → packetLies b at ≡ u
+        → pageFrom b (filled + length (lineOf (answerAt b at))) (packetEnd b at) n .left ≤ n
+        → pageFrom b filled at (suc n) .left ≤ suc n
     by-tests false e u f ih = rw e (omega arith)
     by-tests true e false f ih = rw (e, f) (omega arith)
     by-tests true e true f ih = rw (e, f) (omega arith)
@@ -70,7 +85,8 @@ unfolding laterPages answersFrom linesOf
 later-pages b zero zero at h = refl
 later-pages b zero (suc left) at h = absurd (omega arith)
 later-pages b (suc pages) zero at h =
-    ap (λ (t : List ℕ). pageFrom b 0 at 0 .text ++ t) (later-pages b pages (pageFrom b 0 at 0 .left) (pageFrom b 0 at 0 .at) (omega (arith, left-at-most b 0 at 0)))
+    let p = pageFrom b 0 at 0 in
+    ap (λ (t : List ℕ). p .text ++ t) (later-pages b pages (p .left) (p .at) (omega (arith, left-at-most b 0 at 0)))
     ∙ page-and-rest b 0 at 0
 later-pages b (suc pages) (suc left) at h =
     let p = pageFrom b 0 at (suc left) in
@@ -83,10 +99,14 @@ unfolding firstPage outputOfInput outputOf bundleAnswer answersFrom linesOf
 first-and-rest b true = append-nil (refusedLine (number refusal.BundleDoesNotFit))
 first-and-rest b false = by-check (checkBundle b)
   where
-    by-check : (c : BundleCheck) → firstOf c b .text ++ rest b (firstOf c b) ≡ textOf (afterBundleCheck c b .check) (packetCount b) (afterBundleCheck c b .answers)
+    by-check
+        : (c : BundleCheck)
+        → firstOf c b .text ++ rest b (firstOf c b)
+        ≡ textOf (afterBundleCheck c b .check) (packetCount b) (afterBundleCheck c b .answers)
     by-check check.Good =
-        append-assoc (headLine (packetCount b)) _ _
-        ∙ ap (λ (t : List ℕ). headLine (packetCount b) ++ t) (page-and-rest b (length (headLine (packetCount b))) (packetsOffset b) (packetCount b))
+        let n = packetCount b in
+        append-assoc (headLine n) _ _
+        ∙ ap (λ (t : List ℕ). headLine n ++ t) (page-and-rest b (length (headLine n)) (packetsOffset b) n)
     by-check check.DoesNotFit = append-nil (refusedLine (number refusal.BundleDoesNotFit))
     by-check (check.List r) = append-nil (refusedLine (number (refusal.List r)))
 
@@ -103,12 +123,23 @@ all-pages b longer =
 within : (b : List ℕ) (filled at n : ℕ) → filled ≤ pageSize → filled + length (pageFrom b filled at n .text) ≤ pageSize
 unfolding pageFrom
 within b filled at zero h = omega arith
-within b filled at (suc n) h = by-tests (leb (filled + 19) pageSize) refl (packetLies b at) refl (within b (filled + length (lineOf (answerAt b at))) (packetEnd b at) n)
+within b filled at (suc n) h =
+    by-tests (leb (filled + 19) pageSize) refl (packetLies b at) refl
+    (within b (filled + length (lineOf (answerAt b at))) (packetEnd b at) n)
   where
     next : Page
     next = pageFrom b (filled + length (lineOf (answerAt b at))) (packetEnd b at) n
 
-    by-tests : (t : Bool) → leb (filled + 19) pageSize ≡ t → (u : Bool) → packetLies b at ≡ u → (filled + length (lineOf (answerAt b at)) ≤ pageSize → filled + length (lineOf (answerAt b at)) + length (next .text) ≤ pageSize) → filled + length (pageFrom b filled at (suc n) .text) ≤ pageSize
+    behind-line : ℕ
+    behind-line = filled + length (lineOf (answerAt b at))
+
+    by-tests
+        : (t : Bool)
+        → leb (filled + 19) pageSize ≡ t
+        → (u : Bool)
+        → packetLies b at ≡ u
+        → (behind-line ≤ pageSize → behind-line + length (next .text) ≤ pageSize)
+        → filled + length (pageFrom b filled at (suc n) .text) ≤ pageSize
     by-tests false e u f ih = rw e (omega arith)
     by-tests true e false f ih = rw (e, f) (omega arith)
     by-tests true e true f ih =
@@ -136,17 +167,34 @@ first-page-within b false = by-check (checkBundle b)
     by-check : (c : BundleCheck) → length (firstOf c b .text) ≤ pageSize
     by-check check.Good =
         let n = packetCount b in
-        omega (arith, length-append (headLine n) (pageFrom b (length (headLine n)) (packetsOffset b) n .text), within b (length (headLine n)) (packetsOffset b) n (omega (arith, head-length n)))
+        let lines-behind = pageFrom b (length (headLine n)) (packetsOffset b) n .text in
+        let fits = within b (length (headLine n)) (packetsOffset b) n (omega (arith, head-length n)) in
+        omega (arith, length-append (headLine n) lines-behind, fits)
     by-check check.DoesNotFit = omega (arith, refused-length (number refusal.BundleDoesNotFit))
     by-check (check.List r) = omega (arith, refused-length (number (refusal.List r)))
 
 -- ---- a page that was filled is a page
 
-kept : (page page' : List ℕ) (p : Page) (r : Progress) → length page ≡ pageSize → length (p .text) ≤ pageSize → Paged page p r page' → length page' ≡ pageSize
+kept
+    : (page page' : List ℕ) (p : Page) (r : Progress)
+    → length page ≡ pageSize
+    → length (p .text) ≤ pageSize
+    → Paged page p r page'
+    → length page' ≡ pageSize
 kept page page' p r whole fits paged = ap length (paged .1) ∙ written-length page (p .text) 0 (omega arith) ∙ whole
 
-pub first-page-kept : (b page page' : List ℕ) (longer : Bool) (r : Progress) → length page ≡ pageSize → Paged page (firstPage b longer) r page' → length page' ≡ pageSize
-first-page-kept b page page' longer r whole paged = kept page page' (firstPage b longer) r whole (first-page-within b longer) paged
+pub first-page-kept
+    : (b page page' : List ℕ) (longer : Bool) (r : Progress)
+    → length page ≡ pageSize
+    → Paged page (firstPage b longer) r page'
+    → length page' ≡ pageSize
+first-page-kept b page page' longer r whole paged =
+    kept page page' (firstPage b longer) r whole (first-page-within b longer) paged
 
-pub next-page-kept : (b page page' : List ℕ) (left at : ℕ) (r : Progress) → length page ≡ pageSize → Paged page (nextPage b left at) r page' → length page' ≡ pageSize
-next-page-kept b page page' left at r whole paged = kept page page' (nextPage b left at) r whole (next-page-within b left at) paged
+pub next-page-kept
+    : (b page page' : List ℕ) (left at : ℕ) (r : Progress)
+    → length page ≡ pageSize
+    → Paged page (nextPage b left at) r page'
+    → length page' ≡ pageSize
+next-page-kept b page page' left at r whole paged =
+    kept page page' (nextPage b left at) r whole (next-page-within b left at) paged

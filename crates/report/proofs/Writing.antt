@@ -18,8 +18,9 @@ use Rattle.report.specs.Text.{exactWord, fuzzyWord, synWord, synackWord,
 pub found-length : (f : Found) → length (foundText f) ≤ 11
 unfolding foundText
 found-length found.None = omega arith
-found-length (found.Exact label) = omega (arith, length-append exactWord (decimal label), decimal-length label)
-found-length (found.Fuzzy label reason) = omega (arith, length-append fuzzyWord (decimal label), decimal-length label)
+found-length (found.Exact hit) = omega (arith, length-append exactWord (decimal (hit .label)), decimal-length (hit .label))
+found-length (found.Fuzzy hit reason) =
+    omega (arith, length-append fuzzyWord (decimal (hit .label)), decimal-length (hit .label))
 
 pub answer-length : (a : PacketAnswer) → length (answerText a) ≤ 18
 unfolding answerText

@@ -68,6 +68,10 @@ pageFrom b filled at (suc n) =
 abbrev pub nextPage : List ℕ → ℕ → ℕ → Page
 nextPage b left at = pageFrom b 0 at left
 
+-- The page that follows a progress.
+abbrev pub pageAfter : List ℕ → Progress → Page
+pageAfter b progress = nextPage b (progress .left) (progress .at)
+
 abbrev pub refusedPage : Refusal → Page
 refusedPage r = record { text = refusedLine (number r); left = 0; at = 0 }
 
@@ -91,6 +95,11 @@ progressOf p = record { filled = length (p .text); left = p .left; at = p .at }
 -- A page's text was put behind what filled the page before.
 abbrev pub Filled : List ℕ → ℕ → Page → Progress → List ℕ → Type 0
 Filled page filled p r page' = PutAll page filled (p .text) (r .filled) page' × (r .left ≡ p .left) × (r .at ≡ p .at)
+
+-- The lines that find room behind a progress were put into its page.
+abbrev pub FilledAfter : List ℕ → List ℕ → Progress → Progress → List ℕ → Type 0
+FilledAfter page b progress r page' =
+    Filled page (progress .filled) (pageFrom b (progress .filled) (progress .at) (progress .left)) r page'
 
 -- A page's text was put at the start of the page, and the progress is the page's.
 abbrev pub Paged : List ℕ → Page → Progress → List ℕ → Type 0

@@ -46,8 +46,8 @@ fuzzyWord = 102 ∷ 117 ∷ 122 ∷ 122 ∷ 121 ∷ 32 ∷ []
 
 unfoldable pub foundText : Found → List ℕ
 foundText found.None = noneWord
-foundText (found.Exact label) = exactWord ++ decimal label
-foundText (found.Fuzzy label reason) = fuzzyWord ++ decimal label
+foundText (found.Exact hit) = exactWord ++ decimal (hit .label)
+foundText (found.Fuzzy hit reason) = fuzzyWord ++ decimal (hit .label)
 
 -- `syn exact 7`, `synack none`, `nothing`, `refused 2`, ..
 unfoldable pub answerText : PacketAnswer → List ℕ

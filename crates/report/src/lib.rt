@@ -2,7 +2,7 @@
 // A page is an array of one size, so that no caller can lend one in which no line finds room.
 ghost use Prim.Native.Nat.{_≤_};
 ghost use lib.ListN.{length};
-ghost use Rattle.report.specs.Pages.{Filled, Paged, pageSize, pageFrom, refusedPage, headPage, firstPage, nextPage};
+ghost use Rattle.report.specs.Pages.{FilledAfter, Paged, pageSize, refusedPage, headPage, firstPage, pageAfter};
 use bundle::BundleCheck;
 use bundle::PacketAt;
 use bundle::check_bundle;
@@ -32,7 +32,7 @@ const LINE: usize = 19;
 // The lines of the packets that are left, as long as the longest line finds room.
 fn put_lines(bundle: &[u8], progress: Progress, page: &mut [u8; PAGE]) -> Progress
     requires { ⌜ progress .filled ≤ pageSize ⌝ }
-    ensures { λ r. ⌜ Filled (now (page .entry)) (progress .filled) (pageFrom (now (bundle .entry)) (progress .filled) (progress .at) (progress .left)) r (now (page .exit)) ⌝ }
+    ensures { λ r. ⌜ FilledAfter (now (page .entry)) (now (bundle .entry)) progress r (now (page .exit)) ⌝ }
 {
     let mut filled = progress.filled;
     let mut left = progress.left;
@@ -103,7 +103,7 @@ pub fn first_page(bundle: &[u8], longer: bool, page: &mut [u8; PAGE]) -> Progres
 
 // The next page of a bundle's output, after the progress that the page before it left.
 pub fn next_page(bundle: &[u8], progress: Progress, page: &mut [u8; PAGE]) -> Progress
-    ensures { λ r. ⌜ Paged (now (page .entry)) (nextPage (now (bundle .entry)) (progress .left) (progress .at)) r (now (page .exit)) ⌝ }
+    ensures { λ r. ⌜ Paged (now (page .entry)) (pageAfter (now (bundle .entry)) progress) r (now (page .exit)) ⌝ }
 {
     let left = progress.left;
     let at = progress.at;

@@ -33,13 +33,13 @@ fn put_found(page: &mut [u8], at: usize, found: Found) -> usize
 {
     match found {
         Found::None => put_word(page, at, b"none\n"),
-        Found::Exact(label) => {
+        Found::Exact(hit) => {
             let next = put_word(page, at, b"exact ");
-            put_number(page, next, label)
+            put_number(page, next, hit.label)
         }
-        Found::Fuzzy(label, _) => {
+        Found::Fuzzy(hit, _) => {
             let next = put_word(page, at, b"fuzzy ");
-            put_number(page, next, label)
+            put_number(page, next, hit.label)
         }
     }
 }

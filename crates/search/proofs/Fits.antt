@@ -2,9 +2,9 @@
 use mathlib.Core.Path.{_≡_, refl, sym, _∙_}
 use mathlib.Core.Bool.{Bool, true, false, cond, _&&_, true≢false, false≢true}
 use mathlib.Core.List.{List}
-use Prim.Native.Nat.{ℕ, _+_, _<_}
+use Prim.Native.Nat.{ℕ, _<_}
 use native.Mathlib.Omega.{arith}
-use lib.Dec.{eqb, leb}
+use lib.Dec.{eqb}
 use borrow.Author.Tests.{lt-ltb}
 use Rattle.matching.specs.declared.Features.{Features}
 use Rattle.matching.specs.declared.SignatureFit.{SignatureFit}
@@ -15,12 +15,12 @@ use Rattle.matching.specs.Fit.{scalarGates, passes, toleranceOf, fitOf}
 use Rattle.basis.proofs.Tests.{and-left, and-right, and-false, and-true}
 use Rattle.siglist.specs.declared.Areas.{Areas}
 use Rattle.sigrecord.specs.Record.{signatureOf, firstEntry, entryCount}
-use Rattle.siglist.specs.List.{recordCount, layoutCount, AreasFit, recordAt, entriesOf, layoutLies, recordGood}
+use Rattle.siglist.specs.List.{recordCount, layoutCount, AreasFit, recordAt, entriesOf, entriesLie, layoutLies, recordGood}
 use Rattle.sigrecord.specs.WellFormed.{scalarsWellFormed}
 use Rattle.sigrecord.proofs.Laws.{whole}
 use Rattle.found.specs.Rank.{isNone}
 use Rattle.search.specs.Search.{fitAt}
-use Rattle.search.specs.Candidate.{holds, candidateFit}
+use Rattle.search.specs.Candidate.{holds}
 use Rattle.siglist.proofs.List.{list-fits, record-whole}
 
 no-match : (m g s p : Bool) → m && g ≡ false → m && (s && (p && g)) ≡ false
@@ -28,7 +28,7 @@ no-match false g s p e = refl
 no-match true false s p e = rw (and-false p) (and-false s)
 no-match true true s p e = absurd (true≢false e)
 
-pub is-none : (x : SignatureFit) → isNone x ≡ true → x ≡ fit.None
+is-none : (x : SignatureFit) → isNone x ≡ true → x ≡ fit.None
 is-none fit.None e = refl
 is-none fit.Exact e = absurd (false≢true e)
 is-none (fit.Fuzzy r) e = absurd (false≢true e)
@@ -70,22 +70,32 @@ module _ (f : Features) (kinds bytes l : List ℕ) (a : Areas) (i : ℕ) (fits :
   pub gate-fails : passes f (recordAt l i) ≡ false → fitAt f kinds bytes l i ≡ fit.None
   gate-fails e = rw (as-one-test, e)
 
-  pub gates-pass : passes f (recordAt l i) ≡ true → fitAt f kinds bytes l i ≡ candidateFit f kinds bytes l (recordAt l i)
-  unfolding candidateFit holds recordGood
-  gates-pass e = as-one-test ∙ rw (e, whole (recordAt l i) (record-whole l a i fits inside))
+  -- It passes the gates: then TTL and quirks, and whether the record holds, decide.
+  module _ (gates : passes f (recordAt l i) ≡ true) where
+    by-two
+        : fitAt f kinds bytes l i
+        ≡ cond (holds (f .count) kinds bytes l (recordAt l i)) (toleranceOf f (signatureOf (recordAt l i))) fit.None
+    unfolding holds recordGood
+    by-two = as-one-test ∙ rw (gates, whole (recordAt l i) (record-whole l a i fits inside))
 
-pub not-tolerated
-    : (f : Features) (kinds bytes l r : List ℕ)
-    → isNone (toleranceOf f (signatureOf r)) ≡ true
-    → candidateFit f kinds bytes l r ≡ fit.None
-unfolding candidateFit
-not-tolerated f kinds bytes l r e =
-    rw (is-none (toleranceOf f (signatureOf r)) e) (either-way (holds (f .count) kinds bytes l r))
+    pub not-tolerated : isNone (toleranceOf f (signatureOf (recordAt l i))) ≡ true → fitAt f kinds bytes l i ≡ fit.None
+    not-tolerated e =
+        by-two
+        ∙ rw (is-none (toleranceOf f (signatureOf (recordAt l i))) e)
+        (either-way (holds (f .count) kinds bytes l (recordAt l i)))
+
+    pub not-held : holds (f .count) kinds bytes l (recordAt l i) ≡ false → fitAt f kinds bytes l i ≡ fit.None
+    not-held e = by-two ∙ rw e
+
+    pub tolerated
+        : holds (f .count) kinds bytes l (recordAt l i) ≡ true
+        → fitAt f kinds bytes l i ≡ toleranceOf f (signatureOf (recordAt l i))
+    tolerated e = by-two ∙ rw e
 
 module _ (n : ℕ) (kinds bytes l r : List ℕ) (a : Areas) (fits : AreasFit l a) where
   -- The tests of the code: the place of its entries, and the entries themselves.
   abbrev Lie : Bool
-  Lie = leb (entryCount r) 40 && leb (firstEntry r + entryCount r) (a .entries)
+  Lie = entriesLie (a .entries) (firstEntry r) (entryCount r)
 
   abbrev Matched : Bool
   Matched = layoutMatches n kinds bytes (entryCount r) (entriesOf l r) && entriesGood (entriesOf l r) (entryCount r)
@@ -95,7 +105,7 @@ module _ (n : ℕ) (kinds bytes l r : List ℕ) (a : Areas) (fits : AreasFit l a
   layout-fails e =
       no-match (layoutMatches n kinds bytes (entryCount r) (entriesOf l r)) (entriesGood (entriesOf l r) (entryCount r))
       (scalarsWellFormed r)
-      (leb (entryCount r) 40 && leb (firstEntry r + entryCount r) (layoutCount l))
+      (entriesLie (layoutCount l) (firstEntry r) (entryCount r))
       e
 
   pub bad-place : Lie ≡ false → holds n kinds bytes l r ≡ false

@@ -10,22 +10,22 @@ use Rattle.matching.specs.declared.FuzzyReason.{FuzzyReason}
 use Rattle.matching.specs.declared.SignatureFit.{SignatureFit}
 use Rattle.matching.specs.declared.SignatureFit.the-variants as fit
 use Rattle.matching.specs.Fit.{featuresOf}
+use Rattle.found.specs.declared.Hit.{Hit}
 use Rattle.found.specs.declared.Found.{Found}
 use Rattle.found.specs.declared.Found.the-variants as found
 use Rattle.found.specs.Least.{unranked, Place, nowhere, prefer, firstLeast}
 use Rattle.found.specs.Rank.{foundOf, rankOf}
 use Rattle.found.proofs.Least.{Least, stays, first, least}
-use Rattle.sigrecord.specs.Record.{labelOf}
-use Rattle.siglist.specs.List.{recordCount, recordAt}
-use Rattle.search.specs.Search.{fitAt, candidateAt, rankAt, foundAt, searchRow, searchOver, searchAll}
+use Rattle.siglist.specs.List.{recordCount}
+use Rattle.search.specs.Search.{fitAt, hitAt, candidateAt, rankAt, foundAt, searchRow, searchOver, searchAll}
 use Rattle.search.proofs.Rows.{at-start, one-record}
 
 -- What ranks after fuzzy does not fit.
-after-fuzzy : (label : ℕ) (x : SignatureFit) → 1 < rankOf (foundOf label x) → x ≡ fit.None
+after-fuzzy : (hit : Hit) (x : SignatureFit) → 1 < rankOf (foundOf hit x) → x ≡ fit.None
 unfolding foundOf
-after-fuzzy label fit.None h = refl
-after-fuzzy label fit.Exact h = absurd (omega arith)
-after-fuzzy label (fit.Fuzzy r) h = absurd (omega arith)
+after-fuzzy hit fit.None h = refl
+after-fuzzy hit fit.Exact h = absurd (omega arith)
+after-fuzzy hit (fit.Fuzzy r) h = absurd (omega arith)
 
 module _ (f : Features) (kinds bytes l : List ℕ) where
   -- The fit of the record at a place of a row of record numbers.
@@ -43,14 +43,14 @@ module _ (f : Features) (kinds bytes l : List ℕ) where
         → k < length is
         → fitOfPlace is k ≡ fit.Exact
         → NoneExact is k
-        → Outcome is (found.Exact (labelOf (recordAt l (getD is k 0))))
+        → Outcome is (found.Exact (hitAt l (getD is k 0)))
     first-fuzzy
         : (k : ℕ) (reason : FuzzyReason)
         → k < length is
         → fitOfPlace is k ≡ fit.Fuzzy reason
         → ((j : ℕ) → j < k → fitOfPlace is j ≡ fit.None)
         → NoneExact is (length is)
-        → Outcome is (found.Fuzzy (labelOf (recordAt l (getD is k 0))) reason)
+        → Outcome is (found.Fuzzy (hitAt l (getD is k 0)) reason)
     none : ((k : ℕ) → k < length is → fitOfPlace is k ≡ fit.None) → Outcome is found.None
 
   -- The search of a row of record numbers has one of the three outcomes.
@@ -75,20 +75,20 @@ module _ (f : Features) (kinds bytes l : List ℕ) where
       by-fit k (fit.Fuzzy r) e inside less before all =
           rw e
           (first-fuzzy k r inside e
-          (λ j h. after-fuzzy (labelOf (recordAt l (getD is j 0))) (fitOfPlace is j) (rw e at (before j h)))
+          (λ j h. after-fuzzy (hitAt l (getD is j 0)) (fitOfPlace is j) (rw e at (before j h)))
           (λ j h x. let z = rw (e, x) at (all j h) in omega arith))
 
       by-place : {p : Place} → Least (rankAt f kinds bytes l) nowhere is p → Outcome is (foundAt f kinds bytes l p)
       by-place (stays all) =
-          none (λ k h. after-fuzzy (labelOf (recordAt l (getD is k 0))) (fitOfPlace is k) (let z = all k h in omega arith))
+          none (λ k h. after-fuzzy (hitAt l (getD is k 0)) (fitOfPlace is k) (let z = all k h in omega arith))
       by-place (first k inside less before all) = by-fit k (fitOfPlace is k) refl inside less before all
 
 -- Before none, anything is preferred.
 before-none : (x : Found) → prefer rankOf found.None x ≡ x
 unfolding prefer
 before-none found.None = refl
-before-none (found.Exact label) = refl
-before-none (found.Fuzzy label reason) = refl
+before-none (found.Exact hit) = refl
+before-none (found.Fuzzy hit reason) = refl
 
 -- "a single fit is the search of a list of one record"
 pub single

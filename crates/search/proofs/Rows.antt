@@ -24,8 +24,8 @@ use Rattle.search.proofs.Fits.{gate-fails}
 -- What does not fit comes last.
 last-rank : (x : Found) → rankOf x ≤ unranked
 last-rank found.None = omega arith
-last-rank (found.Exact label) = omega arith
-last-rank (found.Fuzzy label reason) = omega arith
+last-rank (found.Exact hit) = omega arith
+last-rank (found.Fuzzy hit reason) = omega arith
 
 -- Every record between two fails the gates, and so does one more.
 pub one-farther

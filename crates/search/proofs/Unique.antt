@@ -1,6 +1,7 @@
--- Exactly one result meets each function's own contract.
-use Prim.Native.Nat.{ℕ}
+-- Exactly one result meets each public function's own contract.
+-- tools/promises makes this file from the contracts, and the gate holds it to them.
 use mathlib.Core.List.{List}
+use Prim.Native.Nat.{ℕ}
 use contract.Lifetimes.{Lfts}
 use denote.Ref.{RefT, now}
 use Rattle.basis.specs.Unique.{ExactlyOne}
@@ -9,12 +10,15 @@ use Rattle.observable.specs.declared.TcpObservation.{TcpObservation}
 use Rattle.found.specs.declared.Found.{Found}
 use Rattle.search.specs.declared.SearchAnswer.{SearchAnswer}
 use Rattle.search.specs.Search.{searchAll, searchList}
-use Rattle.search.proofs.search_checked.Reads as search-checked'
 use Rattle.search.proofs.search.Reads as search'
+use Rattle.search.proofs.search_checked.Reads as search-checked'
 
-module _ (κs : Lfts 1) (list : RefT (List ℕ)) where
-  pub search-checked-one : (o : TcpObservation) → ExactlyOne Found (λ (r : Found). search-checked'.Post κs (o, (list, tt)) r (o, (list, tt)))
-  search-checked-one o = equation (searchAll o (now list))
+pub search-checked-one
+    : (κs : Lfts 1) (observed : TcpObservation) (list : RefT (List ℕ))
+    → ExactlyOne Found (λ (r : Found). search-checked'.Post κs (observed, (list, tt)) r (observed, (list, tt)))
+search-checked-one κs observed list = equation (searchAll observed (now list))
 
-  pub search-one : (o : TcpObservation) → ExactlyOne SearchAnswer (λ (r : SearchAnswer). search'.Post κs (o, (list, tt)) r (o, (list, tt)))
-  search-one o = equation (searchList o (now list))
+pub search-one
+    : (κs : Lfts 1) (observed : TcpObservation) (list : RefT (List ℕ))
+    → ExactlyOne SearchAnswer (λ (r : SearchAnswer). search'.Post κs (observed, (list, tt)) r (observed, (list, tt)))
+search-one κs observed list = equation (searchList observed (now list))

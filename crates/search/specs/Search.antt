@@ -10,9 +10,10 @@ use Rattle.matching.specs.declared.Features.{Features}
 use Rattle.matching.specs.declared.SignatureFit.{SignatureFit}
 use Rattle.matching.specs.declared.SignatureFit.the-variants as fit
 use Rattle.matching.specs.Fit.{featuresOf, fitOf}
+use Rattle.found.specs.declared.Hit.{Hit}
 use Rattle.found.specs.declared.Found.{Found}
 use Rattle.found.specs.declared.Found.the-variants as found
-use Rattle.found.specs.Least.{Place, nowhere, at, firstLeast, numbersFrom}
+use Rattle.found.specs.Least.{Place, nowhere, at, prefer, firstLeast, numbersFrom}
 use Rattle.found.specs.Rank.{foundOf, rankOf}
 use Rattle.refusals.specs.declared.Refusal.the-variants as refusal
 use Rattle.refusals.specs.Refusals.{Verdict, listRefused, numberOf}
@@ -30,14 +31,18 @@ fitAt f kinds bytes l i =
     (fitOf f kinds bytes (signatureOf (recordAt l i)) (entryCount (recordAt l i)) (entriesOf l (recordAt l i)))
     fit.None
 
+-- Record i as a search names it: by its label, and by its number in the list.
+abbrev pub hitAt : List ℕ → ℕ → Hit
+hitAt l i = record { label = labelOf (recordAt l i); number = i }
+
 -- What is found in record i alone, and the record's rank.
 unfoldable pub candidateAt : Features → List ℕ → List ℕ → List ℕ → ℕ → Found
-candidateAt f kinds bytes l i = foundOf (labelOf (recordAt l i)) (fitAt f kinds bytes l i)
+candidateAt f kinds bytes l i = foundOf (hitAt l i) (fitAt f kinds bytes l i)
 
 unfoldable pub rankAt : Features → List ℕ → List ℕ → List ℕ → ℕ → ℕ
 rankAt f kinds bytes l i = rankOf (candidateAt f kinds bytes l i)
 
--- What is read at a place: label, fitness and reason of its record.
+-- What is read at a place: its record, fitness and reason.
 unfoldable pub foundAt : Features → List ℕ → List ℕ → List ℕ → Place → Found
 foundAt f kinds bytes l nowhere = found.None
 foundAt f kinds bytes l (at i) = candidateAt f kinds bytes l i
@@ -45,6 +50,13 @@ foundAt f kinds bytes l (at i) = candidateAt f kinds bytes l i
 -- The search of a row of record numbers: what is read at the first number of least rank.
 unfoldable pub searchRow : Features → List ℕ → List ℕ → List ℕ → List ℕ → Found
 searchRow f kinds bytes l is = foundAt f kinds bytes l (firstLeast (rankAt f kinds bytes l) is)
+
+-- The search of all records, in list order, and what it holds after record i.
+abbrev pub searchRecords : Features → List ℕ → List ℕ → List ℕ → Found
+searchRecords f kinds bytes l = searchRow f kinds bytes l (numbersFrom 0 (recordCount l))
+
+abbrev pub heldAfter : Found → Features → List ℕ → List ℕ → List ℕ → ℕ → Found
+heldAfter held f kinds bytes l i = prefer rankOf held (candidateAt f kinds bytes l i)
 
 -- The search of a row of record numbers for an observation, and the plain search: of all records in list order.
 unfoldable pub searchOver : List ℕ → TcpObservation → List ℕ → Found

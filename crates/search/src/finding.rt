@@ -1,43 +1,30 @@
 // The search: how a record fits, and the row of records.
 ghost use mathlib.Core.Path.{_≡_};
-ghost use mathlib.Core.Bool.{true, _&&_};
-ghost use lib.Dec.{leb};
+ghost use mathlib.Core.Bool.{true};
 ghost use Rattle.matching.specs.Fit.{passes};
 ghost use Prim.Native.Nat.{_+_, _*_, _≤_, _<_};
 ghost use lib.ListN.{length};
 ghost use Rattle.siglist.specs.List.{recordAt, AreasFit};
-ghost use Rattle.found.specs.Least.{prefer, numbersFrom};
-ghost use Rattle.found.specs.Rank.{rankOf};
-ghost use Rattle.search.specs.Candidate.{holds, candidateFit};
+ghost use Rattle.search.specs.Candidate.{holds};
 ghost use Rattle.search.specs.Next.{Next};
-ghost use Rattle.search.specs.Search.{candidateAt, searchRow};
+ghost use Rattle.search.specs.Search.{heldAfter, searchRecords};
 use found::Found;
+use found::Hit;
 use found::found_of;
 use found::is_none;
 use found::prefer_found;
 use found::rank_of;
 use matching::Features;
-use matching::SignatureFit;
 use matching::olayout_matches;
 use matching::passes_gates;
 use matching::tolerance;
 use siglist::Areas;
+use siglist::entries_lie;
 use siglist::record_at;
 use sigrecord::entry_count;
 use sigrecord::first_entry;
 use sigrecord::label_of;
 use sigrecord::scalars_well_formed;
-
-// Whether so many entries from one on lie within the layout area.
-pub(crate) fn entries_lie(areas: Areas, first: usize, count: usize) -> bool
-    requires { ⌜ first < 65536 ⌝ }
-    ensures { λ r. ⌜ r ≡ leb count 40 && leb (first + count) (areas .entries) ⌝ }
-{
-    if 40 < count {
-        return false;
-    }
-    first + count <= areas.entries as usize
-}
 
 // Whether a record's layout is the observation's, and the record well formed.
 pub(crate) fn record_holds(
@@ -51,44 +38,22 @@ pub(crate) fn record_holds(
     requires { ⌜ AreasFit (now list) areas ⌝ }
     ensures { λ r. ⌜ r ≡ holds count (now (kinds .entry)) (now (bytes .entry)) (now (list .entry)) (now (raw .entry)) ⌝ }
 {
-    let first = first_entry(raw) as usize;
-    let declared = entry_count(raw) as usize;
+    let first = first_entry(raw);
+    let declared = entry_count(raw);
     if !entries_lie(areas, first, declared) {
         return false;
     }
-    let start = areas.entries_offset as usize + 2 * first;
-    let end = start + 2 * declared;
+    let start = areas.entries_offset as usize + 2 * first as usize;
+    let end = start + 2 * declared as usize;
     let entries = &list[start..end];
-    if !olayout_matches(kinds, bytes, count, entries, declared) {
+    if !olayout_matches(kinds, bytes, count, entries, declared as usize) {
         return false;
     }
     scalars_well_formed(raw)
 }
 
-// How a record that passes the gates fits. TTL and quirks come first: only of a record that passes them too is it asked whether it
-// is well formed.
-pub(crate) fn candidate_fit(
-    observed: Features,
-    kinds: &[u8],
-    bytes: &[u8],
-    list: &[u8],
-    areas: Areas,
-    raw: &[u8],
-) -> SignatureFit
-    requires { ⌜ AreasFit (now list) areas ⌝ }
-    ensures { λ r. ⌜ r ≡ candidateFit observed (now (kinds .entry)) (now (bytes .entry)) (now (list .entry)) (now (raw .entry)) ⌝ }
-{
-    let fit = tolerance(observed, raw);
-    if is_none(fit) {
-        return SignatureFit::None;
-    }
-    if !record_holds(observed.count, kinds, bytes, list, areas, raw) {
-        return SignatureFit::None;
-    }
-    fit
-}
-
-// What is held after record i, which passes the gates: its label is read only if it fits.
+// What is held after record i, which passes the gates. TTL and quirks come first: only of a record that passes them too is it asked
+// whether it is well formed, and its label is read only if it fits.
 pub(crate) fn search_step(
     held: Found,
     observed: Features,
@@ -99,14 +64,21 @@ pub(crate) fn search_step(
     i: usize,
 ) -> Found
     requires { ⌜ AreasFit (now list) areas × (i < areas .records) × (passes observed (recordAt (now list) i) ≡ true) ⌝ }
-    ensures { λ r. ⌜ r ≡ prefer rankOf held (candidateAt observed (now (kinds .entry)) (now (bytes .entry)) (now (list .entry)) i) ⌝ }
+    ensures { λ r. ⌜ r ≡ heldAfter held observed (now (kinds .entry)) (now (bytes .entry)) (now (list .entry)) i ⌝ }
 {
     let raw = record_at(list, areas, i);
-    let fit = candidate_fit(observed, kinds, bytes, list, areas, raw);
+    let fit = tolerance(observed, raw);
     if is_none(fit) {
         return held;
     }
-    prefer_found(held, found_of(label_of(raw), fit))
+    if !record_holds(observed.count, kinds, bytes, list, areas, raw) {
+        return held;
+    }
+    let hit = Hit {
+        label: label_of(raw),
+        number: i as u16,
+    };
+    prefer_found(held, found_of(hit, fit))
 }
 
 // The first record from one on that passes the gates, or the end.
@@ -133,8 +105,7 @@ pub(crate) fn search_records(
     areas: Areas,
 ) -> Found
     requires { ⌜ AreasFit (now list) areas ⌝ }
-    ensures { λ r. ⌜ r ≡ searchRow observed (now (kinds .entry)) (now (bytes .entry)) (now (list .entry))
-        (numbersFrom 0 (areas .records)) ⌝ }
+    ensures { λ r. ⌜ r ≡ searchRecords observed (now (kinds .entry)) (now (bytes .entry)) (now (list .entry)) ⌝ }
 {
     let count = areas.records as usize;
     let mut held = Found::None;

@@ -30,7 +30,14 @@ unfolding recordsFrom
 checked l i zero = all-good (λ j h k. absurd (omega arith))
 checked l i (suc n) = by-test (recordGood l i) refl (checked l (i + 1) n)
   where
-    from-here : (m : ℕ) → recordGood l i ≡ true → ((j : ℕ) → i + 1 ≤ j → j < m → recordGood l j ≡ true) → (j : ℕ) → i ≤ j → j < m → recordGood l j ≡ true
+    from-here
+        : (m : ℕ)
+        → recordGood l i ≡ true
+        → ((j : ℕ) → i + 1 ≤ j → j < m → recordGood l j ≡ true)
+        → (j : ℕ)
+        → i ≤ j
+        → j < m
+        → recordGood l j ≡ true
     from-here m here later j h k =
         elim (native.Mathlib.Decide.ℕ-discrete i j) [ yes e ↦ ap (recordGood l) (sym e) ∙ here | no d ↦ later j (omega arith) k ]
 
@@ -46,7 +53,8 @@ checked l i (suc n) = by-test (recordGood l i) refl (checked l (i + 1) n)
     by-test true e rest = later e rest
     by-test false e rest = first-bad i (omega arith) (omega arith) e (λ j h k. absurd (omega arith))
 
--- "10: a list record is bad; index of the first, from 0": of a list that fits, either all records are well formed or the first bad one is named.
+-- "10: a list record is bad; index of the first, from 0": of a list that fits, either all records are well formed or the first bad one
+-- is named.
 pub first-bad-named : (l : List ℕ) → listFits l ≡ true → Checked l 0 (recordCount l) (checkList l)
 unfolding checkList
 first-bad-named l e = rw e (checked l 0 (recordCount l))

@@ -16,7 +16,7 @@ use Rattle.siglist.specs.declared.Header.the-variants as header
 use Rattle.siglist.specs.declared.ListAnswer.the-variants as answer
 use Rattle.refusals.specs.declared.ListRefusal.the-variants as refusal
 use Rattle.siglist.specs.List.{recordCount, recordsOffset, layoutCount, layoutOffset, areaFits, listFits, areasOf, headerOf}
-use Rattle.siglist.specs.List.{AreasFit, recordStart, recordAt, recordOf, recordGood, recordsFrom}
+use Rattle.siglist.specs.List.{AreasFit, recordStart, recordAt, recordOf, entriesLie, recordGood, recordsFrom}
 
 -- A list that fits has a whole header.
 pub header-fits : (l : List ℕ) → listFits l ≡ true → 8 ≤ length l
@@ -100,6 +100,10 @@ header-none l e = by-test (listFits l) e
 pub record-whole : (l : List ℕ) (a : Areas) (i : ℕ) → AreasFit l a → i < a .records → length (recordAt l i) ≡ 24
 record-whole l a i fits inside =
     part-length (recordStart l i) (recordStart l i + 24) l (omega arith) ∙ omega arith
+
+-- Entries that lie within the area end there at the latest.
+pub lie-within : (n first count : ℕ) → entriesLie n first count ≡ true → first + count ≤ n
+lie-within n first count e = leb-true (first + count) n (and-right (leb count 40) (leb (first + count) n) e)
 
 -- A row of so many entries, two bytes each, has so many.
 pub row-of : (l : List ℕ) (start count : ℕ) → start + 2 * count ≤ length l → length (part start (start + 2 * count) l) / 2 ≡ count

@@ -79,10 +79,13 @@ entriesFrom l first count = part (layoutOffset l + 2 * first) (layoutOffset l + 
 abbrev pub entriesOf : List ℕ → List ℕ → List ℕ
 entriesOf l r = entriesFrom l (firstEntry r) (entryCount r)
 
--- "its layout exceeds 40 entries, has first entry plus count above the entry count, or holds a bad entry"
+-- "its layout exceeds 40 entries, has first entry plus count above the entry count": neither is so, of n entries.
+abbrev pub entriesLie : ℕ → ℕ → ℕ → Bool
+entriesLie n first count = leb count 40 && leb (first + count) n
+
+-- ", or holds a bad entry": nor that.
 unfoldable pub layoutLies : List ℕ → ℕ → ℕ → Bool
-layoutLies l first count =
-    leb count 40 && leb (first + count) (layoutCount l) && entriesGood (entriesFrom l first count) count
+layoutLies l first count = entriesLie (layoutCount l) first count && entriesGood (entriesFrom l first count) count
 
 -- A record is well formed if no condition makes it bad.
 unfoldable pub recordGood : List ℕ → ℕ → Bool

@@ -2,7 +2,8 @@
 ghost use mathlib.Core.Path.{_≡_};
 ghost use Prim.Native.Nat.{_+_, _*_, _≤_, _<_};
 ghost use lib.ListN.{length};
-ghost use Rattle.siglist.specs.List.{areaFits, listFits, areasOf, headerOf, AreasFit, recordOf, layoutLies, recordGood, checkList};
+ghost use Rattle.siglist.specs.List.{areaFits, listFits, areasOf, headerOf, AreasFit, recordOf, entriesLie, layoutLies};
+ghost use Rattle.siglist.specs.List.{recordGood, checkList};
 use numbers::be16_at;
 use refusals::ListRefusal;
 use sigrecord::RECORD;
@@ -51,12 +52,6 @@ fn records_fit(list: &[u8], areas: Areas) -> bool
     areas.records_offset as usize + RECORD * areas.records as usize <= list.len()
 }
 
-fn entries_fit(list: &[u8], areas: Areas) -> bool
-    ensures { λ r. ⌜ r ≡ areaFits (areas .«entries_offset») (2 * areas .entries) (now (list .entry)) ⌝ }
-{
-    areas.entries_offset as usize + 2 * areas.entries as usize <= list.len()
-}
-
 fn list_fits(list: &[u8]) -> bool
     ensures { λ r. ⌜ r ≡ listFits (now (list .entry)) ⌝ }
 {
@@ -67,7 +62,7 @@ fn list_fits(list: &[u8]) -> bool
     if !records_fit(list, areas) {
         return false;
     }
-    entries_fit(list, areas)
+    areas.entries_offset as usize + 2 * areas.entries as usize <= list.len()
 }
 
 // A list's header, if it and its areas fit.
@@ -95,22 +90,25 @@ pub fn record_at<'a>(list: &'a [u8], areas: Areas, i: usize) -> &'a [u8]
     &list[start..end]
 }
 
-fn layout_good(list: &[u8], areas: Areas, first: usize, count: usize) -> bool
-    requires { ⌜ AreasFit (now list) areas ⌝ }
-    ensures { λ r. ⌜ r ≡ layoutLies (now (list .entry)) first count ⌝ }
+// Whether so many entries from one on are few enough for a layout, and lie within the layout area.
+pub fn entries_lie(areas: Areas, first: u16, count: u8) -> bool
+    ensures { λ r. ⌜ r ≡ entriesLie (areas .entries) first count ⌝ }
 {
     if 40 < count {
         return false;
     }
-    let entries = areas.entries as usize;
-    if entries < count {
+    first as usize + count as usize <= areas.entries as usize
+}
+
+fn layout_good(list: &[u8], areas: Areas, first: u16, count: u8) -> bool
+    requires { ⌜ AreasFit (now list) areas ⌝ }
+    ensures { λ r. ⌜ r ≡ layoutLies (now (list .entry)) first count ⌝ }
+{
+    if !entries_lie(areas, first, count) {
         return false;
     }
-    if entries - count < first {
-        return false;
-    }
-    let start = areas.entries_offset as usize + 2 * first;
-    let end = start + 2 * count;
+    let start = areas.entries_offset as usize + 2 * first as usize;
+    let end = start + 2 * count as usize;
     entries_good(&list[start..end])
 }
 
@@ -122,12 +120,7 @@ fn record_good(list: &[u8], areas: Areas, i: usize) -> bool
     if !scalars_well_formed(raw) {
         return false;
     }
-    layout_good(
-        list,
-        areas,
-        first_entry(raw) as usize,
-        entry_count(raw) as usize,
-    )
+    layout_good(list, areas, first_entry(raw), entry_count(raw))
 }
 
 // A list is well formed, or refused by 9, or by 10 with the index of its first bad record.

@@ -102,14 +102,11 @@ pub struct Signature {
 pub fn version_of(raw: &[u8]) -> SigVersion
     ensures { λ r. ⌜ r ≡ signatureOf (now (raw .entry)) .version ⌝ }
 {
-    let code = byte_at(raw, VERSION);
-    if code == 4 {
-        return SigVersion::V4;
+    match byte_at(raw, VERSION) {
+        4 => SigVersion::V4,
+        6 => SigVersion::V6,
+        _ => SigVersion::Any,
     }
-    if code == 6 {
-        return SigVersion::V6;
-    }
-    SigVersion::Any
 }
 
 pub fn ttl_of(raw: &[u8]) -> Ttl
@@ -117,16 +114,12 @@ pub fn ttl_of(raw: &[u8]) -> Ttl
 {
     let form = byte_at(raw, TTL_FORM);
     let ttl = byte_at(raw, TTL);
-    if form == 0 {
-        return Ttl::Value(ttl);
+    match form {
+        0 => Ttl::Value(ttl),
+        1 => Ttl::Distance(ttl, byte_at(raw, DISTANCE)),
+        2 => Ttl::Guess(ttl),
+        _ => Ttl::Bad(ttl),
     }
-    if form == 1 {
-        return Ttl::Distance(ttl, byte_at(raw, DISTANCE));
-    }
-    if form == 2 {
-        return Ttl::Guess(ttl);
-    }
-    Ttl::Bad(ttl)
 }
 
 pub fn mss_of(raw: &[u8]) -> Mss
@@ -143,19 +136,13 @@ pub fn window_of(raw: &[u8]) -> WindowSize
 {
     let form = byte_at(raw, WINDOW_FORM);
     let number = be16_at(raw, WINDOW);
-    if form == 0 {
-        return WindowSize::Any;
+    match form {
+        0 => WindowSize::Any,
+        1 => WindowSize::Value(number),
+        2 => WindowSize::Mod(number),
+        3 => WindowSize::Mss((number % 256) as u8),
+        _ => WindowSize::Mtu((number % 256) as u8),
     }
-    if form == 1 {
-        return WindowSize::Value(number);
-    }
-    if form == 2 {
-        return WindowSize::Mod(number);
-    }
-    if form == 3 {
-        return WindowSize::Mss((number % 256) as u8);
-    }
-    WindowSize::Mtu((number % 256) as u8)
 }
 
 pub fn scale_of(raw: &[u8]) -> Wscale
@@ -170,14 +157,11 @@ pub fn scale_of(raw: &[u8]) -> Wscale
 fn payload_of(raw: &[u8]) -> SigPayload
     ensures { λ r. ⌜ r ≡ signatureOf (now (raw .entry)) .pclass ⌝ }
 {
-    let code = byte_at(raw, PAYLOAD);
-    if code == 0 {
-        return SigPayload::Zero;
+    match byte_at(raw, PAYLOAD) {
+        0 => SigPayload::Zero,
+        1 => SigPayload::NonZero,
+        _ => SigPayload::Any,
     }
-    if code == 1 {
-        return SigPayload::NonZero;
-    }
-    SigPayload::Any
 }
 
 pub fn quirks_of(raw: &[u8]) -> QuirkSet

@@ -5,7 +5,8 @@ use mathlib.Core.List.{List, [], _∷_}
 use Prim.Native.Nat.{ℕ, zero, suc, _+_, _≤_}
 use native.Mathlib.Omega.{arith}
 use lib.Dec.{ltb}
-use lib.ListN.{length, take, length-take, replicate, getD-replicate}
+use native.Mathlib.Decide.{decLe}
+use lib.ListN.{length, take, length-take, replicate, getD-replicate, List·getD-eq-default}
 use lib.Seq.{getD-set-other}
 use Rattle.basis.specs.Bytes.{byteAt}
 use Rattle.quirks.specs.declared.QuirkSet.{QuirkSet}
@@ -78,7 +79,7 @@ walk-tidy stop syn w (o ∷ os) tidy =
     by-test false rest = rest
 
 pub zero-row : (i : ℕ) → byteAt (replicate 40 0) i ≡ 0
-zero-row i = elim (native.Mathlib.Decide.decLe 40 i) [ yes h ↦ lib.ListN.List·getD-eq-default (replicate 40 0) 0 h | no h ↦ getD-replicate 40 i 0 0 (omega arith) ]
+zero-row i = elim (decLe 40 i) [ yes h ↦ List·getD-eq-default (replicate 40 0) 0 h | no h ↦ getD-replicate 40 i 0 0 (omega arith) ]
 
 -- "entries past it 0"
 pub past-count : (stop syn : Bool) (quirks : QuirkSet) (s : List ℕ) → Tidy (walkOf stop syn quirks s .olayout)

@@ -1,5 +1,6 @@
 -- The walk over the options: layout, MSS, scale and quirks (document 01, "Headers and options").
-use Prim.Native.Nat.{ℕ, _+_}
+use mathlib.Core.Path.{_≡_}
+use Prim.Native.Nat.{ℕ, _+_, _<_, _≤_}
 use mathlib.Core.Bool.{Bool, true, false, cond, _&&_}
 use mathlib.Core.List.{List, [], _∷_}
 use lib.Dec.{eqb, ltb}
@@ -16,8 +17,17 @@ use Rattle.syn_options.specs.declared.ParsedTcpOptions.{ParsedTcpOptions
 use Rattle.syn_options.specs.declared.OptionsAnswer.{OptionsAnswer}
 use Rattle.syn_options.specs.declared.OptionsAnswer.the-variants as answer
 use Rattle.syn_options.specs.declared.OptionsRead.{OptionsRead}
-use Rattle.one_option.specs.Options.{Opt, runsPast, optionsOf}
+use Rattle.one_option.specs.declared.OptionStep.{OptionStep}
+use Rattle.one_option.specs.Options.{Opt, runsPast, optionsOf, stepOf}
 use Rattle.one_option.specs.See.{seeOption}
+
+-- ---- one option
+
+-- The option at a place of a string: it ends behind its kind byte, and within the string.
+pub record StepInside (s : List ℕ) (at : ℕ) (step : OptionStep) : Type 0 where
+  pub is : step ≡ stepOf s at
+  pub behind : at < step .end
+  pub within : step .end ≤ length s
 
 -- ---- one entry
 

@@ -1,11 +1,10 @@
 // syn_options.rs, and the option walk of flow.rs: one walk, which stops before an option that runs past the end or goes on
 // after clipping it.
 ghost use mathlib.Core.Path.{_≡_};
-ghost use mathlib.Core.Bool.{_&&_};
 ghost use Prim.Native.Nat.{_<_, _≤_};
 ghost use lib.ListN.{length};
-ghost use Rattle.one_option.specs.Options.{optionsOf, stepOf};
-ghost use Rattle.syn_options.specs.Walk.{entryByte, startWalk, walkFrom, walkOf, parsedOf, parseOptionsRaw};
+ghost use Rattle.one_option.specs.Options.{optionsOf};
+ghost use Rattle.syn_options.specs.Walk.{StepInside, entryByte, startWalk, walkFrom, walkOf, parsedOf, parseOptionsRaw};
 use numbers::least;
 use one_option::OptionStep;
 use one_option::Seen;
@@ -53,25 +52,6 @@ pub struct OptionsRead {
 
 // ---- the walk
 
-// Nothing seen yet, but for quirks of the headers.
-fn start_walk(quirks: QuirkSet) -> Walked
-    ensures { λ r. ⌜ r ≡ startWalk quirks ⌝ }
-{
-    Walked {
-        olayout: Layout {
-            kinds: [0u8; 40],
-            bytes: [0u8; 40],
-            count: 0,
-        },
-        seen: Seen {
-            mss: Mss::Absent,
-            wscale: Wscale::Absent,
-            quirks,
-        },
-        malformed: false,
-    }
-}
-
 fn entry_byte(kind: u8, left: usize) -> u8
     requires { ⌜ left ≤ 40 ⌝ }
     ensures { λ r. ⌜ r ≡ entryByte kind left ⌝ }
@@ -79,17 +59,10 @@ fn entry_byte(kind: u8, left: usize) -> u8
     if kind == EOL { left as u8 } else { 0 }
 }
 
-// A walk that is to stop stops before an option that runs past the end.
-fn stops(stop: bool, past: bool) -> bool
-    ensures { λ r. ⌜ r ≡ stop && past ⌝ }
-{
-    if stop { past } else { false }
-}
-
 // The option at a place of the string: it ends behind its kind byte, and within the string.
 fn step_inside(options: &[u8], at: usize) -> OptionStep
     requires { ⌜ at < length (now options) ⌝ }
-    ensures { λ r. ⌜ (r ≡ stepOf (now (options .entry)) at) × (at < r .end) × (r .end ≤ length (now (options .entry))) ⌝ }
+    ensures { λ r. ⌜ StepInside (now (options .entry)) at r ⌝ }
 {
     option_step(options, at)
 }
@@ -100,8 +73,11 @@ fn walk_part(options: &[u8], stop: bool, syn: bool, quirks: QuirkSet) -> Walked
     requires { ⌜ length (now options) ≤ 40 ⌝ }
     ensures { λ r. ⌜ r ≡ walkFrom stop syn (startWalk quirks) (optionsOf (now (options .entry))) ⌝ }
 {
-    let first = start_walk(quirks);
-    let mut olayout = first.olayout;
+    let mut olayout = Layout {
+        kinds: [0u8; 40],
+        bytes: [0u8; 40],
+        count: 0,
+    };
     let mut count = 0;
     let mut mss = Mss::Absent;
     let mut wscale = Wscale::Absent;
@@ -110,7 +86,7 @@ fn walk_part(options: &[u8], stop: bool, syn: bool, quirks: QuirkSet) -> Walked
     let mut at = 0;
     while at < options.len() {
         let step = step_inside(options, at);
-        if stops(stop, step.past) {
+        if stop & step.past {
             malformed = true;
             break;
         }
@@ -119,9 +95,10 @@ fn walk_part(options: &[u8], stop: bool, syn: bool, quirks: QuirkSet) -> Walked
         olayout.kinds[count] = step.kind;
         olayout.bytes[count] = entry_byte(step.kind, end - start);
         count += 1;
-        mss = later_mss(step.kind, &options[start..end], mss);
-        wscale = later_scale(step.kind, &options[start..end], wscale);
-        shown = later_quirks(step.kind, &options[start..end], syn, shown);
+        let own = &options[start..end];
+        mss = later_mss(step.kind, own, mss);
+        wscale = later_scale(step.kind, own, wscale);
+        shown = later_quirks(step.kind, own, syn, shown);
         at = end;
     }
     olayout.count = count;
@@ -168,7 +145,16 @@ pub fn parse_options_raw(buf: &[u8]) -> OptionsRead
     if MOST_OPTIONS < buf.len() {
         return OptionsRead {
             answer: OptionsAnswer::Refused,
-            options: parsed(start_walk(QuirkSet::EMPTY)),
+            options: ParsedTcpOptions {
+                olayout: Layout {
+                    kinds: [0u8; 40],
+                    bytes: [0u8; 40],
+                    count: 0,
+                },
+                mss: Mss::Absent,
+                wscale: Wscale::Absent,
+                malformed: false,
+            },
         };
     }
     OptionsRead {

@@ -27,11 +27,11 @@ zero-of-bits got fits e = sym (toZ-ofZ {w = w64} {z = got} fits) ∙ ap (λ (n :
 pub not-zero-of-bits : (got : ℤ) → (ofZ w64 got ≡ 0 → ⊥) → got ≡ pos 0 → ⊥
 not-zero-of-bits got bits e = bits (ap (λ (z : ℤ). ofZ w64 z) e)
 
--- What `io::count` makes of an answer.
-pub count-of-bits : (got : ℤ) (size size' n : ℕ) → SFits w64 got → size' ≡ size → n ≡ clamped (toZ w64 (ofZ w64 got)) size'
-    → n ≡ clamped got size
-count-of-bits got size size' n fits same e =
-    e ∙ (ap (λ (z : ℤ). clamped z size') (toZ-ofZ {w = w64} {z = got} fits) ∙ ap (λ (m : ℕ). clamped got m) same)
+-- What `io::count` makes of an answer, from its two promises: the second says the number.
+pub count-of-bits : {P : Type 0} (got : ℤ) (size size' n : ℕ) → SFits w64 got → size' ≡ size
+    → P × (n ≡ clamped (toZ w64 (ofZ w64 got)) size') → clamped got size ≡ n
+count-of-bits got size size' n fits same told =
+    sym (told .1 ∙ (ap (λ (z : ℤ). clamped z size') (toZ-ofZ {w = w64} {z = got} fits) ∙ ap (λ (m : ℕ). clamped got m) same))
 
 -- ---- whether another call is made
 
@@ -66,16 +66,16 @@ read-of count size size' got fits same read =
 
 pub said-failed : (count size : ℕ) (got : ℤ) → ReadAt count size got → ltZ got (pos 0) ≡ true → ReadSaid count (negsuc 0)
 said-failed count size (pos k) read e = absurd (omega (arith, ltb-true k 0 e))
-said-failed count size (negsuc k) read e = subst (λ (n : ℕ). ReadSaid count (negsuc n)) (read .0) (read .1)
+said-failed count size (negsuc k) read e = subst (λ (n : ℕ). ReadSaid count (negsuc n)) (read .moved) (read .said)
 
 pub said-none : (count size : ℕ) (got : ℤ) → ReadAt count size got → got ≡ pos 0 → ReadSaid count (pos 0)
-said-none count size got read e = subst (λ (z : ℤ). ReadSaid count z) e (read .1)
+said-none count size got read e = subst (λ (z : ℤ). ReadSaid count z) e (read .said)
 
 pub said-one : (count : ℕ) (got : ℤ) → ReadAt count 1 got → ltZ got (pos 0) ≡ false → (got ≡ pos 0 → ⊥) → ReadSaid count (pos 1)
 said-one count (pos zero) read e none = absurd (none refl)
 said-one count (pos (suc k)) read e none =
-    let one : suc k ≡ 1 = omega (arith, read .0) in
-    subst (λ (n : ℕ). ReadSaid count (pos n)) one (read .1)
+    let one : suc k ≡ 1 = omega (arith, read .moved) in
+    subst (λ (n : ℕ). ReadSaid count (pos n)) one (read .said)
 said-one count (negsuc k) read e none = absurd (true≢false e)
 
 -- A read that asked for a byte and counts none answered 0.
@@ -83,7 +83,7 @@ pub counts-none : (count size : ℕ) (got : ℤ) → ReadAt count size got → l
     → ReadSaid count (pos 0)
 counts-none count size (pos k) read e some none =
     let zero-bytes : k ≡ 0 = omega (arith, some, none) in
-    subst (λ (n : ℕ). ReadSaid count (pos n)) zero-bytes (read .1)
+    subst (λ (n : ℕ). ReadSaid count (pos n)) zero-bytes (read .said)
 counts-none count size (negsuc k) read e some none = absurd (true≢false e)
 
 -- Behind what came there is room for a byte.

@@ -98,7 +98,9 @@ turned b longer taken page page' p r fits h paged =
     let next = nextPage b (p .left) (p .at) in
     let output = outputOfInput b longer in
     let rest = linesOf (answersFrom b (p .at) (p .left)) in
-    let after = subst (λ (n : ℕ). ToCome output (taken + n) rest) (length-take-le (p .filled) page fits) (come-next output taken (take (p .filled) page) rest h) in
+    let after =
+    subst (λ (n : ℕ). ToCome output (taken + n) rest) (length-take-le (p .filled) page fits)
+    (come-next output taken (take (p .filled) page) rest h) in
     (after .0, after .1 ∙ rw (paged .0, paged .1, begins page (next .text)) (sym (page-and-rest b 0 (p .at) (p .left))))
 
 pub turned-fits : (b : List ℕ) (page page' : List ℕ) (p r : Progress) → Paged page (nextPage b (p .left) (p .at)) r page'

@@ -21,8 +21,10 @@ pub ReadSaid : ℕ → ℤ → Type 0
 ReadSaid count got = Unit {0}
 
 -- What is known of a read behind so many bytes that asked for `size`: POSIX's `read` answers -1, or how many came.
-abbrev pub ReadAt : ℕ → ℕ → ℤ → Type 0
-ReadAt count size got = Moved size got × ReadSaid count got × Came (count + clamped got size)
+pub record ReadAt (count size : ℕ) (got : ℤ) : Type 0 where
+  pub moved : Moved size got
+  pub said : ReadSaid count got
+  pub came : Came (count + clamped got size)
 
 -- Before the first read none came.
 pub nothing-came : Came 0
@@ -32,7 +34,7 @@ nothing-came = tt
 -- A read that asked for `size` bytes, one at least, behind those that came, answered `got`.
 pub read-said : (count size : ℕ) (got : ℤ) → Came count → 1 ≤ size → Moved size got → ReadAt count size got
 unfolding Came ReadSaid
-read-said count size got came some moved = (moved, tt, tt)
+read-said count size got came some moved = record { moved = moved; said = tt; came = tt }
 
 -- Only a read that failed is made again.
 abbrev pub AgainAt : ℤ → Bool → Type 0
@@ -40,14 +42,20 @@ AgainAt (pos k) again = again ≡ false
 AgainAt (negsuc k) again = Unit {0}
 
 -- What an ending means where so many bytes came into a buffer of that size: the next read answered the input's end (0), a byte more than
--- the buffer holds, or a failure (-1).
+-- the buffer holds (1), or a failure (-1).
 abbrev pub EndsAs : Ending → ℕ → ℕ → Type 0
 EndsAs Whole count size = ReadSaid count (pos 0)
 EndsAs Longer count size = (count ≡ size) × ReadSaid count (pos 1)
 EndsAs Failed count size = ReadSaid count (negsuc 0)
 
+-- What is known of an input that was read into a buffer of that size.
+pub record InputCame (count : ℕ) (ending : Ending) (size : ℕ) : Type 0 where
+  pub within : count ≤ size
+  pub came : Came count
+  pub ends : EndsAs ending count size
+
 -- Of so many bytes answers are given: as of the whole input only where a read answered its end behind them, as of a longer one only where
--- there is a byte more than the 65,535 that a bundle may have.
+-- they are the 65,535 that a bundle may have and a read behind them answered a byte more.
 abbrev pub InputEnds : Bool → ℕ → Type 0
-InputEnds false count = EndsAs Whole count 65535
-InputEnds true count = EndsAs Longer count 65535
+InputEnds false count = ReadSaid count (pos 0)
+InputEnds true count = (count ≡ 65535) × ReadSaid count (pos 1)

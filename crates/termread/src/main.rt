@@ -5,7 +5,7 @@ ghost use Prim.Native.Nat.{_+_, _≤_};
 ghost use lib.ListN.{length};
 ghost use Rattle.report.specs.Pages.{outputOfInput};
 ghost use Rattle.io.specs.Counts.{clamped};
-ghost use Rattle.termread.specs.Came.{Came, ReadAt, AgainAt, EndsAs, InputEnds};
+ghost use Rattle.termread.specs.Came.{Came, ReadAt, AgainAt, EndsAs, InputCame, InputEnds};
 ghost use Rattle.termread.specs.Reached.{Reached, ReachedIf};
 ghost use Rattle.termread.specs.Sending.{Follows, CutAt};
 use libc::STDERR_FILENO;
@@ -49,21 +49,6 @@ fn goes_on() -> bool {
     false
 }
 
-// How the reading of the input ended.
-enum Ending {
-    // The input ended.
-    Whole,
-    // The buffer is full, and the input goes on.
-    Longer,
-    // A read failed.
-    Failed,
-}
-
-struct Input {
-    count: usize,
-    ending: Ending,
-}
-
 // One read, the program's only one. It is told how many bytes came before, and what the last read behind these answered (-1 if there was
 // none): only one that failed is made again. What it answers is `read`'s answer.
 fn read_once(count: usize, last: isize, buffer: &mut [u8]) -> isize
@@ -103,6 +88,22 @@ fn read_some(count: usize, buffer: &mut [u8]) -> isize
     got
 }
 
+// How the reading of the input ended.
+enum Ending {
+    // The input ended.
+    Whole,
+    // The buffer is full, and the input goes on.
+    Longer,
+    // A read failed.
+    Failed,
+}
+
+// What came of the input: so many bytes, and how it ends behind them.
+struct Input {
+    count: usize,
+    ending: Ending,
+}
+
 // Whether the input goes on where the buffer is full: one byte more tells.
 fn after_full(count: usize) -> Ending
     requires { ⌜ Came count ⌝ }
@@ -121,9 +122,7 @@ fn after_full(count: usize) -> Ending
 
 // Reads until the buffer is full, the input ends or a read fails.
 fn read_input(buffer: &mut [u8]) -> Input
-    ensures { λ r. ⌜ r .count ≤ length (now (buffer .exit)) ⌝ }
-    ensures { λ r. ⌜ Came (r .count) ⌝ }
-    ensures { λ r. ⌜ EndsAs (r .ending) (r .count) (length (now (buffer .entry))) ⌝ }
+    ensures { λ r. ⌜ InputCame (r .count) (r .ending) (length (now (buffer .exit))) ⌝ }
 {
     let mut count = 0;
     while count < buffer.len() {
@@ -173,25 +172,6 @@ fn ends_at(got: isize) -> bool
     !goes_on()
 }
 
-// What became of a text: how many of its bytes standard output took, and whether the output is cut there.
-struct Sent {
-    taken: usize,
-    cut: bool,
-}
-
-fn write_some(bundle: &[u8], longer: bool, taken: usize, text: &[u8]) -> Sent
-    requires { ⌜ Reached taken ⌝ }
-    requires { ⌜ Follows (outputOfInput (now bundle) longer) taken (now text) ⌝ }
-    ensures { λ r. ⌜ r .taken ≤ length (now (text .entry)) ⌝ }
-    ensures { λ r. ⌜ Reached (taken + r .taken) ⌝ }
-{
-    let got = write_once(bundle, longer, taken, text);
-    Sent {
-        taken: io::count(got, text),
-        cut: ends_at(got),
-    }
-}
-
 // Writes until all of the text is taken or the output is cut. Whether all of it was taken. (The bound is one page more than PAGES: no sum
 // wraps.)
 fn send(bundle: &[u8], longer: bool, taken: usize, text: &[u8]) -> bool
@@ -206,12 +186,12 @@ fn send(bundle: &[u8], longer: bool, taken: usize, text: &[u8]) -> bool
         if from == text.len() {
             return true;
         }
-        let sent = write_some(bundle, longer, taken + from, &text[from..]);
-        let count = sent.taken;
-        if sent.cut {
+        let rest = &text[from..];
+        let got = write_once(bundle, longer, taken + from, rest);
+        if ends_at(got) {
             return false;
         }
-        from += count;
+        from += io::count(got, rest);
         turn += 1;
     }
     false

@@ -154,4 +154,15 @@ module _ (buffer buffer' : List ℕ) (at next n : ℕ) where
       → As (decimal n)
   unfolding decimal width
   five-digits a b c d e l a-is b-is c-is d-is e-is =
-      subst As (rw (le-ltb n 10 (omega arith), le-ltb n 100 (omega arith), le-ltb n 1000 (omega arith), le-ltb n 10000 l, a-is, b-is, c-is, d-is, e-is))
+      subst As
+      (rw (
+        le-ltb n 10 (omega arith),
+        le-ltb n 100 (omega arith),
+        le-ltb n 1000 (omega arith),
+        le-ltb n 10000 l,
+        a-is,
+        b-is,
+        c-is,
+        d-is,
+        e-is,
+      ))

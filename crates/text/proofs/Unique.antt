@@ -1,41 +1,30 @@
--- Exactly one place, with exactly one buffer behind it, meets each function's own contract.
-use mathlib.Core.Path.{refl, ap₂}
-use Prim.Native.Nat.{ℕ, _+_}
-use mathlib.Core.List.{List, [], _∷_}
-use lib.ListN.{length}
+-- Exactly one result meets each public function's own contract.
+-- tools/promises makes this file from the contracts, and the gate holds it to them.
+use mathlib.Core.List.{List}
+use Prim.Native.Nat.{ℕ}
 use contract.Lifetimes.{Lfts}
-use denote.Ref.{RefT, now}
+use denote.Ref.{RefT}
 use Rattle.basis.specs.Unique.{ExactlyOne}
-use Rattle.text.specs.Written.{written, room, Put, left-with}
-use Rattle.text.specs.Decimal.{decimal}
+use Rattle.basis.proofs.Unique.{both}
+use Rattle.text.specs.Written.{left-with}
 use Rattle.text.proofs.put_byte.Reads as put-byte'
-use Rattle.text.proofs.put_word.Reads as put-word'
 use Rattle.text.proofs.put_decimal.Reads as put-decimal'
+use Rattle.text.proofs.put_word.Reads as put-word'
 
--- A place and the bytes of a buffer, as a promise of both determines them.
-abbrev OnePut : (ℕ → List ℕ → Type 0) → Type 0
-OnePut post = ExactlyOne (ℕ × List ℕ) (λ (r : ℕ × List ℕ). post (r .0) (r .1))
+pub put-byte-one
+    : (κs : Lfts 1) (buffer : RefT (List ℕ)) (at byte : ℕ)
+    → ExactlyOne (ℕ × List ℕ)
+    (λ (r : ℕ × List ℕ). put-byte'.Post κs (buffer, (at, (byte, tt))) (r .0) (left-with buffer (r .1), (at, (byte, tt))))
+put-byte-one κs buffer at byte = both _ _
 
-put-one : (buffer : List ℕ) (at : ℕ) (text : List ℕ) → OnePut (Put buffer at text)
-put-one buffer at text =
-    record {
-      the = (at + length (room buffer at text), written buffer at (room buffer at text));
-      meets = (refl, refl);
-      only = λ r h. ap₂ (λ (n : ℕ) (b : List ℕ). (n, b)) (h .0) (h .1);
-    }
+pub put-word-one
+    : (κs : Lfts 2) (buffer : RefT (List ℕ)) (at : ℕ) (word : RefT (List ℕ))
+    → ExactlyOne (ℕ × List ℕ)
+    (λ (r : ℕ × List ℕ). put-word'.Post κs (buffer, (at, (word, tt))) (r .0) (left-with buffer (r .1), (at, (word, tt))))
+put-word-one κs buffer at word = both _ _
 
-module _ (buffer : RefT (List ℕ)) (at : ℕ) where
-  pub put-byte-one
-      : (κs : Lfts 1) (byte : ℕ)
-      → OnePut (λ next bytes. put-byte'.Post κs (buffer, (at, (byte, tt))) next (left-with buffer bytes, (at, (byte, tt))))
-  put-byte-one κs byte = put-one (now buffer) at (byte ∷ [])
-
-  pub put-word-one
-      : (κs : Lfts 2) (word : RefT (List ℕ))
-      → OnePut (λ next bytes. put-word'.Post κs (buffer, (at, (word, tt))) next (left-with buffer bytes, (at, (word, tt))))
-  put-word-one κs word = put-one (now buffer) at (now word)
-
-  pub put-decimal-one
-      : (κs : Lfts 1) (n : ℕ)
-      → OnePut (λ next bytes. put-decimal'.Post κs (buffer, (at, (n, tt))) next (left-with buffer bytes, (at, (n, tt))))
-  put-decimal-one κs n = put-one (now buffer) at (decimal n)
+pub put-decimal-one
+    : (κs : Lfts 1) (buffer : RefT (List ℕ)) (at n : ℕ)
+    → ExactlyOne (ℕ × List ℕ)
+    (λ (r : ℕ × List ℕ). put-decimal'.Post κs (buffer, (at, (n, tt))) (r .0) (left-with buffer (r .1), (at, (n, tt))))
+put-decimal-one κs buffer at n = both _ _

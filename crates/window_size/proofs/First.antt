@@ -49,7 +49,11 @@ data Answer (window : ℕ) (cs : List Candidate) : Multiplier → Type 0 where
       → Answer window cs (Present (quotient window (candidateAt cs i .size) (candidateAt cs i .ofMtu)))
   none : ((i : ℕ) → i < length cs → Divides window (candidateAt cs i) → ⊥) → Answer window cs Absent
 
-later : (window : ℕ) (c : Candidate) (cs : List Candidate) {m : Multiplier} → test window c ≡ false → Answer window cs m → Answer window (c ∷ cs) m
+later
+    : (window : ℕ) (c : Candidate) (cs : List Candidate) {m : Multiplier}
+    → test window c ≡ false
+    → Answer window cs m
+    → Answer window (c ∷ cs) m
 later window c cs miss (first i at) =
     first (suc i) (record { within = omega (arith, at .within); here = at .here; before = before })
   where
@@ -76,11 +80,19 @@ answer window (c ∷ cs) = by-test (test window c) refl (answer window cs)
         first zero (record { within = omega arith; here = test-divides window c hit; before = λ j h d. omega arith })
     by-test false miss rest = later window c cs miss rest
 
-first-of : (window : ℕ) (cs : List Candidate) {a : Multiplier} (m : WindowMultiplier) → Answer window cs a → a ≡ Present m → FirstOf window cs m
+first-of
+    : (window : ℕ) (cs : List Candidate) {a : Multiplier} (m : WindowMultiplier)
+    → Answer window cs a
+    → a ≡ Present m
+    → FirstOf window cs m
 first-of window cs m (first i at) e = record { place = i; isFirst = at; isQuotient = cc }
 first-of window cs m (none no-one) e = let z : _≡_ {A = ℕ} 0 1 = cc in absurd (omega arith)
 
-some-of : (window : ℕ) (cs : List Candidate) {a : Multiplier} → Answer window cs a → SomeOf window cs → (m : WindowMultiplier) × (a ≡ Present m)
+some-of
+    : (window : ℕ) (cs : List Candidate) {a : Multiplier}
+    → Answer window cs a
+    → SomeOf window cs
+    → (m : WindowMultiplier) × (a ≡ Present m)
 some-of window cs (first i at) s = (quotient window (candidateAt cs i .size) (candidateAt cs i .ofMtu), refl)
 some-of window cs (none no-one) s = absurd (no-one (s .place) (s .within) (s .here))
 

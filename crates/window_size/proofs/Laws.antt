@@ -2,7 +2,7 @@
 use mathlib.Core.Path.{_≡_, refl, sym}
 use mathlib.Core.Bool.{Bool, true, false, cond, not, _&&_, false≢true}
 use mathlib.Core.List.{List, [], _∷_, map}
-use Prim.Native.Nat.{ℕ, zero, suc, _+_, _<_, _≤_}
+use Prim.Native.Nat.{ℕ, zero, suc, _+_, _-_, _<_, _≤_, min}
 use native.Mathlib.Omega.{arith}
 use native.Mathlib.Numerals.{add-one}
 use lib.Dec.{eqb}
@@ -12,13 +12,40 @@ use borrow.Author.Tests.{ne-eqb}
 use Rattle.window_size.specs.declared.Divisor.{Divisor}
 use Rattle.window_size.specs.declared.Multiplier.{Multiplier}
 use Rattle.window_size.specs.declared.Multiplier.the-variants.{Absent, Present}
-use Rattle.window_size.specs.Divisors.{Candidate, divides}
+use Rattle.window_size.specs.Divisors.{Candidate, twelve, held, holding, divides}
 use Rattle.window_size.specs.Multiplier.{quotient, firstMultiple}
+
+-- A divisor of an MSS, or of an MTU, as the code holds it.
+abbrev pub mss : ℕ → Divisor
+mss n = record { size = n; «of_mtu» = false }
+
+abbrev pub mtu : ℕ → Divisor
+mtu n = record { size = n; «of_mtu» = true }
 
 -- A divisor of the peer's MSS needs no test of the peer: it is 0 where the peer is.
 pub of-peer : (peer n : ℕ) → (peer ≡ 0 → n ≡ 0) → cond (not (eqb peer 0)) n 0 ≡ n
 of-peer zero n h = sym (h refl)
 of-peer (suc peer) n h = rw (ne-eqb (suc peer) 0 (omega arith))
+
+-- The row as the code makes it, from what it calls.
+pub row-held
+    : (own headers peer : ℕ) (stamped v6 : Bool) {less stamp v6-40 v6-52 to-40 to-headers to-60 v6-60 peer-less : ℕ}
+    → less ≡ own - 12
+    → stamp ≡ cond stamped less 0
+    → v6-40 ≡ cond v6 1440 0
+    → v6-52 ≡ cond v6 1428 0
+    → to-40 ≡ min (own + 40) 65535
+    → to-headers ≡ min (own + headers) 65535
+    → to-60 ≡ min (own + 60) 65535
+    → v6-60 ≡ cond v6 to-60 0
+    → peer-less ≡ peer - 12
+    → mss own ∷ mss stamp ∷ mss 1460 ∷ mss 1448 ∷ mss v6-40 ∷ mss v6-52 ∷ mtu to-40 ∷ mtu to-headers ∷ mtu v6-60 ∷ mtu 1500
+    ∷ mss peer ∷ mss peer-less ∷ []
+    ≡ map held (twelve own headers stamped v6 peer)
+unfolding twelve
+row-held own headers peer stamped v6 less stamp v6-40 v6-52 to-40 to-headers to-60 v6-60 peer-less =
+    rw (stamp, less, v6-40, v6-52, to-40, to-headers, v6-60, to-60, peer-less)
+    (rw (of-peer peer peer (λ e. e), of-peer peer (peer - 12) (λ e. omega arith)))
 
 pub divides-nonzero : (size window : ℕ) → divides size window ≡ true → size ≡ 0 → ⊥
 unfolding divides
@@ -26,13 +53,6 @@ divides-nonzero zero window e z = false≢true e
 divides-nonzero (suc size) window e z = omega arith
 
 -- ---- 0 stands for a divisor that does not apply
-
--- What the code holds of a candidate, and what it takes of a divisor that it holds: one that applies.
-abbrev pub held : Candidate → Divisor
-held c = record { size = cond (c .applies) (c .size) 0; «of_mtu» = c .ofMtu }
-
-abbrev pub holding : Divisor → Candidate
-holding d = record { applies = true; size = d .size; ofMtu = d .«of_mtu» }
 
 one-held
     : (window : ℕ) (c : Candidate) (rest : Multiplier)

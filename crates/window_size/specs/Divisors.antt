@@ -1,7 +1,7 @@
 -- The twelve divisors of a window (document 01, module 3, and the original's list, which it orders as it stands).
 use mathlib.Core.Path.{_≡_}
 use Prim.Native.Nat.{ℕ, _+_, _-_, _%_, _<_, min}
-use mathlib.Core.Bool.{Bool, true, false, not, _&&_}
+use mathlib.Core.Bool.{Bool, true, false, cond, not, _&&_}
 use mathlib.Core.List.{List, [], _∷_}
 use lib.Dec.{eqb}
 use lib.ListN.{length, getD}
@@ -9,6 +9,7 @@ use Rattle.tcp.specs.declared.Mss.{Mss}
 use Rattle.tcp.specs.declared.Mss.the-variants as mss
 use Rattle.tcp.specs.declared.IpVersion.{IpVersion}
 use Rattle.tcp.specs.declared.IpVersion.the-variants as version
+use Rattle.window_size.specs.declared.Divisor.{Divisor}
 
 -- One of the twelve: whether it applies, its size, and whether it is an MTU.
 pub record Candidate : Type 0 where
@@ -54,6 +55,14 @@ twelve own headers stamped v6 peer =
     ∷ mssDivisor (not (eqb peer 0)) peer
     ∷ mssDivisor (not (eqb peer 0)) (peer - 12)
     ∷ []
+
+-- What the code holds of a candidate: 0 stands for a size that does not apply.
+abbrev pub held : Candidate → Divisor
+held c = record { size = cond (c .applies) (c .size) 0; «of_mtu» = c .ofMtu }
+
+-- What it takes of a divisor that it holds: one that applies.
+abbrev pub holding : Divisor → Candidate
+holding d = record { applies = true; size = d .size; ofMtu = d .«of_mtu» }
 
 -- The candidate at a place of a row; past its end, one that does not apply.
 abbrev pub candidateAt : List Candidate → ℕ → Candidate

@@ -1,9 +1,8 @@
 // window_size.rs: a window as a multiple of an MSS or of an MTU.
 ghost use mathlib.Core.Path.{_≡_};
-ghost use mathlib.Core.Bool.{cond, true};
+ghost use mathlib.Core.Bool.{cond};
 ghost use mathlib.Core.List.{map};
-ghost use Rattle.window_size.specs.Divisors.{Candidate, divides, isV6, peerSize, twelve};
-ghost use Rattle.window_size.specs.declared.Divisor.{Divisor};
+ghost use Rattle.window_size.specs.Divisors.{divides, held, holding, isV6, peerSize, twelve};
 ghost use Rattle.window_size.specs.Multiplier.{firstMultiple, multiplierOf};
 use numbers::saturating_add;
 use numbers::saturating_sub;
@@ -73,7 +72,7 @@ fn divisors(
     ipv6: bool,
     peer: u16,
 ) -> [Divisor; 12]
-    ensures { λ r. ⌜ r ≡ map (λ (c : Candidate). record { size = cond (c .applies) (c .size) 0; «of_mtu» = c .ofMtu }) (twelve mss «tot_hdr» «own_timestamp_is_nonzero» ipv6 peer) ⌝ }
+    ensures { λ r. ⌜ r ≡ map held (twelve mss «tot_hdr» «own_timestamp_is_nonzero» ipv6 peer) ⌝ }
 {
     [
         Divisor {
@@ -139,7 +138,7 @@ fn divides(size: u16, wsize: u16) -> bool
 
 // The first divisor that is not 0 and divides the window.
 fn first_multiple(wsize: u16, divisors: [Divisor; 12]) -> Multiplier
-    ensures { λ r. ⌜ r ≡ firstMultiple wsize (map (λ (d : Divisor). record { applies = true; size = d .size; ofMtu = d .«of_mtu» }) divisors) ⌝ }
+    ensures { λ r. ⌜ r ≡ firstMultiple wsize (map holding divisors) ⌝ }
 {
     let mut i = 0;
     while i < 12 {

@@ -1,45 +1,61 @@
--- Exactly one result meets each function's own contract.
-use Prim.Native.Nat.{ℕ}
+-- Exactly one result meets each public function's own contract.
+-- tools/promises makes this file from the contracts, and the gate holds it to them.
 use mathlib.Core.List.{List}
+use Prim.Native.Nat.{ℕ}
 use contract.Lifetimes.{Lfts}
 use denote.Ref.{RefT, now}
 use Rattle.basis.specs.Unique.{ExactlyOne}
-use Rattle.basis.proofs.Unique.{equation}
-use Rattle.witness.specs.Reading.{packetNumber, plainOf, optionsNumber}
-use Rattle.witness.specs.Searching.{witnessHops, foundNumber, searchNumber}
+use Rattle.basis.proofs.Unique.{both, equation}
+use Rattle.text.specs.Written.{left-with}
+use Rattle.window_size.specs.declared.Multiplier.{Multiplier}
 use Rattle.flow.specs.declared.Reading.{Reading}
-use Rattle.found.specs.declared.Found.{Found}
-use Rattle.witness.specs.declared.Plain.{Plain}
-use Rattle.witness.proofs.witness_packet.Reads as witness-packet'
-use Rattle.witness.proofs.witness_options.Reads as witness-options'
-use Rattle.witness.proofs.witness_search.Reads as witness-search'
+use Rattle.witness.specs.declared.PlainObservation.{PlainObservation}
+use Rattle.witness.specs.declared.PlainOptions.{PlainOptions}
+use Rattle.witness.specs.declared.PlainPacket.{PlainPacket}
+use Rattle.witness.specs.declared.PlainProgress.{PlainProgress}
+use Rattle.witness.specs.declared.PlainSearch.{PlainSearch}
+use Rattle.witness.specs.Taken.{hopsRead, searchRead}
+use Rattle.witness.specs.Written.{optionsRead, packetRead, plainPacket}
+use Rattle.witness.proofs.witness_first_page.Reads as witness-first-page'
 use Rattle.witness.proofs.witness_hops.Reads as witness-hops'
-use Rattle.witness.proofs.whole.plain_of.Reads as plain-of'
-use Rattle.witness.proofs.searched.found_number.Reads as found-number'
+use Rattle.witness.proofs.witness_next_page.Reads as witness-next-page'
+use Rattle.witness.proofs.witness_options.Reads as witness-options'
+use Rattle.witness.proofs.witness_packet.Reads as witness-packet'
+use Rattle.witness.proofs.witness_search.Reads as witness-search'
+use Rattle.witness.proofs.written.plain_packet.Reads as plain-packet'
 
 pub witness-packet-one
-    : (κs : Lfts 1) (packet : RefT (List ℕ)) (peer which : ℕ)
-    → ExactlyOne ℕ (λ (r : ℕ). witness-packet'.Post κs (packet, (peer, (which, tt))) r (packet, (peer, (which, tt))))
-witness-packet-one κs packet peer which = equation (packetNumber (now packet) peer which)
+    : (κs : Lfts 1) (packet : RefT (List ℕ)) (peer : ℕ)
+    → ExactlyOne PlainPacket (λ (r : PlainPacket). witness-packet'.Post κs (packet, (peer, tt)) r (packet, (peer, tt)))
+witness-packet-one κs packet peer = equation (packetRead (now packet) peer)
 
 pub witness-options-one
-    : (κs : Lfts 1) (options : RefT (List ℕ)) (which : ℕ)
-    → ExactlyOne ℕ (λ (r : ℕ). witness-options'.Post κs (options, (which, tt)) r (options, (which, tt)))
-witness-options-one κs options which = equation (optionsNumber (now options) which)
+    : (κs : Lfts 1) (options : RefT (List ℕ))
+    → ExactlyOne PlainOptions (λ (r : PlainOptions). witness-options'.Post κs (options, tt) r (options, tt))
+witness-options-one κs options = equation (optionsRead (now options))
 
 pub witness-search-one
-    : (κs : Lfts 2) (observation list : RefT (List ℕ)) (which : ℕ)
-    → ExactlyOne ℕ (λ (r : ℕ). witness-search'.Post κs (observation, (list, (which, tt))) r (observation, (list, (which, tt))))
-witness-search-one κs observation list which = equation (searchNumber (now observation) (now list) which)
+    : (κs : Lfts 1) (observation : PlainObservation) (list : RefT (List ℕ))
+    → ExactlyOne PlainSearch (λ (r : PlainSearch). witness-search'.Post κs (observation, (list, tt)) r (observation, (list, tt)))
+witness-search-one κs observation list = equation (searchRead observation (now list))
 
-pub witness-hops-one
-    : (κs : Lfts 1) (ttls : RefT (List ℕ)) → ExactlyOne ℕ (λ (r : ℕ). witness-hops'.Post κs (ttls, tt) r (ttls, tt))
-witness-hops-one κs ttls = equation (witnessHops (now ttls))
+pub witness-hops-one : (κs : Lfts 1) (ttls : RefT (List ℕ)) → ExactlyOne ℕ (λ (r : ℕ). witness-hops'.Post κs (ttls, tt) r (ttls, tt))
+witness-hops-one κs ttls = equation (hopsRead (now ttls))
 
-pub plain-of-one : (κs : Lfts 0) (reading : Reading) → ExactlyOne Plain (λ (r : Plain). plain-of'.Post κs (reading, tt) r (reading, tt))
-plain-of-one κs reading = equation (plainOf reading)
+pub witness-first-page-one
+    : (κs : Lfts 2) (bundle page : RefT (List ℕ))
+    → ExactlyOne (PlainProgress × List ℕ)
+    (λ (r : PlainProgress × List ℕ). witness-first-page'.Post κs (bundle, (page, tt)) (r .0) (bundle, (left-with page (r .1), tt)))
+witness-first-page-one κs bundle page = both _ _
 
-pub found-number-one
-    : (κs : Lfts 0) (found : Found) (which : ℕ)
-    → ExactlyOne ℕ (λ (r : ℕ). found-number'.Post κs (found, (which, tt)) r (found, (which, tt)))
-found-number-one κs found which = equation (foundNumber found which)
+pub witness-next-page-one
+    : (κs : Lfts 2) (bundle : RefT (List ℕ)) (progress : PlainProgress) (page : RefT (List ℕ))
+    → ExactlyOne (PlainProgress × List ℕ)
+    (λ (r : PlainProgress × List ℕ). witness-next-page'.Post κs (bundle, (progress, (page, tt))) (r .0)
+    (bundle, (progress, (left-with page (r .1), tt))))
+witness-next-page-one κs bundle progress page = both _ _
+
+pub plain-packet-one
+    : (reading : Reading) (multiplier : Multiplier)
+    → ExactlyOne PlainPacket (λ (r : PlainPacket). plain-packet'.Post tt (reading, (multiplier, tt)) r (reading, (multiplier, tt)))
+plain-packet-one reading multiplier = equation (plainPacket reading multiplier)

@@ -1,3 +1,2 @@
-pub mod Observed
-pub mod Reading
-pub mod Searching
+pub mod Taken
+pub mod Written

@@ -1,76 +1,154 @@
-// Outside witnesses: the answers as numbers, for C drivers; not part of the product.
+// Outside witnesses: the answers as structs of numbers, for C drivers (tools/witness/witness.h); not part of the product.
 ghost use mathlib.Core.Path.{_≡_};
-ghost use Rattle.witness.specs.Reading.{packetNumber, optionsNumber};
-ghost use Rattle.witness.specs.Searching.{witnessHops, searchNumber};
-use decoded::mss_of;
-use decoded::observation_of;
-use decoded::ttl_from;
-use parsed::options_number;
-use searched::answer_of_search;
-use shown::answer_number;
-use shown::observation_number;
-use shown::wide8;
+ghost use Rattle.witness.specs.Written.{packetRead, optionsRead, plainProgress, firstOf, nextOf, Paged};
+ghost use Rattle.witness.specs.Taken.{searchRead, hopsRead};
+use packet_answer::peer_of;
+use report::PAGE;
+use searched::plain_search;
+use taken::observation_of;
+use taken::ttl_of;
+use written::plain_options;
+use written::plain_packet;
 
-mod decoded;
-mod parsed;
-pub mod searched;
-mod shown;
-pub mod whole;
+mod searched;
+mod taken;
+pub mod written;
 
-// A reading as a struct of numbers: those of witness_packet, but for the multiplier.
+// An observation. A value that is absent is 0, and so is its `has_`.
 #[repr(C)]
-pub struct Plain {
-    pub answer: u64,
-    pub version: u64,
-    pub ttl: u64,
+pub struct PlainObservation {
+    pub count: usize,
+    pub quirks: u32,
+    pub mss: u16,
+    pub wsize: u16,
+    pub peer_mss: u16,
+    pub tot_hdr: u16,
+    pub multiple: u16,
+    pub multiple_of: u8,
+    pub version: u8,
+    pub ttl_form: u8,
+    pub ttl: u8,
+    pub hops: u8,
     pub olen: u8,
     pub tos: u8,
-    pub tot_hdr: u16,
-    pub quirks: u32,
-    pub mss: u64,
-    pub wsize: u16,
-    pub wscale: u64,
-    pub pclass: u64,
-    pub peer_mss: u64,
-    pub count: usize,
+    pub wscale: u8,
+    pub pclass: u8,
+    pub has_mss: u8,
+    pub has_wscale: u8,
+    pub has_peer_mss: u8,
     pub kinds: [u8; 40],
     pub bytes: [u8; 40],
 }
 
-// One number of the reading of a packet (specs/Reading.antt says which); a peer's MSS of 0 is an absent one.
+#[repr(C)]
+pub struct PlainPacket {
+    pub observation: PlainObservation,
+    pub answer: u8,
+    pub refusal: u8,
+    pub flags: u8,
+}
+
+#[repr(C)]
+pub struct PlainOptions {
+    pub count: usize,
+    pub mss: u16,
+    pub refusal: u8,
+    pub malformed: bool,
+    pub has_mss: u8,
+    pub has_wscale: u8,
+    pub wscale: u8,
+    pub kinds: [u8; 40],
+    pub bytes: [u8; 40],
+}
+
+#[repr(C)]
+pub struct PlainSearch {
+    pub added: u32,
+    pub missing: u32,
+    pub bad_record: u32,
+    pub label: u16,
+    pub number: u16,
+    pub outcome: u8,
+    pub refusal: u8,
+    pub far: u8,
+    pub hops: u8,
+}
+
+#[repr(C)]
+pub struct PlainProgress {
+    pub filled: usize,
+    pub left: usize,
+    pub at: usize,
+}
+
+// The reading of a packet; a peer's MSS of 0 is an absent one.
 #[no_mangle]
-pub extern "C" fn witness_packet(packet: &[u8], peer: u16, which: u32) -> u64
-    ensures { λ r. ⌜ r ≡ packetNumber (now (packet .entry)) peer which ⌝ }
+pub extern "C" fn witness_packet(packet: &[u8], peer: u16) -> PlainPacket
+    ensures { λ r. ⌜ r ≡ packetRead (now (packet .entry)) peer ⌝ }
 {
-    let reading = flow::read_packet(packet, mss_of(peer != 0, peer));
-    let answer = reading.answer;
+    let reading = flow::read_packet(packet, peer_of(peer));
     let observation = reading.observation;
-    if which == 0 {
-        return answer_number(answer);
-    }
-    observation_number(observation, which)
+    plain_packet(reading, observation.window_multiplier())
 }
 
-// One number of what parse_options_raw gives for an option string.
 #[no_mangle]
-pub extern "C" fn witness_options(options: &[u8], which: u32) -> u64
-    ensures { λ r. ⌜ r ≡ optionsNumber (now (options .entry)) which ⌝ }
+pub extern "C" fn witness_options(options: &[u8]) -> PlainOptions
+    ensures { λ r. ⌜ r ≡ optionsRead (now (options .entry)) ⌝ }
 {
-    options_number(syn_options::parse_options_raw(options), which)
+    plain_options(syn_options::parse_options_raw(options))
 }
 
-// One number of the search of a list for an observation, which is given by its bytes (specs/Observed.antt).
 #[no_mangle]
-pub extern "C" fn witness_search(observation: &[u8], list: &[u8], which: u32) -> u64
-    ensures { λ r. ⌜ r ≡ searchNumber (now (observation .entry)) (now (list .entry)) which ⌝ }
+pub extern "C" fn witness_search(observation: PlainObservation, list: &[u8]) -> PlainSearch
+    ensures { λ r. ⌜ r ≡ searchRead observation (now (list .entry)) ⌝ }
 {
-    answer_of_search(search::search(observation_of(observation), list), which)
+    plain_search(search::search(observation_of(observation), list))
 }
 
 // The hop distance that is reported for two TTLs of three bytes each (form, TTL, distance): an observed one, then a signature's.
 #[no_mangle]
-pub extern "C" fn witness_hops(ttls: &[u8]) -> u64
-    ensures { λ r. ⌜ r ≡ witnessHops (now (ttls .entry)) ⌝ }
+pub extern "C" fn witness_hops(ttls: &[u8]) -> u8
+    ensures { λ r. ⌜ r ≡ hopsRead (now (ttls .entry)) ⌝ }
 {
-    wide8(distances::report_hop_distance(ttl_from(ttls, 0), ttl_from(ttls, 3)))
+    if ttls.len() < 6 {
+        return 0;
+    }
+    distances::report_hop_distance(
+        ttl_of(ttls[0], ttls[1], ttls[2]),
+        ttl_of(ttls[3], ttls[4], ttls[5]),
+    )
+}
+
+fn plain_progress(progress: report::Progress) -> PlainProgress
+    ensures { λ r. ⌜ r ≡ plainProgress progress ⌝ }
+{
+    PlainProgress {
+        filled: progress.filled,
+        left: progress.left,
+        at: progress.at,
+    }
+}
+
+// The first page of a bundle's output, and the next one after a progress.
+#[no_mangle]
+pub extern "C" fn witness_first_page(bundle: &[u8], page: &mut [u8; PAGE]) -> PlainProgress
+    ensures { λ r. ⌜ Paged (now (page .entry)) (firstOf (now (bundle .entry))) r (now (page .exit)) ⌝ }
+{
+    plain_progress(report::first_page(bundle, false, page))
+}
+
+#[no_mangle]
+pub extern "C" fn witness_next_page(
+    bundle: &[u8],
+    progress: PlainProgress,
+    page: &mut [u8; PAGE],
+) -> PlainProgress
+    ensures { λ r. ⌜ Paged (now (page .entry)) (nextOf (now (bundle .entry)) progress) r (now (page .exit)) ⌝ }
+{
+    let from = report::Progress {
+        filled: 0,
+        left: progress.left,
+        at: progress.at,
+    };
+    plain_progress(report::next_page(bundle, from, page))
 }

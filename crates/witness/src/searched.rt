@@ -1,88 +1,89 @@
-// What a search finds, as numbers.
+// What a search answers, as a struct of numbers.
 ghost use mathlib.Core.Path.{_≡_};
-ghost use Rattle.witness.specs.Searching.{firstOnly, hopsNumber, fuzzyNumber, foundNumber, listShown, answerOfSearch};
-use crate::shown::wide32;
+ghost use Rattle.witness.specs.Written.{hopsFar, hopsNumber, outcomeOf, plainFound, plainSearch};
+use crate::PlainSearch;
 use found::Found;
-use matching::FuzzyReason;
 use matching::Hops;
-use refusals::ListRefusal;
 use refusals::Refusal;
 use refusals::list_value;
 use refusals::refusal_number;
 use search::SearchAnswer;
 
-// A number that stands alone: all others are 0.
-fn first_only(number: u64, which: u32) -> u64
-    ensures { λ r. ⌜ r ≡ firstOnly number which ⌝ }
+fn hops_far(hops: Hops) -> u8
+    ensures { λ r. ⌜ r ≡ hopsFar hops ⌝ }
 {
-    if which == 0 {
-        return number;
+    match hops {
+        Hops::InRange => 0,
+        Hops::OutOfRange(_) => 1,
     }
-    0
 }
 
-fn hops_number(hops: Hops) -> u64
+fn hops_number(hops: Hops) -> u8
     ensures { λ r. ⌜ r ≡ hopsNumber hops ⌝ }
 {
     match hops {
         Hops::InRange => 0,
-        Hops::OutOfRange(n) => 65536 + (n as u64),
+        Hops::OutOfRange(far) => far,
     }
 }
 
-fn fuzzy_number(label: u16, reason: FuzzyReason, which: u32) -> u64
-    ensures { λ r. ⌜ r ≡ fuzzyNumber label reason which ⌝ }
+// An answer without a reason.
+fn outcome_of(outcome: u8, label: u16, number: u16, refusal: u8, bad_record: u32) -> PlainSearch
+    ensures { λ r. ⌜ r ≡ outcomeOf outcome label number refusal «bad_record» ⌝ }
 {
-    let hops = reason.hops;
-    let added = reason.added;
-    let missing = reason.missing;
-    if which == 0 {
-        return 196608 + (label as u64);
+    PlainSearch {
+        added: 0,
+        missing: 0,
+        bad_record,
+        label,
+        number,
+        outcome,
+        refusal,
+        far: 0,
+        hops: 0,
     }
-    if which == 2 {
-        return hops_number(hops);
-    }
-    if which == 3 {
-        return wide32(added.bits());
-    }
-    if which == 4 {
-        return wide32(missing.bits());
-    }
-    0
 }
 
-// What is found, one number of it.
-pub fn found_number(found: Found, which: u32) -> u64
-    ensures { λ r. ⌜ r ≡ foundNumber found which ⌝ }
+fn plain_found(found: Found) -> PlainSearch
+    ensures { λ r. ⌜ r ≡ plainFound found ⌝ }
 {
     match found {
-        Found::None => first_only(65536, which),
-        Found::Exact(label) => first_only(131072 + (label as u64), which),
-        Found::Fuzzy(label, reason) => fuzzy_number(label, reason, which),
+        Found::None => outcome_of(3, 0, 0, 0, 0),
+        Found::Exact(hit) => outcome_of(1, hit.label, hit.number, 0, 0),
+        Found::Fuzzy(hit, reason) => {
+            let hops = reason.hops;
+            let added = reason.added;
+            let missing = reason.missing;
+            PlainSearch {
+                added: added.bits(),
+                missing: missing.bits(),
+                bad_record: 0,
+                label: hit.label,
+                number: hit.number,
+                outcome: 2,
+                refusal: 0,
+                far: hops_far(hops),
+                hops: hops_number(hops),
+            }
+        }
     }
 }
 
-// A list's refusal, and the index that it gives.
-fn list_number(refusal: ListRefusal, which: u32) -> u64
-    ensures { λ r. ⌜ r ≡ listShown refusal which ⌝ }
-{
-    if which == 0 {
-        return refusal_number(Refusal::List(refusal)) as u64;
-    }
-    if which == 1 {
-        return list_value(refusal) as u64;
-    }
-    0
-}
-
-pub(crate) fn answer_of_search(answer: SearchAnswer, which: u32) -> u64
-    ensures { λ r. ⌜ r ≡ answerOfSearch answer which ⌝ }
+pub(crate) fn plain_search(answer: SearchAnswer) -> PlainSearch
+    ensures { λ r. ⌜ r ≡ plainSearch answer ⌝ }
 {
     match answer {
-        SearchAnswer::Found(found) => found_number(found, which),
-        SearchAnswer::LayoutTooLong => {
-            first_only(refusal_number(Refusal::LayoutTooLong) as u64, which)
+        SearchAnswer::Found(found) => plain_found(found),
+        SearchAnswer::LayoutTooLong => outcome_of(
+            5,
+            0,
+            0,
+            refusal_number(Refusal::LayoutTooLong),
+            0,
+        ),
+        SearchAnswer::List(why) => {
+            let refusal = refusal_number(Refusal::List(why));
+            outcome_of(5, 0, 0, refusal, (list_value(why) % 4294967296) as u32)
         }
-        SearchAnswer::List(refusal) => list_number(refusal, which),
     }
 }

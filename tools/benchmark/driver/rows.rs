@@ -79,19 +79,21 @@ fn seen(packet: &[u8], tracker: &mut ConnectionTracker) -> TcpObservation {
     original::observe(packet, tracker).and_then(original::observation).expect("an observation")
 }
 
-fn same_reading(original: &TcpObservation, port: &port::Plain) {
+fn same_reading(original: &TcpObservation, reading: &port::Reading) {
     let mut out = [0u8; bytes::OBSERVATION];
     bytes::put_observation(&mut out, original);
-    let ttl = u64::from(out[1]) * 65536 + u64::from(out[2]) * 256 + u64::from(out[3]);
-    let number = |mss: Option<u16>| mss.map_or(0, |mss| 65536 + u64::from(mss));
-    assert_eq!((u64::from(out[0]), ttl, out[4]), (port.version, port.ttl, port.olen));
-    assert_eq!((number(original.mss), original.wsize), (port.mss, port.wsize));
+    let port = &reading.observation;
+    let number = |value: Option<u16>| (u8::from(value.is_some()), value.unwrap_or(0));
+    assert_eq!((out[0], out[4]), (port.version, port.olen));
+    assert_eq!(&out[1..4], &[port.ttl_form, port.ttl, port.hops]);
+    assert_eq!((number(original.mss), original.wsize), ((port.has_mss, port.mss), port.wsize));
     assert_eq!((original.tot_hdr, original.tos), (port.tot_hdr, port.tos));
-    assert_eq!(number(original.wscale.map(u16::from)), port.wscale);
-    assert_eq!((usize::from(out[14]), &out[15..55], &out[55..95]), (port.count, &port.kinds[..], &port.bytes[..]));
-    assert_eq!((original.quirks.bits(), u64::from(out[99])), (port.quirks, port.pclass));
-    assert_eq!(number(original.peer_mss), port.peer_mss);
-    assert!(port.answer == 1 || port.answer == 2);
+    assert_eq!(number(original.wscale.map(u16::from)), (port.has_wscale, u16::from(port.wscale)));
+    assert_eq!((u64::from(out[14]), &out[15..55], &out[55..95]), (port.count, &port.kinds[..], &port.bytes[..]));
+    assert_eq!((original.quirks.bits(), out[99]), (port.quirks, port.pclass));
+    assert_eq!(number(original.peer_mss), (port.has_peer_mss, port.peer_mss));
+    assert_eq!((port.multiple_of, port.multiple, reading.refusal, reading.flags), (0, 0, 0, 0));
+    assert!(reading.answer == 1 || reading.answer == 2);
 }
 
 // ---- one fit: the search of a list of one record

@@ -131,11 +131,16 @@ int new_search(const uint8_t *o, const uint8_t *list, const Numbers *answer, int
     news = 0;
     if (place < -2) news++; /* a boundary is always kept */
     key(26, "search answers", first < 65536 ? first : 100 + first / 65536, 10);
-    if (first == 10) key(27, "refusal 10: index and the place that was overwritten", (unsigned)answer->n[1] * 32 + (unsigned)(place >= 8 ? (place - 8) % 24 : 31), 1);
+    if (first == 10) {
+        unsigned where = (unsigned)(place >= 8 ? (place - 8) % 24 : 31);
+        key(27, "refusal 10: index and the place that was overwritten", (unsigned)answer->n[1] * 32 + where, 1);
+    }
     if (first == 9) key(28, "refusal 9: place", (unsigned)(place < -2 ? 0 : place + 2), 1);
-    if (first >= 196608)
-        key(29, "fuzzy: hops, added, missing", (answer->n[2] != 0) * 256u + (unsigned)answer->n[3] % 16 * 16 + (unsigned)answer->n[4] % 16, 2);
-    if (first >= 196608 && answer->n[2]) key(30, "hops out of range", (unsigned)answer->n[2] % 256 < 40 ? (unsigned)answer->n[2] % 256 : 40, 1);
+    if (first >= 196608) {
+        unsigned hops = (unsigned)answer->n[2], added = (unsigned)answer->n[3] % 16, missing = (unsigned)answer->n[4] % 16;
+        key(29, "fuzzy: hops, added, missing", (hops != 0) * 256u + added * 16 + missing, 2);
+        if (hops) key(30, "hops out of range", hops % 256 < 40 ? hops % 256 : 40, 1);
+    }
     if (first < 65536) return news > 0;
     if (be16_at(list) == 1) single_keys(o, list, first);
     key(31, "records x answer", be16_at(list) * 4u + first / 65536, 4);

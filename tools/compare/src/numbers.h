@@ -1,10 +1,10 @@
-/* An answer as numbers, from the port and from the original, in one numbering (crates/witness/specs):
+/* An answer as numbers, from the port and from the original, in one numbering:
    packet   0 answer (1 SYN, 2 SYN+ACK, 3 nothing, 256 x refusal + flags)   1 version   2 TTL   3 option length
             4 tos   5 tot_hdr   6 quirks   7 MSS   8 window   9 scale   10 payload   11 peer MSS   12 multiplier
             20 layout count   21 to 25 kinds   26 to 30 bytes
    options  0 answer (1 parsed, 8 refused)   1 malformed   2 MSS   3 scale   20 to 30 layout
    search   0 answer (65536 none, 131072 + label exact, 196608 + label fuzzy, or the refusal)
-            1 index of refusal 10   2 hops   3 added   4 missing
+            1 index of refusal 10   2 hops   3 added   4 missing   5 the number of the record, from 0
    hops     0 the hop distance that is reported for two TTLs of three bytes */
 #ifndef NUMBERS_H
 #define NUMBERS_H
@@ -20,7 +20,7 @@ typedef struct {
 
 void port_packet(const uint8_t *p, size_t size, uint16_t peer, Numbers *out);
 void port_options(const uint8_t *s, size_t size, Numbers *out);
-void port_search(const uint8_t *observation, size_t observed, const uint8_t *list, size_t size, Numbers *out);
+void port_search(const uint8_t *observation, const uint8_t *list, size_t size, Numbers *out);
 
 void port_hops(const uint8_t ttls[6], Numbers *out);
 

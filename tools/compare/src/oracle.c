@@ -78,15 +78,17 @@ void oracle_options(const uint8_t *s, size_t size, Numbers *out) {
     layout_numbers(answer[6], answer + 7, answer + 47, out);
 }
 
-static void keep_fit(const uint8_t fit[14], unsigned label, Numbers *out) {
+static void keep_fit(const uint8_t fit[14], unsigned label, size_t number, Numbers *out) {
     if (fit[0] == 1) {
         memset(out, 0, sizeof *out);
         out->n[0] = 131072u + label;
+        out->n[5] = number;
     } else if (fit[0] == 2 && out->n[0] == 65536) {
         out->n[0] = 196608u + label;
         out->n[2] = fit[1] ? 65536u + be32_at(fit + 2) : 0;
         out->n[3] = be32_at(fit + 6);
         out->n[4] = be32_at(fit + 10);
+        out->n[5] = number;
     }
 }
 
@@ -105,7 +107,7 @@ void oracle_search(const uint8_t *o, const uint8_t *list, size_t size, Numbers *
         const uint8_t *record = list + be16_at(list + 2) + 24 * i;
         uint8_t fit[14];
         if (original_fit(record, list + be16_at(list + 6) + 2 * be16_at(record + 18), o, fit)) out->n[0] = 99;
-        keep_fit(fit, be16_at(record + 22), out);
+        keep_fit(fit, be16_at(record + 22), i, out);
         if (fit[0] == 1) return;
     }
 }

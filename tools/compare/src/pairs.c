@@ -87,8 +87,8 @@ static void one_pair(Random *r, int damaged) {
     oracle_packet(q, size, peer, 0, &b, o[1]);
     try_pair(&a, &b, p, size); /* the second packet's answer by the original */
     listed = make_list(r, o[0], 3, 2, list);
-    port_search(o[0], OBSERVATION, list, listed, &a);
-    port_search(o[1], OBSERVATION, list, listed, &b);
+    port_search(o[0], list, listed, &a);
+    port_search(o[1], list, listed, &b);
     try_pair(&a, &b, p, size);
 }
 

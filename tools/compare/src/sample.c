@@ -1,57 +1,122 @@
-/* The fixed list: chooses inputs that show something new, and writes each with the original's answer, 512 bytes a case:
-   0 kind (1 packet, 2 option string, 3 search)   2 size (2)   4 peer MSS (2)   8 input (256)   264 31 numbers of 8 bytes.
-   The input of a search is an observation of 110 bytes and a list of the size given. All numbers are big-endian. */
+/* The stored cases: chooses inputs that show something new, and prints each as a line of tools/ask, then the original's answer in the form
+   of tools/ask, each behind the name of the file that it belongs in (tools/compare/sample). */
+#include "asking.h"
+#include "cover.h"
 #include "families.h"
 #include "make.h"
-#include "cover.h"
+#include "original.h"
 
+#include <inttypes.h>
 #include <stdio.h>
-#include <stdlib.h>
 #include <string.h>
 
-enum { CASE = 512, INPUT = 256, ANSWER = 264 };
+enum { INPUT = 256 };
 
-static unsigned written[4];
+static unsigned written[3];
 
-static void put(uint8_t *p, uint64_t n, int bytes) {
-    while (bytes--) p[bytes] = (uint8_t)n, n >>= 8;
+static void write_bytes(const uint8_t *bytes, size_t size) {
+    size_t i;
+    if (size == 0) putchar('-');
+    for (i = 0; i < size; i++) printf("%02x", (unsigned)bytes[i]);
 }
 
-static void write_case(int kind, const uint8_t *input, size_t all, size_t size, uint16_t peer, const Numbers *answer) {
-    uint8_t block[CASE] = {0};
-    int i;
-    block[0] = (uint8_t)kind;
-    put(block + 2, size, 2);
-    put(block + 4, peer, 2);
-    memcpy(block + 8, input, all);
-    for (i = 0; i < NUMBERS; i++) put(block + ANSWER + 8 * i, answer->n[i], 8);
-    if (fwrite(block, CASE, 1, stdout) != 1) exit(2);
-    written[kind]++;
+/* The original's bytes of an observation (original.h) as those that tools/ask writes out. */
+static witness_observation observation_of(const uint8_t *o) {
+    witness_observation w;
+    memset(&w, 0, sizeof w);
+    w.version = o[0], w.ttl_form = o[1], w.ttl = o[2], w.hops = o[3], w.olen = o[4];
+    w.has_mss = o[5], w.mss = (uint16_t)be16_at(o + 6);
+    w.wsize = (uint16_t)be16_at(o + 8), w.tot_hdr = (uint16_t)be16_at(o + 10);
+    w.has_wscale = o[12], w.wscale = o[13];
+    w.count = o[14];
+    memcpy(w.kinds, o + 15, sizeof w.kinds);
+    memcpy(w.bytes, o + 55, sizeof w.bytes);
+    w.quirks = be32_at(o + 95), w.pclass = o[99];
+    w.has_peer_mss = o[100], w.peer_mss = (uint16_t)be16_at(o + 101);
+    w.tos = o[103], w.multiple_of = o[104], w.multiple = (uint16_t)be16_at(o + 105);
+    return w;
+}
+
+static void write_packet_answer(const Numbers *answer, const uint8_t *o) {
+    unsigned refusal = (unsigned)(answer->n[0] / 256);
+    witness_observation w = observation_of(o);
+    if (refusal) printf("refused %u", refusal);
+    if (refusal == 7) printf(" 0x%02X", (unsigned)(answer->n[0] % 256));
+    if (answer->n[0] == 3) fputs("nothing", stdout);
+    if (answer->n[0] == 1) fputs("syn ", stdout);
+    if (answer->n[0] == 2) fputs("synack ", stdout);
+    if (answer->n[0] == 1 || answer->n[0] == 2) write_observation(&w);
+    putchar('\n');
 }
 
 static void offer_packet(const uint8_t *p, size_t size, uint16_t peer) {
     Numbers answer;
-    uint8_t o[OBSERVATION];
+    uint8_t o[OBSERVATION] = {0};
     if (size > INPUT) return;
     oracle_packet(p, size, peer, 0, &answer, o);
-    if (new_packet(p, size, &answer, o)) write_case(1, p, size, size, peer, &answer);
+    if (!new_packet(p, size, &answer, o)) return;
+    printf("observe.in %u ", (unsigned)peer);
+    write_bytes(p, size);
+    fputs("\nobserve.out ", stdout);
+    write_packet_answer(&answer, o);
+    written[0]++;
+}
+
+static void write_options_answer(const uint8_t *s, size_t size, const Numbers *answer) {
+    uint8_t parsed[87];
+    if (answer->n[0] != 1) {
+        printf("refused %" PRIu64 "\n", answer->n[0]);
+        return;
+    }
+    original_parse_options(s, size, parsed);
+    write_layout(parsed[6], parsed + 7, parsed + 47);
+    write_absent_or(" mss=", parsed[1], be16_at(parsed + 2));
+    write_absent_or(" wscale=", parsed[4], parsed[5]);
+    printf(" malformed=%u\n", (unsigned)parsed[0]);
 }
 
 static void offer_options(const uint8_t *s, size_t size) {
     Numbers answer;
     oracle_options(s, size, &answer);
-    if (new_options(s, size, &answer)) write_case(2, s, size, size, 0, &answer);
+    if (!new_options(s, size, &answer)) return;
+    fputs("options.in ", stdout);
+    write_bytes(s, size);
+    fputs("\noptions.out ", stdout);
+    write_options_answer(s, size, &answer);
+    written[1]++;
+}
+
+static void write_search_answer(const Numbers *answer) {
+    unsigned label = (unsigned)(answer->n[0] % 65536), number = (unsigned)answer->n[5];
+    switch (answer->n[0] / 65536) {
+    case 0:
+        printf("refused %u", label);
+        if (label == 10) printf(" %" PRIu64, answer->n[1]);
+        break;
+    case 1: fputs("none", stdout); break;
+    case 2: printf("exact %u at=%u", label, number); break;
+    case 3:
+        printf("fuzzy %u at=%u", label, number);
+        write_absent_or(" hop=", answer->n[2] != 0, (uint32_t)answer->n[2] % 65536);
+        printf(" added=0x%08" PRIX32 " missing=0x%08" PRIX32, (uint32_t)answer->n[3], (uint32_t)answer->n[4]);
+        break;
+    }
+    putchar('\n');
 }
 
 static void offer_search(const uint8_t *o, const uint8_t *list, size_t size, int place) {
     Numbers answer;
-    uint8_t input[INPUT];
+    witness_observation w = observation_of(o);
     if (size > INPUT - OBSERVATION) return;
     oracle_search(o, list, size, &answer);
     if (!new_search(o, list, &answer, place)) return;
-    memcpy(input, o, OBSERVATION);
-    memcpy(input + OBSERVATION, list, size);
-    write_case(3, input, OBSERVATION + size, size, 0, &answer);
+    fputs("search.in ", stdout);
+    write_observation(&w);
+    fputs(" | ", stdout);
+    write_bytes(list, size);
+    fputs("\nsearch.out ", stdout);
+    write_search_answer(&answer);
+    written[2]++;
 }
 
 static void packets(void) {
@@ -109,17 +174,11 @@ static void searches(void) {
     }
 }
 
-int main(int argc, char **argv) {
-    FILE *expected = argc > 1 ? fopen(argv[1], "w") : NULL;
-    static const char *const names[4] = {"", "packets", "options", "searches"};
-    int i;
+int main(void) {
     packets();
     options();
     searches();
-    for (i = 1; i < 4; i++) {
-        fprintf(stderr, "%s %u\n", names[i], written[i]);
-        if (expected) fprintf(expected, "%s %u of %u\n", names[i], written[i], written[i]);
-    }
+    fprintf(stderr, "packets %u, options %u, searches %u\n", written[0], written[1], written[2]);
     cover_report();
-    return expected ? fclose(expected) : 0;
+    return fflush(stdout) != 0 || ferror(stdout);
 }

@@ -114,7 +114,7 @@ Numbers try_search(const uint8_t *o, const uint8_t *list, size_t size) {
     Numbers port, original;
     uint8_t input[MOST];
     oracle_search(o, list, size, &original);
-    port_search(o, OBSERVATION, list, size, &port);
+    port_search(o, list, size, &port);
     if (original.n[0] >= 196608) {
         reasons[0] += original.n[2] != 0;
         reasons[1] += original.n[3] & 1;
@@ -148,7 +148,8 @@ static void hex(const char *name, const uint8_t *p, size_t size) {
 }
 
 static void show_difference(int kind, int which, const Difference *d) {
-    static const char *const names[KINDS] = {"packet (peer MSS before it)", "options", "search (observation, list)", "pair", "hops (two TTLs)"};
+    static const char *const names[KINDS] = {"packet (peer MSS before it)", "options", "search (observation, list)", "pair",
+                                             "hops (two TTLs)"};
     int i;
     printf("\ndifference in number %d of %s, %llu times\n", which, names[kind], (unsigned long long)d->times);
     hex("first", d->first, d->first_size);
@@ -181,9 +182,9 @@ uint64_t report(void) {
         all[f->kind] += f->inputs;
         wrong += f->differences;
     }
-    printf("\npackets %llu, option strings %llu, searches %llu, pairs %llu, hop distances %llu, differences %llu\n", (unsigned long long)all[PACKET],
-           (unsigned long long)all[OPTIONS], (unsigned long long)all[SEARCH], (unsigned long long)all[PAIR],
-           (unsigned long long)all[HOPS], (unsigned long long)wrong);
+    printf("\npackets %llu, option strings %llu, searches %llu, pairs %llu, hop distances %llu, differences %llu\n",
+           (unsigned long long)all[PACKET], (unsigned long long)all[OPTIONS], (unsigned long long)all[SEARCH],
+           (unsigned long long)all[PAIR], (unsigned long long)all[HOPS], (unsigned long long)wrong);
     for (j = 0; j < ANSWERS; j++) printf("%s %llu%s", answer_names[j], (unsigned long long)sums[j], j + 1 < ANSWERS ? ", " : "\n");
     for (i = 0; i < 17; i++) bits[i] = quirks_seen[places[i]];
     row("quirks from the lowest bit up", bits, 17);

@@ -1,17 +1,15 @@
 /* The port's answers for cases of standard input, a row of numbers each: port LISTS <cases.
    LISTS: signature lists, each after its length (4). A case: number of its list (2), the peer's MSS (2), size (2), the packet.
-   A row: the numbers 0 to 12 and 20 to 30 of the reading, then 0 to 4 of the search (crates/witness/specs), then the hop distance
-   that is reported for the line found. */
-#include <stdint.h>
+   A row: of the reading its answer, version, TTL (form, value, hops), option length, tos, quirks, MSS, window, scale, payload, multiplier;
+   of the search outcome and label; the hop distance that is reported for the record found; the layout's entries, kind and byte each.
+   A value that may be absent, and the multiplier, is its presence times 65536 and the value (tools/witness/witness.h). */
+#include "../../witness/witness.h"
+
 #include <stdio.h>
 #include <stdlib.h>
 #include <string.h>
 
-uint64_t witness_packet(const uint8_t *p, size_t size, uint16_t peer, uint32_t which);
-uint64_t witness_search(const uint8_t *o, size_t observed, const uint8_t *list, size_t size, uint32_t which);
-uint64_t witness_hops(const uint8_t *ttls, size_t size);
-
-enum { NUMBERS = 31, OBSERVATION = 110, RECORD = 24, MOST_LISTS = 1000, MOST_BYTES = 1 << 20 };
+enum { RECORD = 24, MOST_LISTS = 1000, MOST_BYTES = 1 << 20 };
 
 static uint8_t bytes[MOST_BYTES];
 static struct {
@@ -42,58 +40,27 @@ static size_t read_lists(const char *path) {
     return count;
 }
 
-static void put(uint8_t *o, size_t at, int count, uint64_t n) {
-    int i;
-    for (i = count - 1; i >= 0; i--, n >>= 8) o[at + i] = (uint8_t)n;
+/* The hop distance for the record of that number. */
+static unsigned hops(const witness_observation *o, const uint8_t *list, unsigned number) {
+    const uint8_t *record = list + be16(list + 2) + RECORD * number;
+    uint8_t ttls[6] = {o->ttl_form, o->ttl, o->hops, record[1], record[2], record[3]};
+    return witness_hops(ttls, sizeof ttls);
 }
 
-/* The observation's bytes (crates/witness/specs/Observed.antt) from the numbers of a reading. */
-static void observation(const uint64_t *n, uint8_t *o) {
-    int i;
-    memset(o, 0, OBSERVATION);
-    put(o, 0, 1, n[1]);
-    put(o, 1, 3, n[2]);
-    put(o, 4, 1, n[3]);
-    put(o, 5, 3, n[7]);
-    put(o, 8, 2, n[8]);
-    put(o, 10, 2, n[5]);
-    put(o, 12, 1, n[9] >> 16);
-    put(o, 13, 1, n[9]);
-    put(o, 14, 1, n[20]);
-    for (i = 0; i < 5; i++) put(o, 15 + 8 * i, 8, n[21 + i]);
-    for (i = 0; i < 5; i++) put(o, 55 + 8 * i, 8, n[26 + i]);
-    put(o, 95, 4, n[6]);
-    put(o, 99, 1, n[10]);
-    put(o, 100, 3, n[11]);
-    put(o, 103, 1, n[4]);
-}
-
-/* The hop distance for the record of that label; 0 if there is none. */
-static uint64_t hops(const uint8_t *o, const uint8_t *list, unsigned label) {
-    const uint8_t *record = list + be16(list + 2);
-    uint8_t ttls[6];
-    unsigned i;
-    for (i = 0; i < be16(list); i++, record += RECORD)
-        if (be16(record + 22) == label) {
-            memcpy(ttls, o + 1, 3);
-            memcpy(ttls + 3, record + 1, 3);
-            return witness_hops(ttls, sizeof ttls);
-        }
-    return 0;
-}
+static unsigned present(uint8_t has, unsigned value) { return has * 65536u + value; }
 
 static void answer(const uint8_t *packet, size_t size, unsigned list, uint16_t peer) {
-    uint64_t n[NUMBERS] = {0}, s[5] = {0};
-    uint8_t o[OBSERVATION];
-    uint32_t i;
-    for (i = 0; i < NUMBERS; i++)
-        if (i <= 12 || i >= 20) printf("%llu ", (unsigned long long)(n[i] = witness_packet(packet, size, peer, i)));
-    observation(n, o);
-    for (i = 0; i < 5; i++) {
-        if (n[0] == 1 || n[0] == 2) s[i] = witness_search(o, OBSERVATION, lists[list].at, lists[list].size, i);
-        printf("%llu ", (unsigned long long)s[i]);
-    }
-    printf("%llu\n", (unsigned long long)(s[0] >> 17 ? hops(o, lists[list].at, s[0] & 65535) : 0));
+    witness_packet_read read = witness_packet(packet, size, peer);
+    const witness_observation *o = &read.observation;
+    witness_search_read found = {0};
+    uint64_t i;
+    if (read.answer <= 2) found = witness_search(*o, lists[list].at, lists[list].size);
+    printf("%u %u %u %u %u %u %u ", read.answer, o->version, o->ttl_form, o->ttl, o->hops, o->olen, o->tos);
+    printf("%u %u %u %u %u ", o->quirks, present(o->has_mss, o->mss), o->wsize, present(o->has_wscale, o->wscale), o->pclass);
+    printf("%u %u %u ", present(o->multiple_of, o->multiple), found.outcome, found.label);
+    printf("%u", found.outcome == 1 || found.outcome == 2 ? hops(o, lists[list].at, found.number) : 0);
+    for (i = 0; i < o->count; i++) printf(" %u %u", o->kinds[i], o->bytes[i]);
+    printf("\n");
 }
 
 int main(int argc, char **argv) {

@@ -73,8 +73,7 @@ def p0f_says(program, database, folder, name, numbered):
 
 # ---- the port
 
-def ttl_of(number):
-    form, ttl, hops = number >> 16, number >> 8 & 255, number & 255
+def ttl_of(form, ttl, hops):
     return (f"{ttl}", f"{ttl}+{hops}", f"{ttl}+?", f"{ttl}-")[form]
 
 
@@ -82,32 +81,30 @@ def present(number):
     return str(number - 65536) if number >> 16 else "*"
 
 
-def layout_text(numbers):
-    kinds, left = (b"".join(n.to_bytes(8, "big") for n in numbers[at:at + 5]) for at in (1, 6))
-    return ",".join(option_text(kinds[i], left[i]) for i in range(numbers[0]))
+def layout_text(entries):
+    return ",".join(option_text(entries[i], entries[i + 1]) for i in range(0, len(entries), 2))
 
 
 def window_text(window, multiple):
     return f"{('mss', 'mtu')[(multiple >> 16) - 1]}*{multiple & 65535}" if multiple else str(window)
 
 
-def port_text(n):
-    return (
-        str(n[1]), ttl_of(n[2]), str(n[3]), present(n[7]), window_text(n[8], n[12]), present(n[9]), layout_text(n[13:24]),
-        ",".join(name for name, bit in QUIRKS.items() if n[6] & bit), "0+"[n[10]])
-
-
-def found(number):
-    if number >> 16 not in (1, 2, 3):
-        raise SystemExit(f"the port refuses a list: {number}")
-    return ("none", "exact", "fuzzy")[(number >> 16) - 1], number & 65535
+def found(outcome, label):
+    if outcome not in (1, 2, 3):
+        raise SystemExit(f"the port refuses a list: {outcome}")
+    return ("exact", "fuzzy", "none")[outcome - 1], label
 
 
 def said_by_port(row):
-    numbers = [int(n) for n in row.split()]
-    if numbers[0] not in (1, 2):
+    """The numbers of a row, as port.c has them."""
+    answer, version, form, ttl, hops, olen, tos, quirks, mss, window, scale, payload, multiple, outcome, label, reported, *entries = (
+        int(n) for n in row.split())
+    if answer not in (1, 2):
         return SILENT
-    return Said(port_text(numbers), found(numbers[24]), numbers[29], numbers[4])
+    text = (
+        str(version), ttl_of(form, ttl, hops), str(olen), present(mss), window_text(window, multiple), present(scale), layout_text(entries),
+        ",".join(name for name, bit in QUIRKS.items() if quirks & bit), "0+"[payload])
+    return Said(text, found(outcome, label), reported, tos)
 
 
 def port_says(program, lists, folder, asked):

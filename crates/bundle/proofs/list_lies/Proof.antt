@@ -13,8 +13,12 @@ returns c = search cases
 
 returns-2 : tie.Need-returns-2
 unfolding listLies
-returns-2 c = rw (le-leb 8 (length (c .before .before .before .before .args .bundle .now)) (omega arith), c .number-at2 .ensures .0, c .before .number-at .ensures .0)
+returns-2 c =
+    let b = c .before .before .before .before .args .bundle .now in
+    rw (le-leb 8 (length b) (omega arith), c .number-at2 .ensures, c .before .number-at .ensures)
 
 pub list-lies-spec : {M : Type 1} → statement M
 list-lies-spec =
-    tie.close (tie.spec returns (λ c κs. search needs) (λ c κs. search needs) (λ c. search needs) returns-2)
+    tie.close
+    (tie.spec returns (λ c κs. search needs) (λ c. search needs) (λ c κs. search needs) (λ c. search needs)
+    (λ c. search needs) returns-2)

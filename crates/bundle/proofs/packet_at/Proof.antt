@@ -1,5 +1,6 @@
 use Rattle.bundle.proofs.Packets.{head-within, end-within, lies-within}
-use Rattle.bundle.specs.Answers.{packetLies, packetAt}
+use Rattle.bundle.specs.Bundle.{packetEnd}
+use Rattle.bundle.specs.Answers.{answerAt, packetLies, packetAt}
 use mathlib.Core.Path.{sym, _∙_}
 use borrow.Author.Tests.{not-true, not-false}
 use borrow.Author.Needs.{needs}
@@ -12,20 +13,74 @@ returns c = rw (sym (c .before .list-lies .ensures) ∙ not-true (c .before .lis
 
 returns-2 : tie.Need-returns-2
 unfolding packetAt packetLies
-returns-2 c = rw (sym (c .before .before .before .list-lies .ensures) ∙ not-false (c .before .before .before .list-lies .result) (c .before .before .if1 .left), sym (c .before .packet-fits .ensures) ∙ not-true (c .before .packet-fits .result) (c .if2 .taken))
+returns-2 c =
+    let list = c .before .before .before .list-lies in
+    let fit = c .before .packet-fits in
+    rw (
+      sym (list .ensures) ∙ not-false (list .result) (c .before .before .if1 .left),
+      sym (fit .ensures) ∙ not-true (fit .result) (c .if2 .taken),
+    )
 
-answer-at-place-requires : tie.Need-answer-at-place-requires
-answer-at-place-requires c κs = let b = c .before .before .before .before .before .args .bundle .now in let w = lies-within b (sym (c .before .before .before .list-lies .ensures) ∙ not-false (c .before .before .before .list-lies .result) (c .before .before .if1 .left)) in let fits = sym (c .before .packet-fits .ensures) ∙ not-false (c .before .packet-fits .result) (c .if2 .left) in (w .0, w .1, head-within b (c .before .before .before .before .before .args .at) fits, end-within b (c .before .before .before .before .before .args .at) fits)
+number-at-requires : tie.Need-number-at-requires
+number-at-requires c κs =
+    let fit = c .before .packet-fits in
+    let head = head-within _ _ (sym (fit .ensures) ∙ not-false (fit .result) (c .if2 .left)) in
+    search (needs, head)
+
+add-start : tie.Need-add-start
+add-start c =
+    let asked = c .before .before in
+    let fit = asked .before .packet-fits in
+    let head = head-within _ _ (sym (fit .ensures) ∙ not-false (fit .result) (asked .if2 .left)) in
+    search (needs, head)
 
 packet-end-requires : tie.Need-packet-end-requires
-packet-end-requires c κs = head-within (c .before .before .before .before .before .before .args .bundle .now) (c .before .before .before .before .before .before .args .at) (sym (c .before .before .packet-fits .ensures) ∙ not-false (c .before .before .packet-fits .result) (c .before .if2 .left))
+packet-end-requires c κs =
+    let asked = c .before .before in
+    let fit = asked .before .packet-fits in
+    head-within _ _ (sym (fit .ensures) ∙ not-false (fit .result) (asked .if2 .left))
+
+sub-answer-packet : tie.Need-sub-answer-packet
+unfolding packetEnd
+sub-answer-packet c = search needs
+
+part-answer-packet-start : tie.Need-part-answer-packet-start
+unfolding packetEnd
+part-answer-packet-start c = search needs
+
+part-answer-packet-end : tie.Need-part-answer-packet-end
+part-answer-packet-end c =
+    let asked = c .before .before .before in
+    let fit = asked .before .packet-fits in
+    let end = end-within _ _ (sym (fit .ensures) ∙ not-false (fit .result) (asked .if2 .left)) in
+    search (needs, end)
+
+list-of-requires : tie.Need-list-of-requires
+list-of-requires c κs =
+    let asked = c .before .before .before .before .before .before in
+    let list = asked .before .list-lies in
+    lies-within _ (sym (list .ensures) ∙ not-false (list .result) (asked .if1 .left))
 
 returns-3 : tie.Need-returns-3
-unfolding packetAt packetLies
-returns-3 c = rw (sym (c .before .before .before .before .before .list-lies .ensures) ∙ not-false (c .before .before .before .before .before .list-lies .result) (c .before .before .before .before .if1 .left), sym (c .before .before .before .packet-fits .ensures) ∙ not-false (c .before .before .before .packet-fits .result) (c .before .before .if2 .left), c .before .answer-at-place .ensures, c .packet-end .ensures)
+unfolding packetAt packetLies answerAt
+returns-3 c =
+    let ended = c .before .before .before in
+    let asked = ended .before .before .before in
+    let fit = asked .before .packet-fits in
+    let list = asked .before .before .before .list-lies in
+    rw (
+      sym (list .ensures) ∙ not-false (list .result) (asked .before .before .if1 .left),
+      sym (fit .ensures) ∙ not-false (fit .result) (asked .if2 .left),
+      c .answer-packet .ensures,
+      c .before .list-of .ensures,
+      ended .packet-end .ensures,
+      ended .before .peer-of .ensures,
+      ended .before .before .number-at .ensures,
+    )
 
 pub packet-at-spec : {M : Type 1} → statement M
 packet-at-spec =
     tie.close
-    (tie.spec (λ c κs. search needs) returns (λ c κs. search needs) returns-2 answer-at-place-requires
-    packet-end-requires returns-3)
+    (tie.spec (λ c κs. search needs) returns (λ c κs. search needs) returns-2 number-at-requires (λ c κs. search needs)
+    add-start packet-end-requires sub-answer-packet part-answer-packet-start part-answer-packet-end list-of-requires
+    (λ c κs. search needs) returns-3)

@@ -9,4 +9,6 @@ returns c = search needs
 
 pub packet-end-spec : {M : Type 1} → statement M
 packet-end-spec =
-    tie.close (tie.spec (λ c. search needs) (λ c. search needs) (λ c κs. search needs) (λ c. search needs) returns)
+    tie.close
+    (tie.spec (λ c. search needs) (λ c. search needs) (λ c κs. search needs) (λ c. search needs) (λ c. search needs)
+    returns)

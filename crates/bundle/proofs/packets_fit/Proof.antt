@@ -18,16 +18,36 @@ loop-holds : tie.Need-loop-holds Inv-loop μ-loop
 loop-holds c = (search needs, rw sub-zero)
 
 returns : tie.Need-returns Inv-loop μ-loop
-returns c = let a = c .before .before .before .before .before .args in let l = c .before .before .before .loop in sym (sym (l .inv .1) ∙ packet-fails-turn (a .bundle .now) (l .at) (l .i) (a .count) (c .before .before .loop-test .taken) (sym (c .before .packet-fits .ensures) ∙ not-true (c .before .packet-fits .result) (c .if1 .taken)))
+returns c =
+    let turn = c .before .before .before in
+    let a = turn .before .before .args in
+    let here = turn .loop in
+    let fit = c .before .packet-fits in
+    let fails = sym (fit .ensures) ∙ not-true (fit .result) (c .if1 .taken) in
+    let inside = c .before .before .loop-test .taken in
+    sym (sym (here .inv .1) ∙ packet-fails-turn (a .bundle .now) (here .at) (here .i) (a .count) inside fails)
 
 packet-end-requires : tie.Need-packet-end-requires Inv-loop μ-loop
-packet-end-requires c κs = head-within (c .before .before .before .before .before .args .bundle .now) (c .before .before .before .loop .at) (sym (c .before .packet-fits .ensures) ∙ not-false (c .before .packet-fits .result) (c .if1 .left))
+packet-end-requires c κs =
+    let fit = c .before .packet-fits in
+    head-within _ _ (sym (fit .ensures) ∙ not-false (fit .result) (c .if1 .left))
 
 loop-again : tie.Need-loop-again Inv-loop μ-loop
-loop-again c = let a = c .before .before .before .before .before .before .args in let l = c .before .before .before .before .loop in (search needs, rw (c .packet-end .ensures) (packet-fits-turn (a .bundle .now) (l .at) (l .i) (a .count) (c .before .before .before .loop-test .taken) (sym (c .before .before .packet-fits .ensures) ∙ not-false (c .before .before .packet-fits .result) (c .before .if1 .left)) ∙ l .inv .1))
+loop-again c =
+    let turn = c .before .before .before .before in
+    let a = turn .before .before .args in
+    let here = turn .loop in
+    let fit = c .before .before .packet-fits in
+    let fits = sym (fit .ensures) ∙ not-false (fit .result) (c .before .if1 .left) in
+    let inside = c .before .before .before .loop-test .taken in
+    let later = packet-fits-turn (a .bundle .now) (here .at) (here .i) (a .count) inside fits in
+    (search needs, rw (c .packet-end .ensures) (later ∙ here .inv .1))
 
 returns-2 : tie.Need-returns-2 Inv-loop μ-loop
-returns-2 c = let a = c .before .before .before .args in sym (sym (c .before .loop .inv .1) ∙ packets-end (a .bundle .now) (c .before .loop .at) (c .before .loop .i) (a .count) (c .loop-test .left))
+returns-2 c =
+    let a = c .before .before .before .args in
+    let end = c .before .loop in
+    sym (sym (end .inv .1) ∙ packets-end (a .bundle .now) (end .at) (end .i) (a .count) (c .loop-test .left))
 
 pub packets-fit-spec : {M : Type 1} → statement M
 packets-fit-spec =

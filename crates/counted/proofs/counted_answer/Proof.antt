@@ -6,7 +6,13 @@ use Rattle.counted.proofs.counted_answer.Tie as tie
 
 returns : tie.Need-returns
 unfolding countedAnswer
-returns c = simp (← c .before .before .before .before .peer-of .ensures, ← c .before .before .before .read-packet .ensures, ← c .before .search-checked .ensures, ← c .found-number .ensures)
+returns c =
+    simp (
+      ← c .before .before .before .before .peer-of .ensures,
+      ← c .before .before .before .read-packet .ensures,
+      ← c .before .search-checked .ensures,
+      ← c .found-code .ensures,
+    )
 
 pub counted-answer-spec : {M : Type 1} → statement M
 counted-answer-spec =

@@ -6,7 +6,7 @@ use Rattle.counted.proofs.counted_observe.Tie as tie
 
 returns : tie.Need-returns
 unfolding countedReading
-returns c = simp (← c .before .before .peer-of .ensures, ← c .before .read-packet .ensures, ← c .plain-of .ensures)
+returns c = simp (← c .before .before .peer-of .ensures, ← c .before .read-packet .ensures, ← c .plain-packet .ensures)
 
 pub counted-observe-spec : {M : Type 1} → statement M
 counted-observe-spec =

@@ -10,17 +10,22 @@ use Rattle.distances.proofs.ttl_fit.Tie as tie
 
 returns : tie.Need-returns
 unfolding ttlFit
-returns c = simp (← c .before .before .before .signature-initial-ttl .ensures, ← c .before .is-bad .ensures, c .if2 .taken) (search cases)
+returns c =
+    let initial = c .before .before .before .signature-initial-ttl in
+    simp (← initial .ensures, ← c .before .is-bad .ensures, c .if2 .taken) (search cases)
 
 returns-2 : tie.Need-returns-2
 unfolding ttlFit
 returns-2 c =
-    let none : c .before .before .before .signature-initial-ttl .result - c .before .before .before .before .args .observed ≡ 0 = omega arith in
-    simp (← c .before .before .before .signature-initial-ttl .ensures, ← c .before .is-bad .ensures, c .if2 .left, none) (search cases)
+    let initial = c .before .before .before .signature-initial-ttl in
+    let none : initial .result - c .before .before .before .before .args .observed ≡ 0 = omega arith in
+    simp (← initial .ensures, ← c .before .is-bad .ensures, c .if2 .left, none) (search cases)
 
 returns-3 : tie.Need-returns-3
 unfolding ttlFit
-returns-3 c = simp (← c .before .before .before .signature-initial-ttl .ensures, ← c .before .is-bad2 .ensures, c .if3 .taken) (search cases)
+returns-3 c =
+    let initial = c .before .before .before .signature-initial-ttl in
+    simp (← initial .ensures, ← c .before .is-bad2 .ensures, c .if3 .taken) (search cases)
 
 returns-4 : tie.Need-returns-4
 unfolding ttlFit

@@ -9,18 +9,16 @@ use Rattle.flow.proofs.payload_class.Tie as tie
 
 returns : tie.Need-returns
 unfolding payloadClass
-returns c = rw (eq-eqb (payloadSize (c .before .before .before .before .args .tcp .now)) 0 (omega arith))
+returns c = rw (eq-eqb (payloadSize (c .before .before .before .args .tcp .now)) 0 (omega arith))
 
 returns-2 : tie.Need-returns-2
 unfolding payloadClass
-returns-2 c = rw (eq-eqb (payloadSize (c .before .before .before .before .before .args .tcp .now)) 0 (omega arith))
+returns-2 c = rw (eq-eqb (payloadSize (c .before .before .before .before .args .tcp .now)) 0 (omega arith))
 
 returns-3 : tie.Need-returns-3
 unfolding payloadClass
-returns-3 c = rw (ne-eqb (payloadSize (c .before .before .before .before .before .args .tcp .now)) 0 (omega arith))
+returns-3 c = rw (ne-eqb (payloadSize (c .before .before .before .before .args .tcp .now)) 0 (omega arith))
 
 pub payload-class-spec : {M : Type 1} → statement M
 payload-class-spec =
-    tie.close
-    (tie.spec (λ c. search needs) (λ c κs. search needs) (λ c. search needs) (λ c. search needs) returns returns-2
-    returns-3)
+    tie.close (tie.spec (λ c κs. search needs) (λ c. search needs) returns returns-2 returns-3)

@@ -1,28 +1,24 @@
 -- `flow::shown_quirks` meets its contract.
-use Rattle.flow.specs.Tcp.{quirksOfHeaders}
-use Rattle.basis.specs.Bytes.{be16, be32}
+use Rattle.flow.specs.Tcp.{headerQuirks, quirksOfHeaders}
+use Rattle.basis.specs.Bytes.{be16}
 use borrow.Author.Needs.{needs}
 use Rattle.flow.proofs.shown_quirks.Statement.{statement}
 use Rattle.flow.proofs.shown_quirks.Tie as tie
 
 returns : tie.Need-returns
-unfolding quirksOfHeaders be16 be32
+unfolding quirksOfHeaders headerQuirks be16
 returns c =
-    simp (
-      c .header-quirks .ensures,
-      c .before .be165 .ensures,
-      c .before .before .before .before .before .be322 .ensures,
-      c .before .before .before .before .before .before .be164 .ensures,
-      c .before .before .before .before .before .before .before .before .before .be163 .ensures,
-      c .before .before .before .before .before .before .before .before .before .before .before .before .be32 .ensures,
-      c .before .before .before .before .before .before .before .before .before .before .before .before .before .be162 .ensures,
-      c .before .before .before .before .before .before .before .before .before .before .before .before .before .before .before .before .be16 .ensures,
+    let at-numbers = c .before .before .before .before in
+    rw (
+      c .urgent-quirks .ensures,
+      c .before .be16 .ensures,
+      at-numbers .number-quirks .ensures,
+      at-numbers .before .word2 .ensures,
+      at-numbers .before .before .word .ensures,
     )
 
 pub shown-quirks-spec : {M : Type 1} → statement M
 shown-quirks-spec =
     tie.close
-    (tie.spec (λ c. search needs) (λ c. search needs) (λ c κs. search needs) (λ c. search needs) (λ c. search needs)
-    (λ c κs. search needs) (λ c κs. search needs) (λ c. search needs) (λ c. search needs) (λ c κs. search needs)
-    (λ c. search needs) (λ c. search needs) (λ c κs. search needs) (λ c κs. search needs) (λ c. search needs)
+    (tie.spec (λ c. search needs) (λ c κs. search needs) (λ c κs. search needs) (λ c κs. search needs)
     (λ c. search needs) (λ c. search needs) (λ c κs. search needs) (λ c κs. search needs) returns)

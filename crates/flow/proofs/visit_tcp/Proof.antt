@@ -1,7 +1,7 @@
 -- `flow::visit_tcp` meets its contract.
 use Rattle.rfc.specs.Rfc9293.{control}
 use mathlib.Core.Path.{_≡_, sym, _∙_}
-use mathlib.Core.Bool.{true, false, _||_}
+use mathlib.Core.Bool.{true, false, not, _&&_}
 use lib.Dec.{eqb}
 use borrow.Author.Tests.{not-true, not-false}
 use Rattle.observable.specs.Observation.{emptyObservation}
@@ -20,19 +20,19 @@ returns c =
     let valid = c .before .before .is-valid in
     let bad : flagsInvalid flags ≡ true =
     not-false (flagsInvalid flags) (sym (valid .ensures) ∙ not-true (valid .result) (c .before .if1 .taken)) in
-    simp (c .refuse .ensures, bad)
+    rw (c .refuse .ensures, bad)
 
 returns-2 : tie.Need-returns-2
 unfolding readTcp isSynType isSynAckType
 returns-2 c =
-    let flags = control (c .before .before .before .before .before .before .before .before .args .tcp .now) in
-    let valid = c .before .before .before .before .before .is-valid in
-    let opening = c .before .before .is-opening in
+    let at-type = c .before .before in
+    let flags = control (at-type .before .before .before .before .before .args .tcp .now) in
+    let valid = at-type .before .before .is-valid in
     let sound : flagsInvalid flags ≡ false =
-    not-true (flagsInvalid flags) (sym (valid .ensures) ∙ not-false (valid .result) (c .before .before .before .before .if1 .left)) in
-    let neither : eqb (maskedType flags) 2 || eqb (maskedType flags) 18 ≡ false =
-    rw (← c .before .before .before .tcp-type .ensures) (sym (opening .ensures) ∙ not-true (opening .result) (c .before .if2 .taken)) in
-    simp (
+    not-true (flagsInvalid flags) (sym (valid .ensures) ∙ not-false (valid .result) (at-type .before .if1 .left)) in
+    let neither : not (eqb (maskedType flags) 2) && not (eqb (maskedType flags) 18) ≡ true =
+    rw (← at-type .tcp-type .ensures) (c .before .if2 .taken) in
+    rw (
       c .empty .ensures,
       sound,
       neither-first (eqb (maskedType flags) 2) (eqb (maskedType flags) 18) neither,
@@ -42,16 +42,15 @@ returns-2 c =
 returns-3 : tie.Need-returns-3
 unfolding readTcp isSynType isSynAckType
 returns-3 c =
-    let at-type = c .before .before .before .before .before in
+    let at-type = c .before .before .before .before in
     let a = at-type .before .before .before .before .before .args in
     let flags = control (a .tcp .now) in
     let valid = at-type .before .before .is-valid in
-    let opening = c .before .before .before .before .is-opening in
     let sound : flagsInvalid flags ≡ false =
     not-true (flagsInvalid flags) (sym (valid .ensures) ∙ not-false (valid .result) (at-type .before .if1 .left)) in
-    let one : eqb (maskedType flags) 2 || eqb (maskedType flags) 18 ≡ true =
-    rw (← at-type .tcp-type .ensures) (sym (opening .ensures) ∙ not-false (opening .result) (c .before .before .before .if2 .left)) in
-    simp (
+    let one : not (eqb (maskedType flags) 2) && not (eqb (maskedType flags) 18) ≡ false =
+    rw (← at-type .tcp-type .ensures) (c .before .before .before .if2 .left) in
+    rw (
       c .observe .ensures,
       c .before .before .opening-answer .ensures,
       c .before .peer-taken .ensures,
@@ -65,5 +64,4 @@ pub visit-tcp-spec : {M : Type 1} → statement M
 visit-tcp-spec =
     tie.close
     (tie.spec (λ c. search needs) (λ c κs. search needs) (λ c κs. search needs) returns (λ c κs. search needs)
-    (λ c κs. search needs) (λ c κs. search needs) returns-2 (λ c κs. search needs) (λ c κs. search needs)
-    (λ c κs. search needs) returns-3)
+    (λ c κs. search needs) returns-2 (λ c κs. search needs) (λ c κs. search needs) (λ c κs. search needs) returns-3)

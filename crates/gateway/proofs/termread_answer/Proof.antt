@@ -1,10 +1,28 @@
+use mathlib.Core.Path.{sym, _∙_}
+use Rattle.gateway.specs.Parts.{gatewayAnswer}
 use borrow.Author.Needs.{needs}
 use Rattle.gateway.proofs.termread_answer.Statement.{statement}
 use Rattle.gateway.proofs.termread_answer.Tie as tie
 
 returns : tie.Need-returns
-returns c = rw (c .code-of .ensures, c .before .fields-of .ensures, c .before .before .gateway-answer .ensures)
+unfolding gatewayAnswer
+returns c =
+    let at = c .before .before .before in
+    rw (
+      sym (at .before .before .check-list .ensures) ∙ at .enum-told .given .1,
+      c .packet-parts .ensures,
+      c .before .answer-packet .ensures,
+      c .before .before .peer-of .ensures,
+    )
+
+returns-2 : tie.Need-returns-2
+unfolding gatewayAnswer
+returns-2 c =
+    let at = c .before .before in
+    rw (sym (at .before .before .check-list .ensures) ∙ at .refusal .given .1, c .refused-list .ensures)
 
 pub termread-answer-spec : {M : Type 1} → statement M
 termread-answer-spec =
-    tie.close (tie.spec (λ c κs. search needs) (λ c κs. search needs) (λ c κs. search needs) returns)
+    tie.close
+    (tie.spec (λ c κs. search needs) (λ c. search needs) (λ c κs. search needs) (λ c κs. search needs)
+    (λ c κs. search needs) (λ c. search needs) (λ c κs. search needs) returns returns-2)

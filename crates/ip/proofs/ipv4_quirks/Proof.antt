@@ -7,7 +7,16 @@ use Rattle.ip.proofs.ipv4_quirks.Tie as tie
 
 returns : tie.Need-returns
 unfolding ipv4Quirks
-returns c = simp (c .add-if5 .ensures, c .before .add-if4 .ensures, c .before .before .add-if3 .ensures, c .before .before .before .add-if2 .ensures, c .before .before .before .before .add-if .ensures, ← empty-bits)
+returns c =
+    let at-df = c .before .before in
+    rw (
+      c .add-if5 .ensures,
+      c .before .add-if4 .ensures,
+      at-df .add-if3 .ensures,
+      at-df .before .add-if2 .ensures,
+      at-df .before .before .add-if .ensures,
+      ← empty-bits,
+    )
 
 pub ipv4-quirks-spec : {M : Type 1} → statement M
 ipv4-quirks-spec =

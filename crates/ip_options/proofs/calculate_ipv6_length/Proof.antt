@@ -16,16 +16,31 @@ returns-2 : tie.Need-returns-2
 returns-2 c = sym (v6-tcp _ (c .if2 .taken))
 
 returns-3 : tie.Need-returns-3
-returns-3 c = sym (v6-fragment _ (c .before .if2 .left) (λ e. c .before .before .before .if1 .left (c .before .before .before .before .payload-size .ensures ∙ e)) (c .if3 .taken))
+returns-3 c =
+    let at-some = c .before .before .before in
+    sym
+    (v6-fragment _ (c .before .if2 .left) (λ e. at-some .if1 .left (at-some .before .payload-size .ensures ∙ e)) (c .if3 .taken))
 
 returns-4 : tie.Need-returns-4
-returns-4 c = sym (v6-one-byte _ (c .before .before .if2 .left) (λ e. c .before .before .before .before .if1 .left (c .before .before .before .before .before .payload-size .ensures ∙ e)) (c .before .if3 .left) (omega (arith, c .before .before .before .before .before .payload-size .ensures)))
+returns-4 c =
+    let at-some = c .before .before .before .before in
+    let size = at-some .before .payload-size .ensures in
+    sym
+    (v6-one-byte _ (c .before .before .if2 .left) (λ e. at-some .if1 .left (size ∙ e)) (c .before .if3 .left) (omega (arith, size)))
 
 shared-slice-read-eights : tie.Need-shared-slice-read-eights
-shared-slice-read-eights c = omega (arith, payload-size (c .before .before .before .before .before .before .before .before .args .packet .now))
+shared-slice-read-eights c =
+    let at-some = c .before .before .before .before .before in
+    omega (arith, payload-size (at-some .before .before .before .args .packet .now))
 
 returns-5 : tie.Need-returns-5
-returns-5 c = c .eights .ensures ∙ sym (v6-eights _ (c .before .before .before .before .if2 .left) (λ e. c .before .before .before .before .before .before .if1 .left (c .before .before .before .before .before .before .before .payload-size .ensures ∙ e)) (c .before .before .before .if3 .left) (omega (arith, c .before .before .before .before .before .before .before .payload-size .ensures)))
+returns-5 c =
+    let at-other = c .before .before .before in
+    let at-some = at-other .before .before .before in
+    let size = at-some .before .payload-size .ensures in
+    c .eights .ensures
+    ∙ sym
+    (v6-eights _ (at-other .before .if2 .left) (λ e. at-some .if1 .left (size ∙ e)) (at-other .if3 .left) (omega (arith, size)))
 
 pub calculate-ipv6-length-spec : {M : Type 1} → statement M
 calculate-ipv6-length-spec =

@@ -6,11 +6,15 @@ use Rattle.matching.proofs.in_range.Tie as tie
 
 returns : tie.Need-returns
 unfolding judgeInRange
-returns c = simp (← c .before .before .before .is-empty .ensures, c .before .before .if1 .taken, ← c .before .is-empty2 .ensures, c .if2 .taken)
+returns c =
+    let at-added = c .before .before in
+    simp (← at-added .before .is-empty .ensures, at-added .if1 .taken, ← c .before .is-empty2 .ensures, c .if2 .taken)
 
 returns-2 : tie.Need-returns-2
 unfolding judgeInRange
-returns-2 c = simp (← c .before .before .before .is-empty .ensures, c .before .before .if1 .taken, ← c .before .is-empty2 .ensures, c .if2 .left)
+returns-2 c =
+    let at-added = c .before .before in
+    simp (← at-added .before .is-empty .ensures, at-added .if1 .taken, ← c .before .is-empty2 .ensures, c .if2 .left)
 
 returns-3 : tie.Need-returns-3
 unfolding judgeInRange

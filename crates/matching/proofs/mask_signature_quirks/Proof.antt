@@ -16,11 +16,15 @@ returns-2 c = simp (c .enum-told2 .given .1)
 
 returns-3 : tie.Need-returns-3
 unfolding maskedQuirks
-returns-3 c = simp (c .before .before .before .enum-told3 .given .1, c .before .enum-told4 .given .1, c .difference .ensures, mask-when-obs-v4-bits)
+returns-3 c =
+    let signature = c .before .before .before in
+    simp (signature .enum-told3 .given .1, c .before .enum-told4 .given .1, c .difference .ensures, mask-when-obs-v4-bits)
 
 returns-4 : tie.Need-returns-4
 unfolding maskedQuirks
-returns-4 c = simp (c .before .before .before .enum-told3 .given .1, c .before .enum-told5 .given .1, c .difference2 .ensures, mask-when-obs-v6-bits)
+returns-4 c =
+    let signature = c .before .before .before in
+    simp (signature .enum-told3 .given .1, c .before .enum-told5 .given .1, c .difference2 .ensures, mask-when-obs-v6-bits)
 
 pub mask-signature-quirks-spec : {M : Type 1} → statement M
 mask-signature-quirks-spec =

@@ -20,10 +20,14 @@ loop-holds : tie.Need-loop-holds Inv-loop μ-loop
 loop-holds c = (search needs, rw sub-zero)
 
 returns : tie.Need-returns Inv-loop μ-loop
-returns c = sym (sym (c .before .before .loop .inv .1) ∙ turn-found _ _ _ (c .before .before .loop .i) (omega arith) (omega arith) (c .if1 .taken))
+returns c =
+    let l = c .before .before .loop in
+    sym (sym (l .inv .1) ∙ turn-found _ _ _ (l .i) (omega arith) (omega arith) (c .if1 .taken))
 
 loop-again : tie.Need-loop-again Inv-loop μ-loop
-loop-again c = (omega arith, turn-other _ _ _ (c .before .before .loop .i) (omega arith) (omega arith) (c .if1 .left) ∙ c .before .before .loop .inv .1)
+loop-again c =
+    let l = c .before .before .loop in
+    (omega arith, turn-other _ _ _ (l .i) (omega arith) (omega arith) (c .if1 .left) ∙ l .inv .1)
 
 returns-2 : tie.Need-returns-2 Inv-loop μ-loop
 returns-2 c = sym (sym (c .before .loop .inv .1) ∙ turns-end _ _ _ (c .before .loop .i) (omega arith))

@@ -21,10 +21,10 @@ returns-2 c =
 
 returns-3 : tie.Need-returns-3
 returns-3 c =
-    let a = c .before .before .before .before .before .before .args in
+    let a = c .before .before .before .before .args in
     let some : 2 < length (a .own .now) = omega arith in
-    rw (enough-mss (a .mss) (a .kind) (a .own .now) (c .before .before .before .before .if1 .left) some, c .be16 .ensures)
+    rw (enough-mss (a .mss) (a .kind) (a .own .now) (c .before .before .if1 .left) some, c .be16-at .ensures)
 
 pub later-mss-spec : {M : Type 1} → statement M
 later-mss-spec =
-    tie.close (tie.spec returns returns-2 (λ c. search needs) (λ c. search needs) (λ c κs. search needs) returns-3)
+    tie.close (tie.spec returns returns-2 (λ c κs. search needs) returns-3)

@@ -1,5 +1,5 @@
 -- `one_option::later_quirks` meets its contract.
-use Rattle.one_option.proofs.See.{opt, other-quirks}
+use Rattle.one_option.proofs.See.{opt, last-quirks, other-quirks}
 use Rattle.one_option.specs.See.{laterQuirks}
 use Prim.Native.Nat.{ℕ}
 use mathlib.Core.Path.{sym, _∙_, ap}
@@ -19,8 +19,9 @@ returns-2 c =
 
 returns-3 : tie.Need-returns-3
 returns-3 c =
-    let a = c .before .before .before .before .before .args in
-    c .end-quirks .ensures ∙ sym (ap (λ (k : ℕ). laterQuirks (a .syn) (a .quirks) (opt k (a .own .now))) (c .before .if3 .taken))
+    let a = c .before .before .before .before .before .before .args in
+    let last = last-quirks (a .syn) (a .quirks) (a .own .now) (a .kind) (c .before .before .if3 .taken) in
+    rw (last, c .add-if .ensures, c .before .any-nonzero .ensures)
 
 returns-4 : tie.Need-returns-4
 returns-4 c =
@@ -30,5 +31,5 @@ returns-4 c =
 pub later-quirks-spec : {M : Type 1} → statement M
 later-quirks-spec =
     tie.close
-    (tie.spec (λ c κs. search needs) returns (λ c κs. search needs) returns-2 (λ c κs. search needs) returns-3
-    returns-4)
+    (tie.spec (λ c κs. search needs) returns (λ c κs. search needs) returns-2 (λ c κs. search needs)
+    (λ c κs. search needs) returns-3 returns-4)

@@ -18,7 +18,8 @@ returns-2 : tie.Need-returns-2
 returns-2 c =
     let a = c .before .before .before .before .args in
     let some : 1 < length (a .own .now) = omega arith in
-    rw (quirks-of (a .syn) (a .quirks) (a .own .now) (opt 3 (a .own .now)) (scale-enough (a .syn) (just (a .quirks)) (a .own .now) some), c .add-if .ensures)
+    let shown = scale-enough (a .syn) (just (a .quirks)) (a .own .now) some in
+    rw (quirks-of (a .syn) (a .quirks) (a .own .now) (opt 3 (a .own .now)) shown, c .add-if .ensures)
 
 pub scale-quirks-spec : {M : Type 1} → statement M
 scale-quirks-spec =

@@ -1,6 +1,7 @@
 -- `quirks::named_sets` meets its contract.
 use mathlib.Core.Path.{refl}
-use Rattle.quirks.specs.Named.{namedSets, empty, fuzzyDeletable, fuzzyAddable, maskWhenObsV4, maskWhenObsV6, seventeen, fromQuirks, displayOrder}
+use Rattle.quirks.specs.Named.{namedSets, empty, fuzzyDeletable, fuzzyAddable, maskWhenObsV4, maskWhenObsV6}
+use Rattle.quirks.specs.Named.{seventeen, fromQuirks, displayOrder}
 use Rattle.quirks.specs.Quirks.{with, bitOf, placeOf}
 use Rattle.quirks.proofs.named_sets.Statement.{statement}
 use Rattle.quirks.proofs.named_sets.Tie as tie

@@ -19,7 +19,9 @@ use Rattle.report.proofs.put_lines.Tie as tie
 abbrev Inv-loop : tie.InvT-loop
 Inv-loop bundle page₀ filled₀ left₀ at₀ page filled left at =
     (filled ≤ pageSize)
-    × ((r : Progress) (p : List ℕ) → Filled page filled (pageFrom bundle filled at left) r p → Filled page₀ filled₀ (pageFrom bundle filled₀ at₀ left₀) r p)
+    × ((r : Progress) (p : List ℕ)
+    → Filled page filled (pageFrom bundle filled at left) r p
+    → Filled page₀ filled₀ (pageFrom bundle filled₀ at₀ left₀) r p)
 
 abbrev μ-loop : tie.MeasureT-loop
 μ-loop bundle page₀ filled₀ left₀ at₀ page filled left at = left
@@ -28,29 +30,53 @@ loop-holds : tie.Need-loop-holds Inv-loop μ-loop
 loop-holds c = (search needs, λ r p h. h)
 
 returns : tie.Need-returns Inv-loop μ-loop
-returns c = let a = c .before .before .before .before .args in let l = c .before .before .loop in l .inv .1 _ _ (rw (no-room (a .bundle .now) (l .page) (l .filled) (l .at) (l .left) (c .before .loop-test .taken) (c .if1 .taken)) (filled-full (l .page) (l .filled) (l .left) (l .at)))
+returns c =
+    let at = c .before .before in
+    let b = at .before .before .args .bundle .now in
+    let l = at .loop in
+    let full = no-room b (l .page) (l .filled) (l .at) (l .left) (c .before .loop-test .taken) (c .if1 .taken) in
+    l .inv .1 _ _ (rw full (filled-full (l .page) (l .filled) (l .left) (l .at)))
 
 returns-2 : tie.Need-returns-2 Inv-loop μ-loop
-returns-2 c = let a = c .before .before .before .before .before .before .before .args in let l = c .before .before .before .before .before .loop in l .inv .1 _ _ (rw (no-packet (a .bundle .now) (l .page) (l .filled) (l .at) (l .left) (c .before .before .before .before .loop-test .taken) (omega (arith, c .before .before .before .if1 .left)) (none-there (a .bundle .now) (l .at) (sym (c .before .before .packet-at .ensures) ∙ c .enum-told .given .1))) (filled-full (l .page) (l .filled) 0 (l .at)))
+returns-2 c =
+    let call = c .before .before in
+    let test = call .before .before in
+    let at = test .before in
+    let b = at .before .before .args .bundle .now in
+    let l = at .loop in
+    let none = none-there b (l .at) (sym (call .packet-at .ensures) ∙ c .enum-told .given .1) in
+    let room : 19 ≤ pageSize - l .filled = omega (arith, call .before .if1 .left) in
+    let ended = no-packet b (l .page) (l .filled) (l .at) (l .left) (test .loop-test .taken) room none in
+    l .inv .1 _ _ (rw ended (filled-full (l .page) (l .filled) 0 (l .at)))
 
 loop-again : tie.Need-loop-again Inv-loop μ-loop
 loop-again c =
-    let a = c .before .before .before .before .before .before .before .before .before .before .args in
-    let l = c .before .before .before .before .before .before .before .before .loop in
+    let told = c .before .before .before in
+    let call = told .before .before in
+    let test = call .before .before in
+    let at = test .before in
+    let b = at .before .before .args .bundle .now in
+    let l = at .loop in
     let put = c .put-line in
-    let found = packet-there (a .bundle .now) (l .at) _ _ (sym (c .before .before .before .before .before .packet-at .ensures) ∙ c .before .before .before .answer .given .1) in
-    let line = answerAt (a .bundle .now) (l .at) in
-    let room : 19 ≤ pageSize - l .filled = omega (arith, c .before .before .before .before .before .before .if1 .left) in
+    let found = packet-there b (l .at) _ _ (sym (call .packet-at .ensures) ∙ told .answer .given .1) in
+    let line = answerAt b (l .at) in
+    let room : 19 ≤ pageSize - l .filled = omega (arith, call .before .if1 .left) in
     let whole : length (l .page) ≡ pageSize = search needs in
     let done : PutAll (l .page) (l .filled) (lineOf line) (put .result) (put .last .0) =
     put-all _ _ _ _ _ (omega (arith, line-length line)) (rw (sym (found .answer)) (put .ensures)) in
     let next : l .filled + length (lineOf line) ≤ pageSize = omega (arith, line-length line) in (
       rw (done .0) next,
-      λ r p h. l .inv .1 r p (one-line (a .bundle .now) (l .page) (l .filled) (l .at) (l .left) (c .before .before .before .before .before .before .before .loop-test .taken) room (found .lies) whole (put .last .0) p (put .result) r done (rw (sym (found .ends)) h)),
+      λ r p h. l .inv .1 r p
+          (one-line b (l .page) (l .filled) (l .at) (l .left) (test .loop-test .taken) room (found .lies) whole (put .last .0) p
+          (put .result) r done (rw (sym (found .ends)) h)),
     )
 
 returns-3 : tie.Need-returns-3 Inv-loop μ-loop
-returns-3 c = let a = c .before .before .before .args in let l = c .before .loop in l .inv .1 _ _ (rw (no-more (a .bundle .now) (l .filled) (l .at) (l .left) (c .loop-test .left)) (filled-full (l .page) (l .filled) 0 (l .at)))
+returns-3 c =
+    let b = c .before .before .before .args .bundle .now in
+    let l = c .before .loop in
+    let none-left = no-more b (l .filled) (l .at) (l .left) (c .loop-test .left) in
+    l .inv .1 _ _ (rw none-left (filled-full (l .page) (l .filled) 0 (l .at)))
 
 pub put-lines-spec : {M : Type 1} → statement M
 put-lines-spec =

@@ -22,10 +22,7 @@ returns-2 : tie.Need-returns-2
 unfolding searchAll searchOver
 returns-2 c =
     let featured = c .before .before .before .before .before .before in
-    let told = featured .before .before in
-    let read = told .before .before in
-    let fit = header-areas (read .before .before .args .list .now) _ (sym (read .read-header .ensures) ∙ told .areas .given .1) in
-    rw (c .search-records .ensures, featured .features-of .ensures, fit .records)
+    rw (c .search-records .ensures, featured .features-of .ensures)
 
 pub search-checked-spec : {M : Type 1} → statement M
 search-checked-spec =

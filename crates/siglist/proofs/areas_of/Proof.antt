@@ -6,7 +6,14 @@ use Rattle.siglist.proofs.areas_of.Tie as tie
 
 returns : tie.Need-returns
 unfolding areasOf
-returns c = cc
+returns c =
+    let second = c .before .before in
+    simp (
+      c .be16-at4 .ensures,
+      c .before .be16-at3 .ensures,
+      second .be16-at2 .ensures,
+      second .before .be16-at .ensures,
+    )
 
 pub areas-of-spec : {M : Type 1} → statement M
 areas-of-spec =

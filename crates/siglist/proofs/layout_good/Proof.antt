@@ -1,50 +1,50 @@
 -- `siglist::layout_good` meets its contract.
-use Rattle.siglist.specs.List.{layoutCount, layoutLies}
-use Rattle.basis.proofs.Rules.{cases}
+use Rattle.siglist.specs.List.{layoutLies}
+use Rattle.siglist.proofs.List.{lie-within, row-of}
+use mathlib.Core.Path.{sym, _∙_}
 use Prim.Native.Nat.{_+_, _*_}
-use borrow.Author.Tests.{le-leb, lt-leb}
 use native.Mathlib.Omega.{arith}
-use Rattle.siglist.proofs.List.{row-of}
+use borrow.Author.Tests.{not-true, not-false}
 use borrow.Author.Needs.{needs}
 use Rattle.siglist.proofs.layout_good.Statement.{statement}
 use Rattle.siglist.proofs.layout_good.Tie as tie
 
 returns : tie.Need-returns
 unfolding layoutLies
-returns c = search cases
+returns c =
+    let lie = c .before .entries-lie in
+    let pre = c .before .before .before .pre in
+    rw (← pre .entries, ← lie .ensures, not-true (lie .result) (c .if1 .taken))
+
+part-end : tie.Need-part-entries-good-end
+part-end c =
+    let lie = c .before .before .entries-lie in
+    let a = c .before .before .before .before .args in
+    let pre = c .before .before .before .before .pre in
+    let lies = not-false (lie .result) (c .before .if1 .left) in
+    let within = lie-within (a .areas .entries) (a .first) (a .count) (sym (lie .ensures) ∙ lies) in
+    search needs
 
 returns-2 : tie.Need-returns-2
 unfolding layoutLies
 returns-2 c =
-    let a = c .before .before .before .before .args in
-    let pre = c .before .before .before .before .pre in
-    rw (le-leb (a .count) 40 (omega arith), lt-leb (a .first + a .count) (layoutCount (a .list .now)) (omega arith))
-
-returns-3 : tie.Need-returns-3
-unfolding layoutLies
-returns-3 c =
-    let a = c .before .before .before .before .before .args in
-    let pre = c .before .before .before .before .before .pre in
-    rw (le-leb (a .count) 40 (omega arith), lt-leb (a .first + a .count) (layoutCount (a .list .now)) (omega arith))
-
-returns-4 : tie.Need-returns-4
-unfolding layoutLies
-returns-4 c =
-    let at-start = c .before .before .before .before .before .before .before .before in
+    let at-start = c .before .before .before .before .before .before in
     let a = at-start .args in
     let pre = at-start .pre in
-    let start = a .areas .«entries_offset» + 2 * a .first in
+    let lie = c .before .before .before .before .entries-lie in
+    let lies = not-false (lie .result) (c .before .before .before .if1 .left) in
+    let within = lie-within (a .areas .entries) (a .first) (a .count) (sym (lie .ensures) ∙ lies) in
     rw (
-      le-leb (a .count) 40 (omega arith),
-      le-leb (a .first + a .count) (layoutCount (a .list .now)) (omega arith),
+      ← pre .entries,
       ← pre .entriesAt,
+      ← lie .ensures,
+      lies,
       c .entries-good .ensures,
-      row-of (a .list .now) start (a .count) (omega arith),
+      row-of (a .list .now) (a .areas .«entries_offset» + 2 * a .first) (a .count) (omega arith),
     )
 
 pub layout-good-spec : {M : Type 1} → statement M
 layout-good-spec =
     tie.close
-    (tie.spec returns (λ c. search needs) returns-2 returns-3 (λ c. search needs) (λ c. search needs)
-    (λ c. search needs) (λ c. search needs) (λ c. search needs) (λ c. search needs) (λ c. search needs)
-    (λ c. search needs) (λ c κs. search needs) returns-4)
+    (tie.spec (λ c κs. search needs) returns (λ c. search needs) (λ c. search needs) (λ c. search needs) (λ c. search needs)
+    (λ c. search needs) (λ c. search needs) (λ c. search needs) part-end (λ c κs. search needs) returns-2)

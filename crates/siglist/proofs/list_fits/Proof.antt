@@ -23,16 +23,17 @@ returns-2 c =
 
 returns-3 : tie.Need-returns-3
 returns-3 c =
-    let fit = c .before .before .records-fit in
-    let read = c .before .before .before .areas-of in
+    let at-test = c .before .before in
+    let fit = at-test .before .records-fit in
+    let read = at-test .before .before .areas-of in
     rw (
       fits-by _ (read .result) (read .ensures) (omega arith),
       ← fit .ensures,
-      not-false (fit .result) (c .before .if2 .left),
-      ← c .entries-fit .ensures,
+      not-false (fit .result) (at-test .if2 .left),
     )
 
 pub list-fits-spec : {M : Type 1} → statement M
 list-fits-spec =
     tie.close
-    (tie.spec returns (λ c κs. search needs) (λ c κs. search needs) returns-2 (λ c κs. search needs) returns-3)
+    (tie.spec returns (λ c κs. search needs) (λ c κs. search needs) returns-2 (λ c. search needs) (λ c. search needs)
+    (λ c. search needs) (λ c. search needs) returns-3)

@@ -7,7 +7,9 @@ use Rattle.sigrecord.proofs.quirks_of.Tie as tie
 
 returns : tie.Need-returns
 unfolding signatureOf be32
-returns c = cc
+returns c =
+    let at-low = c .before .before in
+    simp (c .from-bits .ensures, c .before .be32 .ensures, at-low .be16-at2 .ensures, at-low .before .be16-at .ensures)
 
 pub quirks-of-spec : {M : Type 1} → statement M
 quirks-of-spec =

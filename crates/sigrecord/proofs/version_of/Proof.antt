@@ -7,15 +7,15 @@ use Rattle.sigrecord.proofs.version_of.Tie as tie
 
 returns : tie.Need-returns
 unfolding signatureOf versionOf
-returns c = simp (← c .before .byte-at .ensures) (search cases)
+returns c = simp (← c .before .byte-at .ensures, c .match .keys1)
 
 returns-2 : tie.Need-returns-2
 unfolding signatureOf versionOf
-returns-2 c = simp (← c .before .before .byte-at .ensures) (search cases)
+returns-2 c = simp (← c .before .byte-at .ensures, c .match .keys2)
 
 returns-3 : tie.Need-returns-3
 unfolding signatureOf versionOf
-returns-3 c = simp (← c .before .before .byte-at .ensures) (search cases)
+returns-3 c = simp (← c .before .byte-at .ensures) (search cases)
 
 pub version-of-spec : {M : Type 1} → statement M
 version-of-spec =

@@ -8,14 +8,13 @@ use Rattle.syn_options.proofs.parse_options_raw.Tie as tie
 
 returns : tie.Need-returns
 unfolding parseOptionsRaw
-returns c = rw (c .parsed .ensures, c .before .start-walk .ensures, empty-bits) (search cases)
+returns c = search cases
 
 returns-2 : tie.Need-returns-2
 unfolding parseOptionsRaw
-returns-2 c = rw (c .parsed2 .ensures, c .before .walk-options .ensures, ← empty-bits) (search cases)
+returns-2 c = rw (c .parsed .ensures, c .before .walk-options .ensures, ← empty-bits) (search cases)
 
 pub parse-options-raw-spec : {M : Type 1} → statement M
 parse-options-raw-spec =
     tie.close
-    (tie.spec (λ c κs. search needs) (λ c κs. search needs) returns (λ c κs. search needs) (λ c κs. search needs)
-    returns-2)
+    (tie.spec returns (λ c κs. search needs) (λ c κs. search needs) returns-2)

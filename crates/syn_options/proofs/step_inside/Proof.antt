@@ -7,7 +7,7 @@ use Rattle.syn_options.proofs.step_inside.Tie as tie
 returns : tie.Need-returns
 returns c =
     let lies = step-lies _ _ (c .option-step .ensures) (c .before .before .pre) in
-    (c .option-step .ensures, lies .0, lies .1)
+    record { is = c .option-step .ensures; behind = lies .0; within = lies .1 }
 
 pub step-inside-spec : {M : Type 1} → statement M
 step-inside-spec =

@@ -12,8 +12,11 @@ use Rattle.syn_options.proofs.walk_options.Tie as tie
 returns : tie.Need-returns
 unfolding walkOf
 returns c =
-    let s = c .before .before .before .before .args .options .now in
-    c .walk-part .ensures ∙ ap (λ (t : List ℕ). walkFrom (c .before .before .before .before .args .stop) (c .before .before .before .before .args .syn) (startWalk (c .before .before .before .before .args .quirks)) (optionsOf t)) (forty s (c .before .before .least .result) (c .before .before .least .ensures))
+    let a = c .before .before .before .before .args in
+    let end = c .before .before .least in
+    c .walk-part .ensures
+    ∙ ap (λ (t : List ℕ). walkFrom (a .stop) (a .syn) (startWalk (a .quirks)) (optionsOf t))
+    (forty (a .options .now) (end .result) (end .ensures))
 
 pub walk-options-spec : {M : Type 1} → statement M
 walk-options-spec =

@@ -31,54 +31,54 @@ abbrev μ-loop : tie.MeasureT-loop
 loop-again : tie.Need-loop-again Inv-loop μ-loop
 unfolding seeOption
 loop-again c =
-    let t = c .before .before .before .before .before .before .before .before .before in
+    let at-byte = c .before .before .before .before in
+    let t = at-byte .before .before .before in
     let l = t .before .before .loop in
-    let a = t .before .before .before .before .before .before .args in
+    let a = t .before .before .before .before .args in
     let seen : Seen = record { mss = l .mss; wscale = l .wscale; quirks = l .shown } in
     let goes-on =
     turn-goes-on (a .stop) (a .syn) (l .olayout .kinds) (l .olayout .bytes) (l .count) seen (a .options .now) (l .at)
-    (t .before .loop-test .taken) (t .step-inside .result) (t .step-inside .ensures .0)
-    (sym (c .before .before .before .before .before .before .before .before .stops .ensures)
-    ∙ c .before .before .before .before .before .before .before .if1 .left) in
-    let later-mss = c .before .before .before .before .later-mss .ensures in
-    let entry-byte = c .before .before .before .before .before .before .entry-byte .ensures in (
+    (t .before .loop-test .taken) (t .step-inside .result) (t .step-inside .ensures .is) (at-byte .before .if1 .left) in (
       search needs,
       search needs,
-      simp length-set (l .inv .2),
-      simp length-set (l .inv .3),
+      length-set (l .olayout .kinds) _ _ ∙ l .inv .2,
+      length-set (l .olayout .bytes) _ _ ∙ l .inv .3,
       l .inv .4,
-      simp (c .later-quirks .ensures, c .before .before .later-scale .ensures, later-mss, entry-byte) (goes-on ∙ l .inv .5),
+      rw (
+        c .later-quirks .ensures,
+        c .before .later-scale .ensures,
+        c .before .before .later-mss .ensures,
+        at-byte .entry-byte .ensures,
+      )
+          (goes-on ∙ l .inv .5),
     )
 
 returns : tie.Need-returns Inv-loop μ-loop
 returns c =
     let l = c .before .loop in
-    let a = c .before .before .before .before .before .args in
+    let a = c .before .before .before .args in
     let seen : Seen = record { mss = l .mss; wscale = l .wscale; quirks = l .shown } in
     ap (λ (m : Bool). soFar (l .olayout .kinds) (l .olayout .bytes) (l .count) seen m) (l .inv .4)
     ∙ sym
     (walk-ends (a .stop) (a .syn) (soFar (l .olayout .kinds) (l .olayout .bytes) (l .count) seen false) (a .options .now) (l .at)
     (c .loop-test .left))
     ∙ l .inv .5
-    ∙ rw (c .before .before .before .start-walk .ensures)
 
 returns-2 : tie.Need-returns-2 Inv-loop μ-loop
 returns-2 c =
     let t = c .before .before in
     let l = t .before .before .loop in
-    let a = t .before .before .before .before .before .before .args in
+    let a = t .before .before .before .before .args in
     let seen : Seen = record { mss = l .mss; wscale = l .wscale; quirks = l .shown } in
     sym
     (turn-stops (a .stop) (a .syn) (l .olayout .kinds) (l .olayout .bytes) (l .count) seen (a .options .now) (l .at)
-    (t .before .loop-test .taken) (t .step-inside .result) (t .step-inside .ensures .0) (sym (c .before .stops .ensures) ∙ c .if1 .taken))
+    (t .before .loop-test .taken) (t .step-inside .result) (t .step-inside .ensures .is) (c .if1 .taken))
     ∙ l .inv .5
-    ∙ rw (t .before .before .before .before .start-walk .ensures)
 
 pub walk-part-spec : {M : Type 1} → statement M
 walk-part-spec =
     tie.close
-    (tie.spec Inv-loop μ-loop (λ c κs. search needs) (λ c. search needs) (λ c κs. search needs) (λ c κs. search needs)
-    (λ c. search needs) (λ c. search needs) (λ c. search needs) (λ c κs. search needs) (λ c. search needs)
-    (λ c. search needs) (λ c. search needs) (λ c. search needs) (λ c. search needs) (λ c κs. search needs)
-    (λ c. search needs) (λ c. search needs) (λ c. search needs) (λ c κs. search needs) (λ c. search needs)
-    (λ c. search needs) (λ c. search needs) (λ c κs. search needs) (λ c. search needs) loop-again returns returns-2)
+    (tie.spec Inv-loop μ-loop (λ c. search needs) (λ c κs. search needs) (λ c. search needs) (λ c. search needs)
+    (λ c. search needs) (λ c κs. search needs) (λ c. search needs) (λ c. search needs) (λ c. search needs)
+    (λ c. search needs) (λ c. search needs) (λ c κs. search needs) (λ c κs. search needs) (λ c κs. search needs)
+    (λ c. search needs) loop-again returns returns-2)

@@ -138,7 +138,8 @@ module _ {M : Type 1} (𝓤 : URA M) (H : Heap 𝓤) (A : Atoms 𝓤) (W : Given
     )
 
     goes : (α β : ℕ) (γ δ : GName)
-        → ent 𝓤 (sep 𝓤 (sep 𝓤 (A .lft (α ∷ []) fullShare) (A .lft (β ∷ []) fullShare)) (sep 𝓤 (sem 𝓤 H A (own-asked α γ)) (sem 𝓤 H A (own-left β δ)))) (Nano .pre (bound α β γ δ))
+        → ent 𝓤 (sep 𝓤 (sep 𝓤 (A .lft (α ∷ []) fullShare) (A .lft (β ∷ []) fullShare))
+        (sep 𝓤 (sem 𝓤 H A (own-asked α γ)) (sem 𝓤 H A (own-left β δ)))) (Nano .pre (bound α β γ δ))
     goes α β γ δ =
         qed W ((‵ (flft (α ∷ []) fullShare) ⊛ ‵ (flft (β ∷ []) fullShare)) ∷ (‵ (own-asked α γ) ⊛ ‵ (own-left β δ)) ∷ []) ∵ split ! $
         move ! (2 ∷ []) $ split ! $
@@ -207,8 +208,11 @@ module _ {M : Type 1} (𝓤 : URA M) (H : Heap 𝓤) (A : Atoms 𝓤) (W : Given
       (λ κs qs bounds a g are. via 𝓤 (sep 𝓤 (emp 𝓤) (emp 𝓤)) (fst∗ 𝓤 _ (emp 𝓤)) (qed W (‵ ftrue ∷ ‵ ftrue ∷ []) ∵ keep ! [] $
       by ! (walk C Λ fm known)))
 
-pause-meets : {M : Type 1} (𝓤 : URA M) (H : Heap 𝓤) (A : Atoms 𝓤) (W : Given 𝓤 H A) (at-mem : Memory → SProp 𝓤) (run : Routine → Fun 𝓤) (𝓣 : Tables 𝓤 H)
-    → Triple 𝓤 (𝓣 .C #libc·nanosleep) (Nano 𝓤 H A W at-mem run) → Meets 𝓤 H A pause.signature (WpFn 𝓤 H (𝓣 .C) (𝓣 .Λ) code.function) (pause.spec 𝓤 H A at-mem run)
+pause-meets
+    : {M : Type 1} (𝓤 : URA M) (H : Heap 𝓤) (A : Atoms 𝓤) (W : Given 𝓤 H A)
+    (at-mem : Memory → SProp 𝓤) (run : Routine → Fun 𝓤) (𝓣 : Tables 𝓤 H)
+    → Triple 𝓤 (𝓣 .C #libc·nanosleep) (Nano 𝓤 H A W at-mem run)
+    → Meets 𝓤 H A pause.signature (WpFn 𝓤 H (𝓣 .C) (𝓣 .Λ) code.function) (pause.spec 𝓤 H A at-mem run)
 pause-meets 𝓤 H A W at-mem run 𝓣 known =
     walk-meets 𝓤 H A pause.ended stayed W tt (pause.clauses 𝓤 H A at-mem run)
     (WpFn 𝓤 H (𝓣 .C) (𝓣 .Λ) code.function) (WpFn-mono 𝓤 H (W .laws) 𝓣 code.function)

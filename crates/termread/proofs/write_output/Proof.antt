@@ -43,7 +43,13 @@ send-requires c κs =
       held .4,
       (
         page-follows (now (start .args .bundle)) (start .args .longer) (at .loop .taken) page p (held .5),
-        omega (arith, held .3, held .2, c .before .before .loop-test .taken, part-length page (p .filled) (omega (arith, held .1, held .2))),
+        omega (
+          arith,
+          held .3,
+          held .2,
+          c .before .before .loop-test .taken,
+          part-length page (p .filled) (omega (arith, held .1, held .2)),
+        ),
       ),
     )
 

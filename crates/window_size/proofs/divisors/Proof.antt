@@ -1,23 +1,18 @@
 -- `window_size::divisors` meets its contract.
-use mathlib.Core.Path.{_≡_}
-use mathlib.Core.Bool.{cond, not}
-use Prim.Native.Nat.{_-_}
-use native.Mathlib.Omega.{arith}
-use lib.Dec.{eqb}
-use Rattle.window_size.proofs.Laws.{of-peer}
-use Rattle.window_size.specs.Divisors.{twelve}
+use Rattle.window_size.proofs.Laws.{row-held}
 use borrow.Author.Needs.{needs}
 use Rattle.window_size.proofs.divisors.Statement.{statement}
 use Rattle.window_size.proofs.divisors.Tie as tie
 
 returns : tie.Need-returns
-unfolding twelve
 returns c =
-    let at-start = c .before .before .before .before .before .before .before .before .before in
-    let peer = at-start .args .peer in
-    let same : cond (not (eqb peer 0)) peer 0 ≡ peer = of-peer peer peer (λ e. e) in
-    let less : cond (not (eqb peer 0)) (peer - 12) 0 ≡ peer - 12 = of-peer peer (peer - 12) (λ e. omega arith) in
-    cc
+    let at-sum = c .before .before .before .before in
+    let at-v6 = at-sum .before .before in
+    let a = at-v6 .before .before .before .args in
+    row-held (a .mss) (a .tot-hdr) (a .peer) (a .own-timestamp-is-nonzero) (a .ipv6)
+    (at-v6 .before .before .saturating-sub .ensures) (at-v6 .before .only-if .ensures) (at-v6 .only-if2 .ensures)
+    (at-sum .before .only-if3 .ensures) (at-sum .saturating-add .ensures) (c .before .before .before .saturating-add2 .ensures)
+    (c .before .before .saturating-add3 .ensures) (c .before .only-if4 .ensures) (c .saturating-sub2 .ensures)
 
 pub divisors-spec : {M : Type 1} → statement M
 divisors-spec =

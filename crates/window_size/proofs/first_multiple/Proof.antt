@@ -5,13 +5,15 @@ use native.Mathlib.Omega.{arith}
 use borrow.Author.Needs.{needs}
 use lib.ListN.{drop}
 use mathlib.Core.List.{map}
+use Rattle.window_size.specs.Divisors.{holding}
 use Rattle.window_size.specs.Multiplier.{firstMultiple}
-use Rattle.window_size.proofs.Laws.{holding, divides-nonzero, turn-hit, turn-miss, turns-end}
+use Rattle.window_size.proofs.Laws.{divides-nonzero, turn-hit, turn-miss, turns-end}
 use Rattle.window_size.proofs.first_multiple.Statement.{statement}
 use Rattle.window_size.proofs.first_multiple.Tie as tie
 
 abbrev Inv-loop : tie.InvT-loop
-Inv-loop wsize divisors i₀ i = (i ≤ 12) × (firstMultiple wsize (map holding (drop i divisors)) ≡ firstMultiple wsize (map holding divisors))
+Inv-loop wsize divisors i₀ i =
+    (i ≤ 12) × (firstMultiple wsize (map holding (drop i divisors)) ≡ firstMultiple wsize (map holding divisors))
 
 abbrev μ-loop : tie.MeasureT-loop
 μ-loop wsize divisors i₀ i = 12 - i

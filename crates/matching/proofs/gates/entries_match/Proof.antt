@@ -32,9 +32,9 @@ returns c =
 
 returns-2 : tie.Need-returns-2 Inv-loop μ-loop
 returns-2 c =
-    let at-test = c .before .before .before .before .before in
+    let at-test = c .before .before .before .before .before .before in
     let a = at-test .before .before .before .before .before .args in
-    let bad = sym (c .before .kind-allows .ensures) ∙ not-true (c .before .kind-allows .result) (c .if2 .taken) in
+    let bad = sym (c .before .entry-good .ensures) ∙ not-true (c .before .entry-good .result) (c .if2 .taken) in
     rw (one-bad (a .entries .now) (a .count) (at-test .before .loop .i) (at-test .loop-test .taken) bad)
     (sym (and-false (entriesMatch (a .kinds .now) (a .bytes .now) (a .entries .now) (a .count))))
 
@@ -48,13 +48,14 @@ returns-3 c =
 
 loop-again : tie.Need-loop-again Inv-loop μ-loop
 loop-again c =
-    let at-kind = c .before .before .before .before in
-    let at-loop = at-kind .before .before .before .before .before in
+    let at-kind = c .before .before .before in
+    let at-loop = at-kind .before .before .before .before .before .before in
     let a = at-loop .before .before .before .before .args in
     let l = at-loop .loop in
-    let good = sym (at-kind .kind-allows .ensures) ∙ not-false (at-kind .kind-allows .result) (c .before .before .before .if2 .left) in (
+    let same = at-kind .before .before .if1 .left in
+    let good = sym (at-kind .entry-good .ensures) ∙ not-false (at-kind .entry-good .result) (c .before .before .if2 .left) in (
       search needs,
-      entry-matches (a .kinds .now) (a .bytes .now) (a .entries .now) (l .i) (c .if3 .left) (at-kind .before .if1 .left) (l .inv .1),
+      entry-matches (a .kinds .now) (a .bytes .now) (a .entries .now) (l .i) (c .if3 .left) same (l .inv .1),
       one-more-good (a .entries .now) (l .i) good (l .inv .2),
     )
 
@@ -67,5 +68,5 @@ pub entries-match-spec : {M : Type 1} → statement M
 entries-match-spec =
     tie.close
     (tie.spec Inv-loop μ-loop loop-holds (λ c. search needs) (λ c. search needs) (λ c. search needs) (λ c. search needs)
-    returns (λ c κs. search needs) returns-2 (λ c. search needs) (λ c. search needs) returns-3 (λ c. search needs)
+    returns (λ c. search needs) (λ c κs. search needs) returns-2 (λ c. search needs) returns-3 (λ c. search needs)
     (λ c. search needs) loop-again returns-4)

@@ -1,9 +1,7 @@
 -- `search::record_holds` meets its contract.
 use Rattle.search.proofs.Fits.{layout-fails, bad-place, scalars-decide}
-use lib.Dec.{leb}
-use Prim.Native.Nat.{_+_, _≤_}
-use Rattle.basis.proofs.Tests.{and-right}
-use borrow.Author.Tests.{leb-true, not-true, not-false}
+use Rattle.siglist.proofs.List.{lie-within}
+use borrow.Author.Tests.{not-true, not-false}
 use mathlib.Core.Path.{sym, _∙_}
 use borrow.Author.Needs.{needs}
 use Rattle.search.proofs.finding.record_holds.Statement.{statement}
@@ -21,12 +19,10 @@ part-entries-end : tie.Need-part-entries-end
 part-entries-end c =
     let areas = c .before .before .before .before .before .before .before .before .before .args .areas in
     let fits = c .before .before .before .before .before .before .before .before .before .pre in
-    let first = c .before .before .before .before .first-entry .result in
-    let declared = c .before .before .before .entry-count .result in
-    let lie : first + declared ≤ areas .entries =
-    leb-true (first + declared) (areas .entries)
-    (and-right (leb declared 40) (leb (first + declared) (areas .entries))
-    (sym (c .before .before .entries-lie .ensures) ∙ not-false (c .before .before .entries-lie .result) (c .before .if1 .left))) in
+    let lie = c .before .before .entries-lie in
+    let within =
+    lie-within (areas .entries) (c .before .before .before .before .first-entry .result) (c .before .before .before .entry-count .result)
+    (sym (lie .ensures) ∙ not-false (lie .result) (c .before .if1 .left)) in
     search needs
 
 returns-2 : tie.Need-returns-2
@@ -37,8 +33,7 @@ returns-2 c =
     let fits = c .before .before .before .before .before .before .before .before .before .before .before .before .pre in
     sym
     (layout-fails _ _ _ _ _ _ fits
-    (rw (← fits .entriesAt, ← count, ← first)
-    (sym (matched .ensures) ∙ not-true (matched .result) (c .if2 .taken))))
+    (rw (← fits .entriesAt, ← count, ← first, ← matched .ensures) (not-true (matched .result) (c .if2 .taken))))
 
 returns-3 : tie.Need-returns-3
 returns-3 c =
@@ -50,13 +45,13 @@ returns-3 c =
     c .scalars-well-formed .ensures
     ∙ sym
     (scalars-decide _ _ _ _ _ _ fits
-    (rw (← count, ← first) (sym (lie .ensures) ∙ not-false (lie .result) (c .before .before .before .before .before .if1 .left)))
-    (rw (← fits .entriesAt, ← count, ← first) (sym (matched .ensures) ∙ not-false (matched .result) (c .before .if2 .left))))
+    (rw (← count, ← first, ← lie .ensures) (not-false (lie .result) (c .before .before .before .before .before .if1 .left)))
+    (rw (← fits .entriesAt, ← count, ← first, ← matched .ensures) (not-false (matched .result) (c .before .if2 .left))))
 
 pub record-holds-spec : {M : Type 1} → statement M
 record-holds-spec =
     tie.close
-    (tie.spec (λ c κs. search needs) (λ c. search needs) (λ c κs. search needs) (λ c. search needs)
-    (λ c κs. search needs) returns (λ c. search needs) (λ c. search needs) (λ c. search needs) (λ c. search needs)
-    (λ c. search needs) (λ c. search needs) (λ c. search needs) part-entries-end (λ c κs. search needs) returns-2
+    (tie.spec (λ c κs. search needs) (λ c κs. search needs) (λ c κs. search needs) returns (λ c. search needs)
+    (λ c. search needs) (λ c. search needs) (λ c. search needs) (λ c. search needs) (λ c. search needs) (λ c. search needs)
+    (λ c. search needs) (λ c. search needs) part-entries-end (λ c. search needs) (λ c κs. search needs) returns-2
     (λ c κs. search needs) returns-3)

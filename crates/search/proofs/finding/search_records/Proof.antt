@@ -1,7 +1,7 @@
 -- `search::search_records` meets its contract.
 use Rattle.search.proofs.Rows.{at-start, skipped, after, first-best}
 use Rattle.search.specs.Search.{searchRow}
-use Rattle.siglist.specs.List.{AreasFit}
+use Rattle.siglist.specs.List.{recordCount, AreasFit}
 use Rattle.found.specs.Least.{numbersFrom}
 use Prim.Native.Nat.{_-_, _≤_}
 use native.Mathlib.Omega.{arith}
@@ -25,7 +25,7 @@ returns c =
     let l = c .before .before .before .loop in
     let next = c .before .next-candidate in
     let within = next .ensures .within in
-    let end : next .result ≡ c .before .before .before .before .before .before .args .areas .records = omega arith in
+    let end : next .result ≡ recordCount (c .before .before .before .before .before .before .args .list .now) = omega arith in
     rw (← end) (l .inv .3 ∙ skipped _ _ _ _ _ _ _ (l .inv .2) (next .ensures))
 
 search-step-requires : tie.Need-search-step-requires Inv-loop μ-loop
@@ -38,9 +38,10 @@ returns-2 c =
     let l = c .before .before .before .before .before .before .before .before .loop in
     let next = c .before .before .before .before .before .before .next-candidate in
     let step = c .before .before .search-step in
-    first-best _ _ _ _ (next .result) _ _ (c .before .before .before .before .before .if1 .left)
+    rw (← l .inv .2 .records)
+    (first-best _ _ _ _ (next .result) _ _ (c .before .before .before .before .before .if1 .left)
     (after _ _ _ _ _ (l .i) _ _ _ (l .inv .2) (l .inv .3) (next .ensures) (step .ensures))
-    (sym (c .before .rank-of .ensures) ∙ c .if2 .taken)
+    (sym (c .before .rank-of .ensures) ∙ c .if2 .taken))
 
 loop-again : tie.Need-loop-again Inv-loop μ-loop
 loop-again c =
@@ -56,7 +57,7 @@ loop-again c =
 returns-3 : tie.Need-returns-3 Inv-loop μ-loop
 returns-3 c =
     let l = c .before .loop in
-    let end : l .i ≡ c .before .before .before .before .args .areas .records = omega arith in
+    let end : l .i ≡ recordCount (c .before .before .before .before .args .list .now) = omega arith in
     rw (← end) (l .inv .3)
 
 pub search-records-spec : {M : Type 1} → statement M

@@ -1,8 +1,9 @@
 -- `search::search_step` meets its contract.
 use Rattle.search.proofs.Rows.{passed-over}
 use Rattle.search.specs.Search.{candidateAt}
-use Rattle.search.proofs.Fits.{is-none, gates-pass}
+use Rattle.search.proofs.Fits.{not-tolerated, not-held, tolerated}
 use Rattle.siglist.proofs.List.{record-of-list}
+use borrow.Author.Tests.{not-true, not-false}
 use mathlib.Core.Path.{sym, _∙_}
 use borrow.Author.Needs.{needs}
 use Rattle.search.proofs.finding.search_step.Statement.{statement}
@@ -10,26 +11,40 @@ use Rattle.search.proofs.finding.search_step.Tie as tie
 
 returns : tie.Need-returns
 returns c =
-    let fit = c .before .before .candidate-fit in
+    let fit = c .before .before .tolerance in
     let a = c .before .before .before .before .before .before .before .args in
     let pre = c .before .before .before .before .before .before .before .pre in
     let same = c .before .before .before .record-at .ensures ∙ record-of-list (a .list .now) (a .areas) (a .i) (pre .0) (pre .1) in
     sym
     (passed-over (a .observed) (a .kinds .now) (a .bytes .now) (a .list .now) (a .held) (a .i)
-    (gates-pass _ _ _ _ _ _ (pre .0) (pre .1) (pre .2)
-    ∙ rw (← same, ← fit .ensures) (is-none (fit .result) (sym (c .before .is-none .ensures) ∙ c .if1 .taken))))
+    (not-tolerated _ _ _ _ _ _ (pre .0) (pre .1) (pre .2)
+    (rw (← same, ← fit .ensures) (sym (c .before .is-none .ensures) ∙ c .if1 .taken))))
 
 returns-2 : tie.Need-returns-2
-unfolding candidateAt
 returns-2 c =
-    let a = c .before .before .before .before .before .before .before .before .before .before .args in
-    let pre = c .before .before .before .before .before .before .before .before .before .before .pre in
-    let taken = c .before .before .before .before .before .before .record-at .ensures in
+    let holds = c .before .record-holds in
+    let a = c .before .before .before .before .before .before .before .before .before .args in
+    let pre = c .before .before .before .before .before .before .before .before .before .pre in
+    let taken = c .before .before .before .before .before .record-at .ensures in
+    let same = taken ∙ record-of-list (a .list .now) (a .areas) (a .i) (pre .0) (pre .1) in
+    sym
+    (passed-over (a .observed) (a .kinds .now) (a .bytes .now) (a .list .now) (a .held) (a .i)
+    (not-held _ _ _ _ _ _ (pre .0) (pre .1) (pre .2)
+    (rw (← same, ← holds .ensures) (not-true (holds .result) (c .if2 .taken)))))
+
+returns-3 : tie.Need-returns-3
+unfolding candidateAt
+returns-3 c =
+    let holds = c .before .before .before .before .record-holds in
+    let a = c .before .before .before .before .before .before .before .before .before .before .before .before .args in
+    let pre = c .before .before .before .before .before .before .before .before .before .before .before .before .pre in
+    let taken = c .before .before .before .before .before .before .before .before .record-at .ensures in
     let same = taken ∙ record-of-list (a .list .now) (a .areas) (a .i) (pre .0) (pre .1) in
     rw (
-      gates-pass (a .observed) (a .kinds .now) (a .bytes .now) (a .list .now) (a .areas) (a .i) (pre .0) (pre .1) (pre .2),
+      tolerated (a .observed) (a .kinds .now) (a .bytes .now) (a .list .now) (a .areas) (a .i) (pre .0) (pre .1) (pre .2)
+          (rw (← same, ← holds .ensures) (not-false (holds .result) (c .before .before .before .if2 .left))),
       ← same,
-      ← c .before .before .before .before .before .candidate-fit .ensures,
+      ← c .before .before .before .before .before .before .before .tolerance .ensures,
       ← c .before .before .label-of .ensures,
       ← c .before .found-of .ensures,
       ← c .prefer-found .ensures,
@@ -38,5 +53,5 @@ returns-2 c =
 pub search-step-spec : {M : Type 1} → statement M
 search-step-spec =
     tie.close
-    (tie.spec (λ c κs. search needs) (λ c κs. search needs) (λ c κs. search needs) returns (λ c κs. search needs)
-    (λ c κs. search needs) (λ c κs. search needs) returns-2)
+    (tie.spec (λ c κs. search needs) (λ c κs. search needs) (λ c κs. search needs) returns (λ c κs. search needs) returns-2
+    (λ c κs. search needs) (λ c. search needs) (λ c κs. search needs) (λ c κs. search needs) returns-3)

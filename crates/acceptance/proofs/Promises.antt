@@ -1,0 +1,74 @@
+-- The lines of demand 1, crate by crate.
+-- tools/promises makes this file from the contracts, and the gate holds it to them.
+use Rattle.acceptance.specs.Promises.{EachCrate}
+use Rattle.acceptance.proofs.Promises.refusals as refusals'
+use Rattle.acceptance.proofs.Promises.numbers as numbers'
+use Rattle.acceptance.proofs.Promises.text as text'
+use Rattle.acceptance.proofs.Promises.quirks as quirks'
+use Rattle.acceptance.proofs.Promises.ttl as ttl'
+use Rattle.acceptance.proofs.Promises.window_size as window-size'
+use Rattle.acceptance.proofs.Promises.ip_options as ip-options'
+use Rattle.acceptance.proofs.Promises.observable as observable'
+use Rattle.acceptance.proofs.Promises.one_option as one-option'
+use Rattle.acceptance.proofs.Promises.syn_options as syn-options'
+use Rattle.acceptance.proofs.Promises.ip as ip'
+use Rattle.acceptance.proofs.Promises.flow as flow'
+use Rattle.acceptance.proofs.Promises.sigrecord as sigrecord'
+use Rattle.acceptance.proofs.Promises.distances as distances'
+use Rattle.acceptance.proofs.Promises.matching as matching'
+use Rattle.acceptance.proofs.Promises.siglist as siglist'
+use Rattle.acceptance.proofs.Promises.found as found'
+use Rattle.acceptance.proofs.Promises.search as search'
+use Rattle.acceptance.proofs.Promises.packet_answer as packet-answer'
+use Rattle.acceptance.proofs.Promises.bundle as bundle'
+use Rattle.acceptance.proofs.Promises.report as report'
+use Rattle.acceptance.proofs.Promises.gateway as gateway'
+pub mod refusals
+pub mod numbers
+pub mod text
+pub mod quirks
+pub mod ttl
+pub mod window_size
+pub mod ip_options
+pub mod observable
+pub mod one_option
+pub mod syn_options
+pub mod ip
+pub mod flow
+pub mod sigrecord
+pub mod distances
+pub mod matching
+pub mod siglist
+pub mod found
+pub mod search
+pub mod packet_answer
+pub mod bundle
+pub mod report
+pub mod gateway
+
+pub each-crate : EachCrate
+each-crate =
+    record {
+      refusals = refusals'.promises;
+      numbers = numbers'.promises;
+      text = text'.promises;
+      quirks = quirks'.promises;
+      ttl = ttl'.promises;
+      window-size = window-size'.promises;
+      ip-options = ip-options'.promises;
+      observable = observable'.promises;
+      one-option = one-option'.promises;
+      syn-options = syn-options'.promises;
+      ip = ip'.promises;
+      flow = flow'.promises;
+      sigrecord = sigrecord'.promises;
+      distances = distances'.promises;
+      matching = matching'.promises;
+      siglist = siglist'.promises;
+      found = found'.promises;
+      search = search'.promises;
+      packet-answer = packet-answer'.promises;
+      bundle = bundle'.promises;
+      report = report'.promises;
+      gateway = gateway'.promises;
+    }

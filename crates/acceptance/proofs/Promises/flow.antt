@@ -1,0 +1,12 @@
+-- The lines of flow, by its uniqueness theorems.
+-- tools/promises makes this file from the contracts, and the gate holds it to them.
+use mathlib.Core.Path.{refl}
+use Rattle.flow.proofs.Unique as unique
+use Rattle.acceptance.specs.Promises.flow.{Promises}
+use Rattle.acceptance.proofs.Promised.{answered}
+
+pub promises : Promises
+promises =
+    record {
+      read-packet-one = λ κs packet peer-mss. answered tt (unique.read-packet-one κs packet peer-mss) (λ m. m) refl;
+    }

@@ -1,0 +1,15 @@
+-- The lines of gateway, by its uniqueness theorems.
+-- tools/promises makes this file from the contracts, and the gate holds it to them.
+use mathlib.Core.Path.{refl}
+use Rattle.gateway.proofs.Unique as unique
+use Rattle.acceptance.specs.Promises.gateway.{Promises}
+use Rattle.acceptance.proofs.Promised.{answered}
+
+pub promises : Promises
+promises =
+    record {
+      termread-check-list-one = λ κs list. answered tt (unique.termread-check-list-one κs list) (λ m. m) refl;
+      termread-answer-checked-one =
+          λ κs packet peer list. answered tt (unique.termread-answer-checked-one κs packet peer list) (λ m. m) refl;
+      termread-answer-one = λ κs packet peer list. answered tt (unique.termread-answer-one κs packet peer list) (λ m. m) refl;
+    }

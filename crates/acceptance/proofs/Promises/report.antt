@@ -1,0 +1,13 @@
+-- The lines of report, by its uniqueness theorems.
+-- tools/promises makes this file from the contracts, and the gate holds it to them.
+use mathlib.Core.Path.{refl}
+use Rattle.report.proofs.Unique as unique
+use Rattle.acceptance.specs.Promises.report.{Promises}
+use Rattle.acceptance.proofs.Promised.{page-answered}
+
+pub promises : Promises
+promises =
+    record {
+      first-page-one = λ κs bundle longer page. page-answered tt (unique.first-page-one κs bundle longer page) (λ m. m) refl;
+      next-page-one = λ κs bundle progress page. page-answered tt (unique.next-page-one κs bundle progress page) (λ m. m) refl;
+    }

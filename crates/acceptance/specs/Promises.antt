@@ -1,0 +1,70 @@
+-- Demand 1, crate by crate, in the order of crates.txt.
+-- tools/promises makes this file from the contracts, and the gate holds it to them.
+use Rattle.acceptance.specs.Promises.refusals as refusals'
+use Rattle.acceptance.specs.Promises.numbers as numbers'
+use Rattle.acceptance.specs.Promises.text as text'
+use Rattle.acceptance.specs.Promises.quirks as quirks'
+use Rattle.acceptance.specs.Promises.ttl as ttl'
+use Rattle.acceptance.specs.Promises.window_size as window-size'
+use Rattle.acceptance.specs.Promises.ip_options as ip-options'
+use Rattle.acceptance.specs.Promises.observable as observable'
+use Rattle.acceptance.specs.Promises.one_option as one-option'
+use Rattle.acceptance.specs.Promises.syn_options as syn-options'
+use Rattle.acceptance.specs.Promises.ip as ip'
+use Rattle.acceptance.specs.Promises.flow as flow'
+use Rattle.acceptance.specs.Promises.sigrecord as sigrecord'
+use Rattle.acceptance.specs.Promises.distances as distances'
+use Rattle.acceptance.specs.Promises.matching as matching'
+use Rattle.acceptance.specs.Promises.siglist as siglist'
+use Rattle.acceptance.specs.Promises.found as found'
+use Rattle.acceptance.specs.Promises.search as search'
+use Rattle.acceptance.specs.Promises.packet_answer as packet-answer'
+use Rattle.acceptance.specs.Promises.bundle as bundle'
+use Rattle.acceptance.specs.Promises.report as report'
+use Rattle.acceptance.specs.Promises.gateway as gateway'
+pub mod refusals
+pub mod numbers
+pub mod text
+pub mod quirks
+pub mod ttl
+pub mod window_size
+pub mod ip_options
+pub mod observable
+pub mod one_option
+pub mod syn_options
+pub mod ip
+pub mod flow
+pub mod sigrecord
+pub mod distances
+pub mod matching
+pub mod siglist
+pub mod found
+pub mod search
+pub mod packet_answer
+pub mod bundle
+pub mod report
+pub mod gateway
+
+pub record EachCrate : Type 0 where
+  pub refusals : refusals'.Promises
+  pub numbers : numbers'.Promises
+  pub text : text'.Promises
+  pub quirks : quirks'.Promises
+  pub ttl : ttl'.Promises
+  pub window-size : window-size'.Promises
+  pub ip-options : ip-options'.Promises
+  pub observable : observable'.Promises
+  pub one-option : one-option'.Promises
+  pub syn-options : syn-options'.Promises
+  pub ip : ip'.Promises
+  pub flow : flow'.Promises
+  pub sigrecord : sigrecord'.Promises
+  pub distances : distances'.Promises
+  pub matching : matching'.Promises
+  pub siglist : siglist'.Promises
+  pub found : found'.Promises
+  pub search : search'.Promises
+  pub packet-answer : packet-answer'.Promises
+  pub bundle : bundle'.Promises
+  pub report : report'.Promises
+  pub gateway : gateway'.Promises

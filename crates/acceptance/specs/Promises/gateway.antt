@@ -1,0 +1,27 @@
+-- Demand 1, a line for each public function of gateway.
+-- tools/promises makes this file from the contracts, and the gate holds it to them.
+use mathlib.Core.List.{List}
+use Prim.Native.Nat.{ℕ}
+use contract.Lifetimes.{Lfts}
+use denote.Ref.{RefT, now}
+use Rattle.siglist.specs.List.{checkList}
+use Rattle.packet_answer.specs.Packet.{answerOf, peerOf}
+use Rattle.gateway.specs.Parts.{gatewayAnswer, listParts, packetParts, partsOf}
+use Rattle.gateway.proofs.termread_answer as termread-answer'
+use Rattle.gateway.proofs.termread_answer_checked as termread-answer-checked'
+use Rattle.gateway.proofs.termread_check_list as termread-check-list'
+use Rattle.acceptance.specs.Promised.{Answers}
+
+pub record Promises : Type 0 where
+  pub termread-check-list-one
+      : (κs : Lfts 1) (list : RefT (List ℕ))
+      → Answers termread-check-list'.signature κs (termread-check-list'.Reads.Pre κs) (termread-check-list'.Reads.Post κs)
+      (list, tt) (listParts (checkList (now list)))
+  pub termread-answer-checked-one
+      : (κs : Lfts 2) (packet : RefT (List ℕ)) (peer : ℕ) (list : RefT (List ℕ))
+      → Answers termread-answer-checked'.signature κs (termread-answer-checked'.Reads.Pre κs) (termread-answer-checked'.Reads.Post κs)
+      (packet, (peer, (list, tt))) (packetParts (answerOf (now packet) (peerOf peer) (now list)))
+  pub termread-answer-one
+      : (κs : Lfts 2) (packet : RefT (List ℕ)) (peer : ℕ) (list : RefT (List ℕ))
+      → Answers termread-answer'.signature κs (termread-answer'.Reads.Pre κs) (termread-answer'.Reads.Post κs)
+      (packet, (peer, (list, tt))) (partsOf (gatewayAnswer (now packet) peer (now list)))

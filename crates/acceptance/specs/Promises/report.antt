@@ -1,0 +1,24 @@
+-- Demand 1, a line for each public function of report.
+-- tools/promises makes this file from the contracts, and the gate holds it to them.
+use mathlib.Core.Bool.{Bool}
+use mathlib.Core.List.{List}
+use Prim.Native.Nat.{ℕ}
+use contract.Lifetimes.{Lfts}
+use denote.Ref.{RefT, now}
+use Rattle.text.specs.Written.{left-with}
+use Rattle.report.specs.declared.Progress.{Progress}
+use Rattle.report.specs.Pages.{firstPage, pageAfter}
+use Rattle.report.proofs.first_page as first-page'
+use Rattle.report.proofs.next_page as next-page'
+use Rattle.acceptance.specs.Promised.{PageAnswers}
+
+pub record Promises : Type 0 where
+  pub first-page-one
+      : (κs : Lfts 2) (bundle : RefT (List ℕ)) (longer : Bool) (page : RefT (List ℕ))
+      → PageAnswers first-page'.signature κs (first-page'.Reads.Pre κs) (first-page'.Reads.Post κs)
+      (bundle, (longer, (page, tt))) (λ bytes. (bundle, (longer, (left-with page bytes, tt)))) (now page) (firstPage (now bundle) longer)
+  pub next-page-one
+      : (κs : Lfts 2) (bundle : RefT (List ℕ)) (progress : Progress) (page : RefT (List ℕ))
+      → PageAnswers next-page'.signature κs (next-page'.Reads.Pre κs) (next-page'.Reads.Post κs)
+      (bundle, (progress, (page, tt))) (λ bytes. (bundle, (progress, (left-with page bytes, tt)))) (now page)
+      (pageAfter (now bundle) progress)

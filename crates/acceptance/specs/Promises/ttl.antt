@@ -1,0 +1,23 @@
+-- Demand 1, a line for each public function of ttl.
+-- tools/promises makes this file from the contracts, and the gate holds it to them.
+use Prim.Native.Nat.{ℕ}
+use Rattle.ttl.specs.declared.Ttl.{Ttl}
+use Rattle.ttl.specs.Ttl.{byteOf, guessOf, maxDist, readingOf}
+use Rattle.ttl.proofs.calculate_ttl as calculate-ttl'
+use Rattle.ttl.proofs.guess_distance as guess-distance'
+use Rattle.ttl.proofs.max_dist as max-dist'
+use Rattle.ttl.proofs.observed_ttl as observed-ttl'
+use Rattle.acceptance.specs.Promised.{Answers}
+
+pub record Promises : Type 0 where
+  pub max-dist-one : Answers max-dist'.signature tt (max-dist'.Reads.Pre tt) (max-dist'.Reads.Post tt) tt maxDist
+  pub observed-ttl-one
+      : (ttl : Ttl)
+      → Answers observed-ttl'.signature tt (observed-ttl'.Reads.Pre tt) (observed-ttl'.Reads.Post tt) (ttl, tt) (byteOf ttl)
+  pub guess-distance-one
+      : (ttl : ℕ)
+      → Answers guess-distance'.signature tt (guess-distance'.Reads.Pre tt) (guess-distance'.Reads.Post tt) (ttl, tt) (guessOf ttl)
+  pub calculate-ttl-one
+      : (ttl-observed : ℕ)
+      → Answers calculate-ttl'.signature tt (calculate-ttl'.Reads.Pre tt) (calculate-ttl'.Reads.Post tt)
+      (ttl-observed, tt) (readingOf ttl-observed)

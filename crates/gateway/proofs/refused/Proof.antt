@@ -1,0 +1,9 @@
+use mathlib.Core.Path.{refl}
+use Rattle.gateway.proofs.refused.Statement.{statement}
+use Rattle.gateway.proofs.refused.Tie as tie
+
+returns : tie.Need-returns
+returns c = refl
+
+pub refused-spec : {M : Type 1} → statement M
+refused-spec = tie.close (tie.spec returns)

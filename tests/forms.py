@@ -1,0 +1,152 @@
+"""Lines for tools/ask whose answers are worked out by hand from document 01's text: a command, its lines, their answers."""
+from bundles import A, B, C, EMPTY_LIST, LIST, SYNACK, WHOLE, be16, record, siglist, tcp, v4, v6
+
+BAD = "bad line"
+SEEN = ("v=4 ttl=distance:64:0 olen=0 mss=1460 wsize=5840 wscale=- layout=2/0 quirks=0x00000002 pclass=0 peer=- tot_hdr=44 tos=0"
+        " win=mss:4")
+FAR = SEEN.replace("64:0", "28:4")
+FIELDS = SEEN.split(" ")
+
+
+def seen(**fields):
+    """The observation of packet A, but for some fields."""
+    return " ".join(f"{name}={fields.get(name, value)}" for name, value in (field.split("=", 1) for field in FIELDS))
+
+
+def observe():
+    yield f"0 {A.hex()}", "syn " + SEEN
+    yield f"- {A.hex()}", "syn " + SEEN
+    yield f"0 {A.hex().upper()}", "syn " + SEEN
+    yield f"1460 {A.hex()}", "syn " + SEEN
+    yield f"0 {B.hex()}", "syn " + FAR
+    yield f"0 {C.hex()}", "refused 2"
+    yield f"0 {SYNACK.hex()}", "synack " + SEEN
+    yield f"65535 {SYNACK.hex()}", "synack " + seen(peer=65535)
+    yield f"12 {v4(tcp(flags=0x12, ack=1, window=24)).hex()}", "synack " + seen(wsize=24, peer=12, win="mss:2")
+    yield f"0 {v4(tcp(window=1500), ttl=1).hex()}", "syn " + seen(ttl="value:1", wsize=1500, win="mtu:1")
+    yield f"0 {v4(tcp(window=1, payload=b'x'), ttl=0, tos=0xff).hex()}", "syn " + seen(
+        ttl="bad:0", wsize=1, quirks="0x00000003", pclass="+", tos=63, win="-")
+    yield f"0 {v6(tcp()).hex()}", "syn " + seen(v=6, quirks="0x00000000", tot_hdr=64)
+    yield f"0 {v4(tcp(options='01 03 03 0e')).hex()}", "syn " + seen(mss="-", wscale=14, layout="1/0,3/0", win="-")
+    yield f"0 {v4(tcp(options='')).hex()}", "syn " + seen(mss="-", layout="-", tot_hdr=40, win="-")
+    for flags in (0x00, 0x06, 0xE8):
+        yield f"0 {v4(tcp(flags=flags)).hex()}", f"refused 7 0x{flags:02X}"
+    yield f"0 {v4(tcp(flags=0x10, ack=1)).hex()}", "nothing"
+    for none in ("0", "0 ", "0 -", "- -", "-", "65535 -"):
+        yield none, "refused 1"
+    yield "0 45~00*18", "refused 2"
+    yield "0 45~00*19", "refused 4"
+    yield "0 ~45*19", "refused 2"
+    yield "0 -~45*1", "refused 2"
+    yield f"0 {A[:43].hex()}~b4*1", "syn " + SEEN
+    yield f"0 {A.hex()}~00*100000", "syn " + SEEN
+    for bad in ("", " ", A.hex(), " 0 45", "0  45", "0 45 ", "0 4", "0 4g", "0 45 00", "0 0x45", "0\t45", "0 45\r", "0 45\0", "65536 45",
+                "+1 45", "-1 45", "0 --", "0 -45", "0 45-", "0 ~", "0 45~", "0 45~0*1", "0 45~00", "0 45~00*", "0 45~00*-1", "0 45~00*1 ",
+                "0 45~00*1~00*1", "0 45~00*1 00", "0 ~00*1073741825", "0 ~00*99999999999999999999", "0 45\u00e9"):
+        yield bad, BAD
+
+
+def options():
+    yield "", "layout=- mss=- wscale=- malformed=0"
+    yield "-", "layout=- mss=- wscale=- malformed=0"
+    yield "00000100", "layout=0/3 mss=- wscale=- malformed=0"
+    yield "020405", "layout=- mss=- wscale=- malformed=1"
+    yield "020405b4", "layout=2/0 mss=1460 wscale=- malformed=0"
+    yield "020405b40204FFFF", "layout=2/0,2/0 mss=65535 wscale=- malformed=0"
+    yield "0303ff", "layout=3/0 mss=- wscale=255 malformed=0"
+    yield "ff02", "layout=255/0 mss=- wscale=- malformed=0"
+    yield "020405b4~01*2", "layout=2/0,1/0,1/0 mss=1460 wscale=- malformed=0"
+    yield "~01*40", f"layout={','.join(['1/0'] * 40)} mss=- wscale=- malformed=0"
+    yield "~00*40", "layout=0/39 mss=- wscale=- malformed=0"
+    yield "~01*41", "refused 8"
+    yield "~00*16777216", "refused 8"
+    yield "0~1*0", BAD
+    yield "01~01*0", "layout=1/0 mss=- wscale=- malformed=0"
+    for bad in (" ", "0", "0x01", "01 ", " 01", "01,01", "1/0", "- ", "\r", "01\r"):
+        yield bad, BAD
+
+
+def ttl_forms():
+    """Against a record of TTL 64: in range up to 35 below it. A Guess and a Bad are taken as the TTL that they hold."""
+    reason = "added=0x00000000 missing=0x00000000"
+    for ttl, answer in (("value:64", "exact 7 at=0"), ("value:29", "exact 7 at=0"), ("distance:29:35", "exact 7 at=0"),
+                        ("guess:64", "exact 7 at=0"), ("bad:64", "exact 7 at=0"), ("value:28", f"fuzzy 7 at=0 hop=36 {reason}"),
+                        ("value:65", f"fuzzy 7 at=0 hop=0 {reason}")):
+        yield f"{seen(ttl=ttl)} | {LIST.hex()}", answer
+
+
+def found():
+    yield f"{SEEN} | {LIST.hex()}", "exact 7 at=0"
+    yield f"{FAR} | {LIST.hex()}", "fuzzy 7 at=0 hop=36 added=0x00000000 missing=0x00000000"
+    yield f"{seen(quirks='0x00000009')} | {LIST.hex()}", "fuzzy 7 at=0 hop=- added=0x00000009 missing=0x00000002"
+    other, far = record(window=(1, 9), label=9), record(ttl=(0, 128, 0), label=65535)
+    for records, answer in (([], "none"), ([other] * 3, "none"), ([other, far, record(), record()], "exact 7 at=2"),
+                            ([other, far, far], "fuzzy 65535 at=1 hop=64 added=0x00000000 missing=0x00000000"),
+                            ([other] * 2599 + [record()], "exact 7 at=2599")):
+        yield f"{SEEN} | {siglist(records).hex()}", answer
+    # A record of any version has its df dropped for a packet of version 6, a record of version 6 has not.
+    yield f"{seen(v=6, quirks='0x00000000')} | {LIST.hex()}", "exact 7 at=0"
+    yield (f"{seen(v=6, quirks='0x00000000')} | {siglist([record(version=6)]).hex()}",
+           "fuzzy 7 at=0 hop=- added=0x00000000 missing=0x00000002")
+    yield f"{seen(pclass='+')} | {LIST.hex()}", "none"
+    yield f"{seen(peer=0)} | {LIST.hex()}", "exact 7 at=0"
+    forty = siglist([record(window=(0, 0), count=40)], [(1, 0)] * 40)
+    yield f"{seen(layout=','.join(['1/0'] * 40))} | {forty.hex()}", "exact 7 at=0"
+    # The multiplier on input is not looked at.
+    for window in ("win=-", "win=mss:5", "win=mtu:1", "win=", "win=any"):
+        yield f"{' '.join(FIELDS[:-1])} {window} | {LIST.hex()}", "exact 7 at=0"
+    yield f"{' '.join(FIELDS[:-1])} | {LIST.hex()}", "exact 7 at=0"
+
+
+def refused_searches():
+    forty_one = seen(layout=",".join(["1/0"] * 41))
+    for lists in (LIST.hex(), "-", ""):
+        yield f"{forty_one} | {lists}", "refused 11"
+    yield f"{seen(layout=','.join(['255/255'] * 1000))} | {LIST.hex()}", "refused 11"
+    for lists in ("| -", "|", "| ", "| ~00*7", f"| {LIST[:-1].hex()}"):
+        yield f"{SEEN} {lists}", "refused 9"
+    yield f"{SEEN} | ~00*8", "none"
+    yield f"{SEEN} | {EMPTY_LIST.hex()}", "none"
+    for at in (0, 1, 299):
+        records = [record()] * at + [record(version=5)]
+        yield f"{SEEN} | {siglist(records).hex()}", f"refused 10 {at}"
+    # 2,730 records of zeros, but for the header's bytes: the first lies over the header, 2,730 being no version.
+    yield f"{SEEN} | {be16(2730, 0, 0, 0).hex()}~00*65520", "refused 10 0"
+
+
+def search_lines():
+    yield from found()
+    yield from ttl_forms()
+    yield from refused_searches()
+    text = LIST.hex()
+    for fields in (dict(v=5), dict(v=""), dict(ttl="64"), dict(ttl="value"), dict(ttl="value:256"), dict(ttl="distance:64"),
+                   dict(ttl="value:64:0"), dict(ttl="Value:64"), dict(olen=256), dict(olen="-"), dict(mss=65536), dict(mss=""),
+                   dict(mss="none"), dict(wsize="-"), dict(wsize=65536), dict(wscale=256), dict(layout=""), dict(layout="2"),
+                   dict(layout="2/"), dict(layout="2/0,"), dict(layout="256/0"), dict(layout="0/256"), dict(layout="2/0;1/0"),
+                   dict(quirks=2), dict(quirks="0x2"), dict(quirks="0x000000002"), dict(quirks="0x0000000g"), dict(pclass=1),
+                   dict(pclass="-"), dict(peer=65536), dict(tot_hdr="-"), dict(tot_hdr=65536), dict(tos=256), dict(win="mss: 4")):
+        yield f"{seen(**fields)} | {text}", BAD
+    for name in range(len(FIELDS) - 1):  # each field but the multiplier missing, or in another place
+        rest = FIELDS[:name] + FIELDS[name + 1:]
+        yield f"{' '.join(rest)} | {text}", BAD
+        yield f"{' '.join([*rest[:-1], FIELDS[name], rest[-1]])} | {text}", "exact 7 at=0" if name == len(FIELDS) - 2 else BAD
+    for bad in ("", "|", f"| {text}", SEEN, f"{SEEN} {text}", f"{SEEN}| {text}", f"{SEEN} |{text}", f"{SEEN}  | {text}",
+                f"{SEEN} |  {text}", f"{SEEN} | {text} ", f"{SEEN} | {text}0", f"{SEEN} | {text}\r", f" {SEEN} | {text}",
+                f"syn {SEEN} | {text}", f"{SEEN} | {text} | {text}", SEEN.replace(" ", "  ") + f" | {text}"):
+        yield bad, BAD
+
+
+def batch():
+    yield WHOLE.hex(), "packets 3;syn exact 7;syn fuzzy 7;refused 2"
+    for none in ("", "-", "00", "~00*7", "~ff*65535"):
+        yield none, "refused 12"
+    yield "~00*65535", "refused 9"
+    yield "~00*65536", "refused 12"
+    yield "~00*16777216", "refused 12"
+    yield f"{WHOLE.hex()}~78*1", "packets 3;syn exact 7;syn fuzzy 7;refused 2"
+    yield f"{be16(0, 8, 8, 8).hex()}~00*8", "packets 0"
+    for bad in ("0", " ", "packets 3", f"{WHOLE.hex()} ", f"{WHOLE.hex()}\r", f"{WHOLE.hex()};", "~00*1073741825"):
+        yield bad, BAD
+
+
+LINES = {"observe": observe, "options": options, "search": search_lines, "batch": batch}

@@ -1,0 +1,41 @@
+/* What the commands of tools/ask share: reading a line, writing its answer. */
+#ifndef ASKING_H
+#define ASKING_H
+
+#include "witness.h"
+
+/* What is left to be read of a line, without its newline, and the mode that was asked for. */
+typedef struct {
+    const char *at;
+    const char *end;
+    const char *mode;
+} Line;
+
+/* The bytes that a line gives; they hold until the next ones are read. */
+typedef struct {
+    const uint8_t *at;
+    size_t length;
+} Bytes;
+
+/* So many bytes are taken at most. */
+enum { BYTES_MOST = 1024 * 1024 * 1024 };
+
+/* A command answers a line on standard output, without the newline: 1. If the line is not of its form it writes nothing: 0. */
+#define COMMAND(name, modes) int answer_##name(Line *line);
+#include "commands.h"
+#undef COMMAND
+
+/* Each of these steps past what it names and gives 1, or gives 0 if something else stands there. */
+int scan_text(Line *line, const char *text);
+int scan_number(Line *line, uint32_t most, uint32_t *number);
+int scan_absent_or(Line *line, uint32_t most, uint8_t *present, uint32_t *number);
+int scan_quirks(Line *line, uint32_t *quirks);
+int scan_bytes(Line *line, Bytes *bytes);
+int scan_last_bytes(Line *line, Bytes *bytes);
+int scan_observation(Line *line, witness_observation *observation);
+
+void write_absent_or(const char *name, int present, uint32_t number);
+void write_layout(uint64_t count, const uint8_t *kinds, const uint8_t *bytes);
+void write_observation(const witness_observation *observation);
+
+#endif

@@ -1,0 +1,93 @@
+/* What crates/witness gives and takes, for C drivers; not part of the product. Each struct is that of the source, field by field. */
+#ifndef WITNESS_H
+#define WITNESS_H
+
+#include <stddef.h>
+#include <stdint.h>
+
+/* An observation, as numbers. A value that may be absent is 0 then, and its `has_` is 0; else that is 1. */
+typedef struct {
+    uint64_t count;       /* entries of the layout; those past 40 are not held */
+    uint32_t quirks;
+    uint16_t mss;
+    uint16_t wsize;
+    uint16_t peer_mss;
+    uint16_t tot_hdr;
+    uint16_t multiple;    /* the window's multiplier: given, never taken */
+    uint8_t multiple_of;  /* 0 no multiplier, 1 of the MSS, 2 of the MTU */
+    uint8_t version;      /* 4 or 6; taken, anything else is 4 */
+    uint8_t ttl_form;     /* 0 value, 1 distance, 2 guess, 3 bad; taken, anything else is 3 */
+    uint8_t ttl;
+    uint8_t hops;         /* of a distance */
+    uint8_t olen;
+    uint8_t tos;
+    uint8_t wscale;
+    uint8_t pclass;       /* 0 or 1 */
+    uint8_t has_mss;
+    uint8_t has_wscale;
+    uint8_t has_peer_mss;
+    uint8_t kinds[40];
+    uint8_t bytes[40];
+} witness_observation;
+
+/* The reading of a packet. */
+typedef struct {
+    witness_observation observation; /* of a refused packet, or one that is nothing, what its reading holds */
+    uint8_t answer;                  /* 1 SYN, 2 SYN+ACK, 3 nothing, 4 refused */
+    uint8_t refusal;                 /* its number, else 0 */
+    uint8_t flags;                   /* of refusal 7 */
+} witness_packet_read;
+
+/* What is parsed of an option string. */
+typedef struct {
+    uint64_t count;
+    uint16_t mss;
+    uint8_t refusal; /* 8, else 0 */
+    uint8_t malformed;
+    uint8_t has_mss;
+    uint8_t has_wscale;
+    uint8_t wscale;
+    uint8_t kinds[40];
+    uint8_t bytes[40];
+} witness_options_read;
+
+/* What a search answers. */
+typedef struct {
+    uint32_t added;      /* the reason of a fuzzy answer, all bits */
+    uint32_t missing;
+    uint32_t bad_record; /* of refusal 10 */
+    uint16_t label;      /* of exact and fuzzy */
+    uint16_t number;     /* of the record, from 0: of exact and fuzzy */
+    uint8_t outcome;     /* 1 exact, 2 fuzzy, 3 none, 5 refused, as for C */
+    uint8_t refusal;     /* 9, 10 or 11, else 0 */
+    uint8_t far;         /* 1 if the TTL is out of range */
+    uint8_t hops;        /* the hop distance then */
+} witness_search_read;
+
+/* As many bytes as the source's structs have, by C's layout on x86-64. */
+typedef char witness_structs_have_their_sizes[sizeof(witness_observation) == 120 && sizeof(witness_packet_read) == 128 &&
+                                              sizeof(witness_options_read) == 96 && sizeof(witness_search_read) == 20 ? 1 : -1];
+
+/* The reading of a packet; a peer's MSS of 0 is an absent one. */
+witness_packet_read witness_packet(const uint8_t *packet, size_t length, uint16_t peer_mss);
+
+witness_options_read witness_options(const uint8_t *options, size_t length);
+
+/* The search of a list for an observation. */
+witness_search_read witness_search(witness_observation observation, const uint8_t *list, size_t length);
+
+/* The hop distance that is reported for two TTLs of three bytes each (form, TTL, distance): an observed one, then a signature's. */
+uint8_t witness_hops(const uint8_t *ttls, size_t length);
+
+/* How far the output of a bundle is: the bytes of the page, and the packets that are left, by their number and the place of the first. */
+typedef struct {
+    size_t filled;
+    size_t left;
+    size_t at;
+} witness_progress;
+
+/* The first page of a bundle's output, and the next one after a progress; a page is 4,096 bytes. The output ends where none is left. */
+witness_progress witness_first_page(const uint8_t *bundle, size_t length, uint8_t *page);
+witness_progress witness_next_page(const uint8_t *bundle, size_t length, witness_progress progress, uint8_t *page);
+
+#endif
