@@ -57,5 +57,5 @@ pub record InputCame (count : ℕ) (ending : Ending) (size : ℕ) : Type 0 where
 -- Of so many bytes answers are given: as of the whole input only where a read answered its end behind them, as of a longer one only where
 -- they are the 65,535 that a bundle may have and a read behind them answered a byte more.
 abbrev pub InputEnds : Bool → ℕ → Type 0
-InputEnds false count = ReadSaid count (pos 0)
-InputEnds true count = (count ≡ 65535) × ReadSaid count (pos 1)
+InputEnds false count = EndsAs Whole count 65535
+InputEnds true count = EndsAs Longer count 65535
