@@ -1,0 +1,4 @@
+pub mod Line
+pub mod LineReader
+pub mod Meaning
+pub mod Words
