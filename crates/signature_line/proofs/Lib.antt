@@ -1,2 +1,5 @@
 pub mod Accepted
+pub mod Arrays
+pub mod FieldsGood
 pub mod Line
+pub mod WellFormed
