@@ -202,7 +202,7 @@ record Among (bits : ℕ) : Type 0 where
   within : Within (setOf bits)
   small : bits < 2 ^ 32
 
-bit-small : (q : Quirk) → bitOf q < 2 ^ 32
+pub bit-small : (q : Quirk) → bitOf q < 2 ^ 32
 unfolding bitOf
 bit-small q = pow-lt (place-lt q)
 
@@ -220,7 +220,7 @@ none-among : Among 0
 unfolding empty fromQuirks
 none-among = record { within = within-empty; small = lit< tt }
 
-seventeen-small : bitsOf seventeen < 2 ^ 32
+pub seventeen-small : bitsOf seventeen < 2 ^ 32
 seventeen-small = rw seventeen-bits (lit< tt)
 
 among-good : (bits : ℕ) → Among bits → quirksGood bits ≡ true

@@ -2,4 +2,6 @@ pub mod Accepted
 pub mod Arrays
 pub mod FieldsGood
 pub mod Line
+pub mod QuirkRow
+pub mod Spelled
 pub mod WellFormed
