@@ -1,6 +1,8 @@
 pub mod Accepted
 pub mod Arrays
 pub mod FieldsGood
+pub mod FieldWords
+pub mod LayoutRow
 pub mod Line
 pub mod QuirkRow
 pub mod Spelled
