@@ -12,7 +12,6 @@ use Rattle.basis.specs.Bytes.{byteAt}
 use Rattle.sigrecord.specs.Layout.{entryGood}
 use Rattle.grammar.specs.Numeral.{any}
 use Rattle.grammar.specs.Table.{Said, said, Choice}
-use Rattle.signature_line.specs.Line.{comma}
 use Rattle.signature_line.specs.Meaning.{entryKind, entryByte}
 use Rattle.signature_line.specs.Words.{entry, unnamed}
 use Rattle.signature_line.proofs.Arrays.{inTurn}
@@ -90,7 +89,7 @@ entry-of (suc kind) byte g h b = rw (no-byte kind byte g) (entry-of-kind kind h)
 pub record Entries (bytes : List ℕ) (count : ℕ) : Type 0 where
   pub mean : List Said
   pub counted : length mean ≡ count
-  pub spelled : EachSpelled (Choice entry) comma 7 mean
+  pub spelled : EachSpelled (Choice entry) 7 mean
   pub same : inTurn mean ≡ bytes
 
 pub entries-of

@@ -30,7 +30,7 @@ pub big-unnamed : (n : ℕ) → 9 ≤ n → unnamed n ≡ true
 unfolding unnamed
 big-unnamed n h = rw (lt-leb n 5 (omega arith), ne-eqb n 8 (λ (e : n ≡ 8). omega arith))
 
-pub six : unnamed 6 ≡ true
+six : unnamed 6 ≡ true
 unfolding unnamed
 six = refl
 

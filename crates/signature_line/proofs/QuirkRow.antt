@@ -68,12 +68,12 @@ module _ (bits : ℕ) where
   chosen [] = []
   chosen (q ∷ qs) = kept (contains (setOf bits) q) q (chosen qs)
 
-  pub chosen-spelled : (qs : List Quirk) → EachSpelled (Choice quirkWord) 44 6 (chosen qs)
+  pub chosen-spelled : (qs : List Quirk) → EachSpelled (Choice quirkWord) 6 (chosen qs)
   unfolding chosen
   chosen-spelled [] = tt
   chosen-spelled (q ∷ qs) = by (contains (setOf bits) q) (chosen-spelled qs)
     where
-      by : (t : Bool) → EachSpelled (Choice quirkWord) 44 6 (chosen qs) → EachSpelled (Choice quirkWord) 44 6 (kept t q (chosen qs))
+      by : (t : Bool) → EachSpelled (Choice quirkWord) 6 (chosen qs) → EachSpelled (Choice quirkWord) 6 (kept t q (chosen qs))
       by true rest = (quirk-spelled q, rest)
       by false rest = rest
 
@@ -146,7 +146,8 @@ module _ (bits : ℕ) where
           (digit-lt (bitsOf (fromQuirks qs)) k) (at-place q k true e))
       by false e without within =
           rw (without, digit-or (bitsOf (fromQuirks qs)) (bitOf q) k)
-          (left-out (digit n k) (digit bits k) (digit (bitOf q) k) (digit (bitsOf (fromQuirks qs)) k) (digit-lt bits k) (at-place q k false e))
+          (left-out (digit n k) (digit bits k) (digit (bitOf q) k) (digit (bitsOf (fromQuirks qs)) k) (digit-lt bits k)
+          (at-place q k false e))
 
   inside : (b s : ℕ) → b < 2 → (eqb b 1 ≡ true → eqb s 1 ≡ true) → max 0 (min b s) ≡ b
   inside zero s h f = omega arith

@@ -78,17 +78,17 @@ by-row (row cs f t ∷ rows) (suc i) form number most tail h =
 
 -- ---- fields put together
 
-module _ {A B : Type 0} (F : List ℕ → A → Type 0) (a : A) (m : ℕ) (x : Spelled F a m) where
-  pub join-spelled : (G : List ℕ → B → Type 0) (b : B) (n : ℕ) → Spelled G b n → Spelled (Join F G) (a, b) (m + n)
-  join-spelled G b n y =
+module _ {A B : Type 0} {F : List ℕ → A → Type 0} {G : List ℕ → B → Type 0} {a : A} {b : B} {m n : ℕ} where
+  pub join-spelled : Spelled F a m → Spelled G b n → Spelled (Join F G) (a, b) (m + n)
+  join-spelled x y =
       record {
         word = x .word ++ y .word;
         says = record { left = x .word; right = y .word; splits = refl; first = x .says; second = y .says };
         short = simp length-append (omega (arith, x .short, y .short));
       }
 
-  pub then-spelled : (c : ℕ) (G : List ℕ → B → Type 0) (b : B) (n : ℕ) → Spelled G b n → Spelled (Then F c G) (a, b) (m + suc n)
-  then-spelled c G b n y =
+  pub then-spelled : (c : ℕ) → Spelled F a m → Spelled G b n → Spelled (Then F c G) (a, b) (m + suc n)
+  then-spelled c x y =
       record {
         word = x .word ++ c ∷ y .word;
         says = record { left = x .word; right = c ∷ y .word; splits = refl; first = x .says; second = (refl, y .says) };
@@ -97,18 +97,19 @@ module _ {A B : Type 0} (F : List ℕ → A → Type 0) (a : A) (m : ℕ) (x : S
 
 -- ---- rows of fields, and a byte between
 
-module _ {A : Type 0} (F : List ℕ → A → Type 0) (c most : ℕ) where
-  abbrev pub EachSpelled : List A → Type 0
-  EachSpelled = Each (λ (v : A). Spelled F v most)
+-- Each of a row has such a word.
+abbrev pub EachSpelled : {A : Type 0} → (List ℕ → A → Type 0) → ℕ → List A → Type 0
+EachSpelled {A} F most = Each (λ (v : A). Spelled F v most)
 
-  more-spelled : (n : ℕ) (vs : List A) → EachSpelled vs → length vs ≤ n → Spelled (More F c n) vs (length vs * suc most)
+module _ {A : Type 0} (F : List ℕ → A → Type 0) (c most : ℕ) where
+  more-spelled : (n : ℕ) (vs : List A) → EachSpelled F most vs → length vs ≤ n → Spelled (More F c n) vs (length vs * suc most)
   more-spelled zero [] all h = record { word = []; says = (refl, refl); short = omega arith }
   more-spelled (suc n) [] all h = record { word = []; says = inl (refl, refl); short = omega arith }
   more-spelled zero (v ∷ vs) all h = absurd (omega arith)
   more-spelled (suc n) (v ∷ vs) all h =
       let first = all .0 in
       let rest = more-spelled n vs (all .1) (omega arith) in
-      let both = join-spelled F v most first (More F c n) vs (length vs * suc most) rest in
+      let both = join-spelled first rest in
       record {
         word = c ∷ both .word;
         says = inr (refl, ((v, vs), both .says, refl));
@@ -117,12 +118,12 @@ module _ {A : Type 0} (F : List ℕ → A → Type 0) (c most : ℕ) where
 
   -- Nothing, or one and at most so many more; and any number.
   pub listed-spelled
-      : (n : ℕ) (vs : List A) → EachSpelled vs → length vs ≤ suc n
+      : (n : ℕ) (vs : List A) → EachSpelled F most vs → length vs ≤ suc n
       → Spelled (Optional [] (Listed F c n)) vs (length vs * suc most)
   listed-spelled n [] all h = record { word = []; says = inl (refl, refl); short = omega arith }
   listed-spelled n (v ∷ vs) all h =
       let rest = more-spelled n vs (all .1) (omega arith) in
-      let both = join-spelled F v most (all .0) (More F c n) vs (length vs * suc most) rest in
+      let both = join-spelled (all .0) rest in
       record {
         word = both .word;
         says = inr ((v, vs), both .says, refl);
@@ -130,13 +131,13 @@ module _ {A : Type 0} (F : List ℕ → A → Type 0) (c most : ℕ) where
       }
 
   pub any-listed-spelled
-      : (vs : List A) → EachSpelled vs → Spelled (Optional [] (AnyListed F c)) vs (length vs * suc most)
+      : (vs : List A) → EachSpelled F most vs → Spelled (Optional [] (AnyListed F c)) vs (length vs * suc most)
   any-listed-spelled [] all = record { word = []; says = inl (refl, refl); short = omega arith }
   any-listed-spelled (v ∷ vs) all =
       let more = more-spelled (length vs) vs (all .1) (omega arith) in
       let rest : Spelled (AnyMore F c) vs (length vs * suc most) =
       record { word = more .word; says = (length vs, more .says); short = more .short } in
-      let both = join-spelled F v most (all .0) (AnyMore F c) vs (length vs * suc most) rest in
+      let both = join-spelled (all .0) rest in
       record {
         word = both .word;
         says = inr ((v, vs), both .says, refl);
