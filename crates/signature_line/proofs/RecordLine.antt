@@ -22,7 +22,7 @@ use Rattle.signature_line.proofs.LayoutRow.{Entries}
 use Rattle.signature_line.proofs.QuirkRow.{chosen, chosen-spelled, chosen-count, chosen-all}
 use Rattle.signature_line.proofs.Spelled.{Spelled, join-spelled, then-spelled, listed-spelled, any-listed-spelled}
 
--- All bytes of a string are.
+-- Each place of a string holds a byte.
 abbrev pub AllBytes : List ℕ → Type 0
 AllBytes s = (k : ℕ) → byteAt s k < 256
 
