@@ -26,7 +26,7 @@ use Rattle.signature_line.specs.Words.{version, bareByte, ttlForm, mss, 
 -- ---- every numeral goes on: `?2` to `?20`
 
 -- The named kinds are below 9, so 9 and more are unnamed; and 0 goes on to 06, 1 to 8 go on to 10 .. 80.
-big-unnamed : (n : ℕ) → 9 ≤ n → unnamed n ≡ true
+pub big-unnamed : (n : ℕ) → 9 ≤ n → unnamed n ≡ true
 unfolding unnamed
 big-unnamed n h = rw (lt-leb n 5 (omega arith), ne-eqb n 8 (λ (e : n ≡ 8). omega arith))
 
