@@ -2,13 +2,19 @@
 // index walk; a number is held against its field digit by digit, and refuses where it stands.
 ghost use mathlib.Core.Path.{_≡_};
 ghost use Prim.Native.Nat.{_≤_};
-ghost use Rattle.signature_line.specs.Words.{version, bareByte, mss, window, scale, payload};
-ghost use Rattle.one_field.specs.Places.{noPiece, wholePiece, starred, behindAt, fieldAt, ttlAt};
+ghost use Rattle.signature_line.specs.Words.{version, bareByte, mss, window, scale, entry, quirkWord, payload};
+ghost use Rattle.one_field.specs.Places.{noPiece, wholePiece, starred, behindAt, pieceAt, fieldAt, ttlAt};
 use numerals::read_numeral;
+use numerals::read_unnamed;
+use quirk_names::read_signed;
+use quirk_names::read_stamp;
+use quirks::Quirk;
+use words::read_either;
 use words::read_multiple;
 use words::read_ttl_form;
+use words::read_word;
+use words::read_word_byte;
 
-mod entries;
 mod numerals;
 mod quirk_names;
 mod words;
@@ -192,6 +198,73 @@ pub fn parse_window_size(s: &[u8], from: Place) -> Piece
         b'%' => read_numeral(s, at + 1, 65535, 2),
         b'm' => read_multiple(s, at + 1),
         _ => read_numeral(s, at, 65535, 1),
+    }
+}
+
+// `eol+` and a number, `nop`, `mss`, `ws`, `sok`, `sack`, `ts`, or `?` and a kind without a name.
+pub fn parse_tcp_option(s: &[u8], from: usize) -> Piece
+    ensures { λ r. ⌜ r ≡ pieceAt entry (now (s .entry)) from ⌝ }
+{
+    if s.len() <= from {
+        return no_piece(from);
+    }
+    let byte = s[from];
+    let next = from + 1;
+    match byte {
+        b'n' => read_word(s, next, b"op", 1),
+        b'm' => read_word(s, next, b"ss", 2),
+        b'w' => read_word(s, next, b"s", 3),
+        b's' => read_either(s, next, b"ok", 4, b"ack", 5),
+        b't' => read_word(s, next, b"s", 8),
+        b'e' => read_word_byte(s, next, b"ol+", 0),
+        b'?' => read_unnamed(s, next),
+        _ => no_piece(from),
+    }
+}
+
+// One of the seventeen names; its form is the quirk's bit.
+pub fn parse_quirk(s: &[u8], from: usize) -> Piece
+    ensures { λ r. ⌜ r ≡ pieceAt quirkWord (now (s .entry)) from ⌝ }
+{
+    if s.len() <= from {
+        return no_piece(from);
+    }
+    let byte = s[from];
+    let next = from + 1;
+    match byte {
+        b'd' => read_word(s, next, b"f", Quirk::Df.bit()),
+        b'i' => read_signed(s, next, b"d", Quirk::NonZeroID.bit(), Quirk::ZeroID.bit()),
+        b'e' => read_either(
+            s,
+            next,
+            b"cn",
+            Quirk::Ecn.bit(),
+            b"xws",
+            Quirk::ExcessiveWindowScaling.bit(),
+        ),
+        b'0' => read_word(s, next, b"+", Quirk::MustBeZero.bit()),
+        b'f' => read_word(s, next, b"low", Quirk::FlowID.bit()),
+        b's' => read_word(s, next, b"eq-", Quirk::SeqNumZero.bit()),
+        b'a' => read_signed(
+            s,
+            next,
+            b"ck",
+            Quirk::AckNumNonZero.bit(),
+            Quirk::AckNumZero.bit(),
+        ),
+        b'u' => read_either(
+            s,
+            next,
+            b"ptr+",
+            Quirk::NonZeroURG.bit(),
+            b"rgf+",
+            Quirk::Urg.bit(),
+        ),
+        b'p' => read_word(s, next, b"ushf+", Quirk::Push.bit()),
+        b't' => read_stamp(s, next),
+        b'o' => read_word(s, next, b"pt+", Quirk::TrailinigNonZero.bit()),
+        b'b' => read_word(s, next, b"ad", Quirk::OptBad.bit()),
+        _ => no_piece(from),
     }
 }
 

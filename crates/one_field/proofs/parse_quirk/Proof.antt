@@ -1,4 +1,4 @@
--- `one_field::quirk_names::parse_quirk` meets its contract.
+-- `one_field::parse_quirk` meets its contract.
 use mathlib.Core.Path.{refl, sym, _∙_}
 use native.Mathlib.Omega.{arith}
 use Rattle.basis.proofs.Rules.{cases}
@@ -6,8 +6,8 @@ use Rattle.grammar.specs.States.{start, after, done}
 use Rattle.signature_line.specs.Words.{quirkWord}
 use Rattle.one_field.proofs.PlaceLaws.{ends, stays, goes-on}
 use borrow.Author.Needs.{needs}
-use Rattle.one_field.proofs.quirk_names.parse_quirk.Statement.{statement}
-use Rattle.one_field.proofs.quirk_names.parse_quirk.Tie as tie
+use Rattle.one_field.proofs.parse_quirk.Statement.{statement}
+use Rattle.one_field.proofs.parse_quirk.Tie as tie
 
 returns : tie.Need-returns
 unfolding quirkWord done

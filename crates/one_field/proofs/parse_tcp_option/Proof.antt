@@ -1,4 +1,4 @@
--- `one_field::entries::parse_tcp_option` meets its contract.
+-- `one_field::parse_tcp_option` meets its contract.
 use mathlib.Core.Path.{refl, sym, _∙_}
 use native.Mathlib.Omega.{arith}
 use Rattle.basis.proofs.Rules.{cases}
@@ -6,8 +6,8 @@ use Rattle.grammar.specs.States.{start, after, done}
 use Rattle.signature_line.specs.Words.{entry}
 use Rattle.one_field.proofs.PlaceLaws.{ends, stays, goes-on}
 use borrow.Author.Needs.{needs}
-use Rattle.one_field.proofs.entries.parse_tcp_option.Statement.{statement}
-use Rattle.one_field.proofs.entries.parse_tcp_option.Tie as tie
+use Rattle.one_field.proofs.parse_tcp_option.Statement.{statement}
+use Rattle.one_field.proofs.parse_tcp_option.Tie as tie
 
 returns : tie.Need-returns
 unfolding entry done
