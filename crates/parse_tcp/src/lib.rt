@@ -45,10 +45,7 @@ pub struct LineFields {
 fn read_fields(line: &[u8]) -> LineFields
     ensures { λ r. ⌜ r ≡ lineFields (now (line .entry)) ⌝ }
 {
-    let start = Place {
-        at: 0,
-        good: true,
-    };
+    let start = Place { at: 0, good: true };
     let version = parse_ip_version(line, start);
     let ittl = parse_ttl(line, behind(line, version.at, version.good, b':'));
     let olen = parse_olen(line, behind(line, ittl.at, ittl.good, b':'));

@@ -138,7 +138,7 @@ named kind other small =
     by true = refl
     by false = refl
 
-entry-good : (w : List ℕ) (v : Said) → Choice entry w v → EntryGood v
+pub entry-good : (w : List ℕ) (v : Said) → Choice entry w v → EntryGood v
 unfolding entry entryKind entryByte entryGood
 entry-good =
     table-holds (λ f n. EntryGood (said f n)) entry
@@ -152,7 +152,7 @@ entry-good =
     then (λ n h a. record { good = refl; kind = omega arith; byte = lit< tt })
     then tt)
 
-layout-good : (w : List ℕ) (vs : List Said) → LayoutText w vs → Each EntryGood vs × (length vs ≤ 40)
+pub layout-good : (w : List ℕ) (vs : List Said) → LayoutText w vs → Each EntryGood vs × (length vs ≤ 40)
 layout-good w vs (inl l) = rw (l .1) (tt, omega arith)
 layout-good w vs (inr l) =
     let rest = more-each (Choice entry) comma EntryGood entry-good 39 (l .1 .right) (l .0 .1) (l .1 .second) in
