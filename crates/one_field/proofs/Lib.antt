@@ -1,3 +1,4 @@
 pub mod NumberLaws
 pub mod PlaceLaws
+pub mod Unique
 pub mod WordLaws

@@ -6,6 +6,8 @@ ghost use Rattle.signature_line.specs.Words.{version, bareByte, mss, window, sc
 ghost use Rattle.one_field.specs.Places.{noPiece, wholePiece, starred, behindAt, pieceAt, fieldAt, ttlAt};
 use numerals::read_numeral;
 use numerals::read_unnamed;
+use quirk_names::read_name;
+use quirk_names::read_names;
 use quirk_names::read_signed;
 use quirk_names::read_stamp;
 use quirks::Quirk;
@@ -232,38 +234,25 @@ pub fn parse_quirk(s: &[u8], from: usize) -> Piece
     let byte = s[from];
     let next = from + 1;
     match byte {
-        b'd' => read_word(s, next, b"f", Quirk::Df.bit()),
-        b'i' => read_signed(s, next, b"d", Quirk::NonZeroID.bit(), Quirk::ZeroID.bit()),
-        b'e' => read_either(
+        b'd' => read_name(s, next, b"f", Quirk::Df),
+        b'i' => read_signed(s, next, b"d", Quirk::NonZeroID, Quirk::ZeroID),
+        b'e' => read_names(
             s,
             next,
             b"cn",
-            Quirk::Ecn.bit(),
+            Quirk::Ecn,
             b"xws",
-            Quirk::ExcessiveWindowScaling.bit(),
+            Quirk::ExcessiveWindowScaling,
         ),
-        b'0' => read_word(s, next, b"+", Quirk::MustBeZero.bit()),
-        b'f' => read_word(s, next, b"low", Quirk::FlowID.bit()),
-        b's' => read_word(s, next, b"eq-", Quirk::SeqNumZero.bit()),
-        b'a' => read_signed(
-            s,
-            next,
-            b"ck",
-            Quirk::AckNumNonZero.bit(),
-            Quirk::AckNumZero.bit(),
-        ),
-        b'u' => read_either(
-            s,
-            next,
-            b"ptr+",
-            Quirk::NonZeroURG.bit(),
-            b"rgf+",
-            Quirk::Urg.bit(),
-        ),
-        b'p' => read_word(s, next, b"ushf+", Quirk::Push.bit()),
+        b'0' => read_name(s, next, b"+", Quirk::MustBeZero),
+        b'f' => read_name(s, next, b"low", Quirk::FlowID),
+        b's' => read_name(s, next, b"eq-", Quirk::SeqNumZero),
+        b'a' => read_signed(s, next, b"ck", Quirk::AckNumNonZero, Quirk::AckNumZero),
+        b'u' => read_names(s, next, b"ptr+", Quirk::NonZeroURG, b"rgf+", Quirk::Urg),
+        b'p' => read_name(s, next, b"ushf+", Quirk::Push),
         b't' => read_stamp(s, next),
-        b'o' => read_word(s, next, b"pt+", Quirk::TrailinigNonZero.bit()),
-        b'b' => read_word(s, next, b"ad", Quirk::OptBad.bit()),
+        b'o' => read_name(s, next, b"pt+", Quirk::TrailinigNonZero),
+        b'b' => read_name(s, next, b"ad", Quirk::OptBad),
         _ => no_piece(from),
     }
 }

@@ -97,9 +97,10 @@ pub(crate) fn read_multiple(s: &[u8], from: usize) -> Piece
         return no_piece(from);
     }
     let byte = s[from];
+    let next = from + 1;
     match byte {
-        b's' => read_word_byte(s, from + 1, b"s*", 3),
-        b't' => read_word_byte(s, from + 1, b"u*", 4),
+        b's' => read_word_byte(s, next, b"s*", 3),
+        b't' => read_word_byte(s, next, b"u*", 4),
         _ => no_piece(from),
     }
 }

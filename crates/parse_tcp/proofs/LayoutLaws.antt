@@ -15,7 +15,7 @@ use Rattle.grammar.specs.States.{tableRead}
 use Rattle.grammar.specs.Table.{Said, said, Choice}
 use Rattle.signature_line.specs.Line.{comma}
 use Rattle.signature_line.specs.LineReader.{layoutRead}
-use Rattle.signature_line.specs.Meaning.{entryKind, entryByte, each, padded, layoutOf}
+use Rattle.signature_line.specs.Meaning.{kindSaid, byteSaid, each, padded, layoutOf}
 use Rattle.signature_line.specs.Words.{entry}
 use Rattle.signature_line.proofs.FieldsGood.{EntryGood, entry-good, layout-good}
 use Rattle.signature_line.proofs.Line.{entry-field, entry-empty, layout-field}
@@ -45,11 +45,11 @@ good-there s at g =
 small : (n : ℕ) → n < 256 → n % 256 ≡ n
 small n h = omega arith
 
-kind-fits : (s : List ℕ) (at : ℕ) → pieceAt entry s at .good ≡ true → kindByte (pieceAt entry s at) ≡ entryKind (read s at .value)
-kind-fits s at g = rw (same-said s at) (small (entryKind (read s at .value)) (good-there s at g .kind))
+kind-fits : (s : List ℕ) (at : ℕ) → pieceAt entry s at .good ≡ true → kindByte (pieceAt entry s at) ≡ kindSaid (read s at .value)
+kind-fits s at g = rw (same-said s at) (small (kindSaid (read s at .value)) (good-there s at g .kind))
 
-byte-fits : (s : List ℕ) (at : ℕ) → pieceAt entry s at .good ≡ true → restByte (pieceAt entry s at) ≡ entryByte (read s at .value)
-byte-fits s at g = rw (same-said s at) (small (entryByte (read s at .value)) (good-there s at g .byte))
+byte-fits : (s : List ℕ) (at : ℕ) → pieceAt entry s at .good ≡ true → restByte (pieceAt entry s at) ≡ byteSaid (read s at .value)
+byte-fits s at g = rw (same-said s at) (small (byteSaid (read s at .value)) (good-there s at g .byte))
 
 -- ---- one turn of the loop, and its ends
 
@@ -64,10 +64,10 @@ same-stored a b m n kinds bytes p q = rw (p, q)
 one-entry
     : (n : ℕ) (kinds bytes : List ℕ) (at k c : ℕ) (v : Said) (g : Bool) (vs : List Said)
     → entriesOf n kinds bytes at (record { count = suc (k + c); good = g; value = v ∷ vs })
-    ≡ entriesOf (n + 1) (set kinds n (entryKind v)) (set bytes n (entryByte v)) (at + 1 + k) (record { count = c; good = g; value = vs })
+    ≡ entriesOf (n + 1) (set kinds n (kindSaid v)) (set bytes n (byteSaid v)) (at + 1 + k) (record { count = c; good = g; value = vs })
 unfolding entriesOf store
 one-entry n kinds bytes at k c v true vs =
-    same-stored _ _ _ _ (store entryKind (set kinds n (entryKind v)) (n + 1) vs) (store entryByte (set bytes n (entryByte v)) (n + 1) vs)
+    same-stored _ _ _ _ (store kindSaid (set kinds n (kindSaid v)) (n + 1) vs) (store byteSaid (set bytes n (byteSaid v)) (n + 1) vs)
     (omega arith) (omega arith)
 one-entry n kinds bytes at k c v false vs = ap (λ (i : ℕ). noLayout i false) (omega arith)
 
@@ -77,7 +77,7 @@ one-more n h = omega arith
 turned
     : (n : ℕ) (kinds bytes s : List ℕ) (at : ℕ) → n < 40 → next comma s at .good ≡ true → pieceAt entry s (at + 1) .good ≡ true
     → (let v = read s (at + 1) .value in
-    entriesAt (n + 1) (set kinds n (entryKind v)) (set bytes n (entryByte v)) s (pieceAt entry s (at + 1) .at) ≡ entriesAt n kinds bytes s at)
+    entriesAt (n + 1) (set kinds n (kindSaid v)) (set bytes n (byteSaid v)) s (pieceAt entry s (at + 1) .at) ≡ entriesAt n kinds bytes s at)
 unfolding entriesAt stateAt pieceOf
 turned n kinds bytes s at below q g =
     let x = read s (at + 1) in
@@ -182,22 +182,22 @@ same-layout a b m n kinds bytes kinds′ bytes′ p q r w = rw (p, q, r, w)
 
 first-stored
     : (at k : ℕ) (v : Said) (y : Read (List Said)) → (y .good ≡ true → length (v ∷ y .value) ≤ 40)
-    → entriesOf 1 (set (replicate 40 0) 0 (entryKind v)) (set (replicate 40 0) 0 (entryByte v)) (at + k) y
+    → entriesOf 1 (set (replicate 40 0) 0 (kindSaid v)) (set (replicate 40 0) 0 (byteSaid v)) (at + k) y
     ≡ layoutPieceOf at (record { count = k + y .count; good = y .good; value = v ∷ y .value })
 unfolding entriesOf layoutPieceOf layoutOf store
 first-stored at k v y h = by (y .good) refl
   where
     kept : Layout
     kept =
-        stored (1 + length (y .value)) (store entryKind (set (replicate 40 0) 0 (entryKind v)) 1 (y .value))
-        (store entryByte (set (replicate 40 0) 0 (entryByte v)) 1 (y .value))
+        stored (1 + length (y .value)) (store kindSaid (set (replicate 40 0) 0 (kindSaid v)) 1 (y .value))
+        (store byteSaid (set (replicate 40 0) 0 (byteSaid v)) 1 (y .value))
 
     by : (g : Bool) → y .good ≡ g
         → cond g (layoutPiece (at + k + y .count) true kept) (noLayout (at + k + y .count) false)
         ≡ cond g (layoutPiece (at + (k + y .count)) true (layoutOf (v ∷ y .value))) (noLayout (at + (k + y .count)) false)
     by true q =
-        same-layout _ _ _ _ _ _ _ _ (omega arith) (omega arith) (stored-whole entryKind (v ∷ y .value) (h q))
-        (stored-whole entryByte (v ∷ y .value) (h q))
+        same-layout _ _ _ _ _ _ _ _ (omega arith) (omega arith) (stored-whole kindSaid (v ∷ y .value) (h q))
+        (stored-whole byteSaid (v ∷ y .value) (h q))
     by false q = ap (λ (i : ℕ). noLayout i false) (omega arith)
 
 few-entries : (q : List ℕ) → layoutRead q .good ≡ true → length (layoutRead q .value) ≤ 40
@@ -206,7 +206,7 @@ few-entries q g = layout-good (take (layoutRead q .count) q) (layoutRead q .valu
 from-first
     : (s : List ℕ) (at : ℕ) → pieceAt entry s at .good ≡ true
     → (let v = read s at .value in
-    entriesAt 1 (set (replicate 40 0) 0 (entryKind v)) (set (replicate 40 0) 0 (entryByte v)) s (pieceAt entry s at .at)
+    entriesAt 1 (set (replicate 40 0) 0 (kindSaid v)) (set (replicate 40 0) 0 (byteSaid v)) s (pieceAt entry s at .at)
     ≡ layoutPieceOf at (layoutRead (drop at s)))
 unfolding entriesAt stateAt pieceOf
 from-first s at g =

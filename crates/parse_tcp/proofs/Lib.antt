@@ -4,4 +4,5 @@ pub mod LayoutLaws
 pub mod MoreLaws
 pub mod QuirkLaws
 pub mod StageLaws
+pub mod Unique
 pub mod WholeLine

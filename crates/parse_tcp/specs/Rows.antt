@@ -9,7 +9,7 @@ use Rattle.grammar.specs.States.{tableRead}
 use Rattle.grammar.specs.Table.{Said, said}
 use Rattle.signature_line.specs.Line.{comma}
 use Rattle.signature_line.specs.LineReader.{layoutRead, quirksRead}
-use Rattle.signature_line.specs.Meaning.{entryKind, entryByte, layoutOf, unionFrom}
+use Rattle.signature_line.specs.Meaning.{kindSaid, byteSaid, layoutOf, unionFrom}
 use Rattle.signature_line.specs.Words.{entry, quirkWord}
 use Rattle.one_field.specs.declared.Piece.{Piece}
 use Rattle.one_field.specs.declared.Place.{Place}
@@ -35,10 +35,10 @@ layoutAt s from = cond (from .good) (layoutPieceOf (from .at) (layoutRead (drop 
 
 -- An entry in its two bytes.
 abbrev pub kindByte : Piece → ℕ
-kindByte p = entryKind (saidBy p) % 256
+kindByte p = kindSaid (saidBy p) % 256
 
 abbrev pub restByte : Piece → ℕ
-restByte p = entryByte (saidBy p) % 256
+restByte p = byteSaid (saidBy p) % 256
 
 -- Entries, stored from an index on.
 unfoldable pub store : (Said → ℕ) → List ℕ → ℕ → List Said → List ℕ
@@ -50,7 +50,7 @@ unfoldable pub entriesOf : ℕ → List ℕ → List ℕ → ℕ → Read (List 
 entriesOf n kinds bytes at x =
     cond (x .good)
     (layoutPiece (at + x .count) true
-    (record { kinds = store entryKind kinds n (x .value); bytes = store entryByte bytes n (x .value); count = n + length (x .value) }))
+    (record { kinds = store kindSaid kinds n (x .value); bytes = store byteSaid bytes n (x .value); count = n + length (x .value) }))
     (noLayout (at + x .count) false)
 
 unfoldable pub entriesAt : ℕ → List ℕ → List ℕ → List ℕ → ℕ → LayoutPiece

@@ -9,7 +9,7 @@ use lib.Seq.{take-at}
 use Rattle.basis.specs.Bytes.{byteAt}
 use Rattle.sigrecord.specs.Layout.{entryGood}
 use Rattle.grammar.specs.Table.{Said}
-use Rattle.signature_line.specs.Meaning.{entryKind, entryByte, each, padded, layoutOf}
+use Rattle.signature_line.specs.Meaning.{kindSaid, byteSaid, each, padded, layoutOf}
 use Rattle.signature_line.specs.OneRecord.{alternating, entriesIn}
 use Rattle.signature_line.proofs.FieldsGood.{Each, EntryGood}
 
@@ -66,11 +66,11 @@ module _ (f : Said → ℕ) (es : List Said) where
 -- ---- kinds and bytes in turn
 
 abbrev pub inTurn : List Said → List ℕ
-inTurn es = alternating (each entryKind es) (each entryByte es)
+inTurn es = alternating (each kindSaid es) (each byteSaid es)
 
 pub entries-in : (es : List Said) → entriesIn (layoutOf es) ≡ inTurn es
 unfolding entriesIn layoutOf
-entries-in es = rw (taken entryKind es, taken entryByte es)
+entries-in es = rw (taken kindSaid es, taken byteSaid es)
 
 pub length-in-turn : (es : List Said) → length (inTurn es) ≡ 2 * length es
 length-in-turn [] = refl

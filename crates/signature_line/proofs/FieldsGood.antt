@@ -25,7 +25,7 @@ use Rattle.grammar.specs.Language.{Behind, Then, More}
 use Rattle.grammar.specs.Table.{Said, said, Choice}
 use Rattle.grammar.proofs.Tables.{table-holds}
 use Rattle.signature_line.specs.Line.{colon, comma, TtlText, LayoutText, QuirksText, AfterScale, AfterOlen, LineSays}
-use Rattle.signature_line.specs.Meaning.{Fields, entryKind, entryByte, unionFrom}
+use Rattle.signature_line.specs.Meaning.{Fields, kindSaid, byteSaid, unionFrom}
 use Rattle.signature_line.specs.Words.{version, bareByte, ttlForm, mss, window, scale, entry, quirkWord, payload}
 
 -- What holds of each of a row, one after the other.
@@ -119,19 +119,19 @@ module _ {A : Type 0} (F : List ℕ → A → Type 0) (c : ℕ) (P : A → Type 
 
 -- A kind and a byte, which is 0 unless the kind is.
 pub record EntryGood (e : Said) : Type 0 where
-  pub good : entryGood (entryKind e) (entryByte e) ≡ true
-  pub kind : entryKind e < 256
-  pub byte : entryByte e < 256
+  pub good : entryGood (kindSaid e) (byteSaid e) ≡ true
+  pub kind : kindSaid e < 256
+  pub byte : byteSaid e < 256
 
 or-right : (a : Bool) → a || true ≡ true
 or-right true = refl
 or-right false = refl
 
 named : (kind : ℕ) → eqb kind 6 ≡ false → kind < 256 → EntryGood (said kind 0)
-unfolding entryKind entryByte entryGood
+unfolding kindSaid byteSaid entryGood
 named kind other small =
-    let same : entryKind (said kind 0) ≡ kind = rw other in
-    let none : entryByte (said kind 0) ≡ 0 = by (eqb kind 0) in
+    let same : kindSaid (said kind 0) ≡ kind = rw other in
+    let none : byteSaid (said kind 0) ≡ 0 = by (eqb kind 0) in
     record { good = rw none; kind = rw same small; byte = rw none (lit< tt) }
   where
     by : (t : Bool) → cond {A = ℕ} t 0 0 ≡ 0
@@ -139,7 +139,7 @@ named kind other small =
     by false = refl
 
 pub entry-good : (w : List ℕ) (v : Said) → Choice entry w v → EntryGood v
-unfolding entry entryKind entryByte entryGood
+unfolding entry kindSaid byteSaid entryGood
 entry-good =
     table-holds (λ f n. EntryGood (said f n)) entry
     ((λ n h a. record { good = or-right (eqb n 0); kind = lit< tt; byte = omega arith })

@@ -12,7 +12,7 @@ use Rattle.basis.specs.Bytes.{byteAt}
 use Rattle.sigrecord.specs.Layout.{entryGood}
 use Rattle.grammar.specs.Numeral.{any}
 use Rattle.grammar.specs.Table.{Said, said, Choice}
-use Rattle.signature_line.specs.Meaning.{entryKind, entryByte}
+use Rattle.signature_line.specs.Meaning.{kindSaid, byteSaid}
 use Rattle.signature_line.specs.Words.{entry, unnamed}
 use Rattle.signature_line.proofs.Arrays.{inTurn}
 use Rattle.signature_line.proofs.FieldWords.{or-cases}
@@ -25,12 +25,12 @@ use Rattle.signature_line.proofs.Spelled.{Spelled, RowAt, Spells, three
 record Entry (kind byte : ℕ) : Type 0 where
   means : Said
   spelled : Spelled (Choice entry) means 7
-  sameKind : entryKind means ≡ kind
-  sameByte : entryByte means ≡ byte
+  sameKind : kindSaid means ≡ kind
+  sameByte : byteSaid means ≡ byte
 
 -- With a byte, a kind without a name, and a kind with one, whose row is given.
 end-of-options : (byte : ℕ) → byte < 256 → Entry 0 byte
-unfolding entry entryKind entryByte any
+unfolding entry kindSaid byteSaid any
 end-of-options byte h =
     record {
       means = said 0 byte;
@@ -40,7 +40,7 @@ end-of-options byte h =
     }
 
 without-name : (kind : ℕ) → kind < 256 → unnamed kind ≡ true → Entry kind 0
-unfolding entry entryKind entryByte
+unfolding entry kindSaid byteSaid
 without-name kind h u =
     record {
       means = said 6 kind;
@@ -56,7 +56,7 @@ no-byte kind byte g =
     ⊎-elim (λ e. eqb-true byte 0 e) (λ e. absurd (omega (arith, eqb-true (suc kind) 0 e))) (or-cases (eqb byte 0) (eqb (suc kind) 0) g)
 
 with-name : (i kind : ℕ) → RowAt entry i (Spells kind 0 7 []) → eqb kind 6 ≡ false → Entry kind 0
-unfolding entryKind entryByte
+unfolding kindSaid byteSaid
 with-name i kind there other =
     record { means = said kind 0; spelled = by-row entry i kind 0 7 [] there; sameKind = rw other; sameByte = zero-or-zero (eqb kind 0) }
   where

@@ -18,7 +18,7 @@ use Rattle.siglist.specs.List.{recordCount, recordsOffset, layoutCount, layoutO
 use Rattle.siglist.specs.List.{recordAt, entriesFrom, layoutLies, recordGood}
 use Rattle.siglist.specs.List.{recordsFrom, checkList}
 use Rattle.signature_line.specs.Line.{SignatureLine}
-use Rattle.signature_line.specs.Meaning.{Fields, LineMeaning, entryKind, entryByte, unionFrom, layoutOf, recordOf, meaningOf}
+use Rattle.signature_line.specs.Meaning.{Fields, LineMeaning, kindSaid, byteSaid, unionFrom, layoutOf, recordOf, meaningOf}
 use Rattle.signature_line.specs.OneRecord.{entriesIn, listOfOne, WellFormedLine}
 use Rattle.signature_line.proofs.Arrays.{Bytes, bytes-at, padded-whole, padded-past, padded-bytes}
 use Rattle.signature_line.proofs.Arrays.{inTurn, entries-in, length-in-turn, good-at}
@@ -170,13 +170,13 @@ module _ (f : Fields) (g : FieldsGood f) where
         labelHigh = refl;
         labelLow = refl;
         fits = g .layoutCount;
-        kindsWhole = padded-whole entryKind (f .layout) (g .layoutCount);
-        bytesWhole = padded-whole entryByte (f .layout) (g .layoutCount);
-        kindsPast = padded-past entryKind (f .layout);
-        bytesPast = padded-past entryByte (f .layout);
+        kindsWhole = padded-whole kindSaid (f .layout) (g .layoutCount);
+        bytesWhole = padded-whole byteSaid (f .layout) (g .layoutCount);
+        kindsPast = padded-past kindSaid (f .layout);
+        bytesPast = padded-past byteSaid (f .layout);
         rawBytes = bytes-at (recordOf f) raw-bytes;
-        kindsBytes = padded-bytes entryKind (f .layout) (each-of (λ e h. h .kind) (f .layout) (g .layout));
-        bytesBytes = padded-bytes entryByte (f .layout) (each-of (λ e h. h .byte) (f .layout) (g .layout));
+        kindsBytes = padded-bytes kindSaid (f .layout) (each-of (λ e h. h .kind) (f .layout) (g .layout));
+        bytesBytes = padded-bytes byteSaid (f .layout) (each-of (λ e h. h .byte) (f .layout) (g .layout));
       }
 
 pub well-formed : (s : List ℕ) (m : LineMeaning) → SignatureLine s m → WellFormedLine m

@@ -23,11 +23,11 @@ pub record Fields : Type 0 where
   pub payload : Said
 
 -- "A layout entry is an option kind and a byte: bytes left after kind 0, else 0."
-unfoldable pub entryKind : Said → ℕ
-entryKind e = cond (eqb (e .form) 6) (e .number) (e .form)
+unfoldable pub kindSaid : Said → ℕ
+kindSaid e = cond (eqb (e .form) 6) (e .number) (e .form)
 
-unfoldable pub entryByte : Said → ℕ
-entryByte e = cond (eqb (e .form) 0) (e .number) 0
+unfoldable pub byteSaid : Said → ℕ
+byteSaid e = cond (eqb (e .form) 0) (e .number) 0
 
 abbrev pub each : (Said → ℕ) → List Said → List ℕ
 each f [] = []
@@ -39,7 +39,7 @@ padded s = s ++ replicate (40 - length s) 0
 
 unfoldable pub layoutOf : List Said → Layout
 layoutOf entries =
-    record { kinds = padded (each entryKind entries); bytes = padded (each entryByte entries); count = length entries }
+    record { kinds = padded (each kindSaid entries); bytes = padded (each byteSaid entries); count = length entries }
 
 -- The bits of all quirks that are named, in any order and any number of times.
 unfoldable pub unionFrom : ℕ → List Said → ℕ

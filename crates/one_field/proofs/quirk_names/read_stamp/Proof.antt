@@ -19,20 +19,20 @@ returns c =
     (row (50 ∷ 43 ∷ []) (bitOf quirk.PeerTimestampNonZero) nothing ∷ [])
     (w .result) (w .ensures) (c .before .if1 .taken)
 
-read-either-requires : tie.Need-read-either-requires
-read-either-requires c κs = (omega arith, omega arith, λ e. omega arith)
+read-names-requires : tie.Need-read-names-requires
+read-names-requires c κs = (omega arith, omega arith, λ e. omega arith)
 
 returns-2 : tie.Need-returns-2
 returns-2 c =
-    let a = c .before .before .before .before .before .before .before .before .before .before .args in
-    let w = c .before .before .before .before .before .before .before .read-word in
-    (rw (c .before .before .before .bit .ensures, c .before .bit2 .ensures) at (c .read-either .ensures))
+    let a = c .before .before .before .before .before .before .before .before .args in
+    let w = c .before .before .before .before .before .read-word in
+    c .read-names .ensures
     ∙ behind-word (a .s .now) (a .from) (115 ∷ []) (49 ∷ 45 ∷ []) (bitOf quirk.OwnTimestampZero) nothing
     (row (50 ∷ 43 ∷ []) (bitOf quirk.PeerTimestampNonZero) nothing ∷ [])
-    (w .result) (w .ensures) (c .before .before .before .before .before .if1 .left)
+    (w .result) (w .ensures) (c .before .before .before .if1 .left)
 
 pub read-stamp-spec : {M : Type 1} → statement M
 read-stamp-spec =
     tie.close
     (tie.spec (λ c. search needs) (λ c κs. search needs) (λ c κs. search needs) returns (λ c. search needs)
-    (λ c κs. search needs) (λ c. search needs) (λ c κs. search needs) read-either-requires returns-2)
+    (λ c. search needs) read-names-requires returns-2)

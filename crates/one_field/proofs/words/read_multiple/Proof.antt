@@ -40,5 +40,5 @@ pub read-multiple-spec : {M : Type 1} → statement M
 read-multiple-spec =
     tie.close
     (tie.spec (λ c κs. search needs) returns (λ c. search needs) (λ c. search needs) (λ c. search needs)
-    (λ c κs. search needs) (λ c. search needs) (λ c. search needs) (λ c κs. search needs) (λ c κs. search needs)
-    returns-2 returns-3 returns-4)
+    (λ c κs. search needs) (λ c. search needs) (λ c κs. search needs) (λ c κs. search needs) returns-2 returns-3
+    returns-4)
