@@ -14,13 +14,13 @@ use Rattle.grammar.specs.States.{tableRead}
 use Rattle.grammar.specs.Table.{Said, said}
 use Rattle.signature_line.specs.Line.{colon, comma, Parts, fields, longest}
 use Rattle.signature_line.specs.LineReader.{ttlRead, layoutRead, quirksRead, afterScaleRead, afterOlenRead, partsRead, fieldsRead}
-use Rattle.signature_line.specs.LineReader.{refusedAt, readAs, answered, readLine}
+use Rattle.signature_line.specs.LineReader.{refusedAt, readOf, readAs, answered, readLine}
 use Rattle.signature_line.specs.Meaning.{Fields, recordOf, layoutOf, unionFrom, meaningOf}
 use Rattle.signature_line.specs.OneRecord.{WellFormedLine}
 use Rattle.signature_line.specs.Words.{version, bareByte, mss, window, scale, payload}
 use Rattle.signature_line.specs.declared.LineAnswer.the-variants as answer
 use Rattle.signature_line.specs.declared.SignatureRead.{SignatureRead}
-use Rattle.signature_line.proofs.Accepted.{readOf, short, accepted}
+use Rattle.signature_line.proofs.Accepted.{short, accepted}
 use Rattle.signature_line.proofs.WellFormed.{well-formed}
 use Rattle.one_field.specs.declared.Place.{Place}
 use Rattle.one_field.specs.Places.{place, behindAt}

@@ -16,7 +16,7 @@ use Rattle.grammar.proofs.Judged.{Holds, judged}
 use Rattle.signature_line.specs.declared.LineAnswer.the-variants as answer
 use Rattle.signature_line.specs.declared.SignatureRead.{SignatureRead}
 use Rattle.signature_line.specs.Line.{LineSays, SignatureLine, longest, LineRefused, too-long, goes-on-no-more}
-use Rattle.signature_line.specs.LineReader.{fieldsRead, refusedAt, readAs, answered, readLine}
+use Rattle.signature_line.specs.LineReader.{fieldsRead, refusedAt, readAs, readOf, answered, readLine}
 use Rattle.signature_line.specs.Meaning.{Fields, LineMeaning, meaningOf}
 use Rattle.signature_line.proofs.Line.{line-field}
 
@@ -29,10 +29,6 @@ one-saying s f g a b =
     let p = line-judged s (means f) .1 a in
     let q = line-judged s (means g) .1 b in
     cc
-
--- A record and a layout that were read.
-abbrev pub readOf : LineMeaning → SignatureRead
-readOf m = record { answer = answer.Read; raw = m .raw; layout = m .layout }
 
 -- The two lengths, and what is answered.
 pub long : (s : List ℕ) → longest < length s → readLine s ≡ refusedAt longest

@@ -89,12 +89,11 @@ entries-there l first count all fits lies =
 pub every-record
     : (l : List ℕ) (i : ℕ)
     → ((k : ℕ) → byteAt l k < 256)
-    → i < recordCount l
     → listFits l ≡ true
     → recordGood l i ≡ true
     → HasLine l i
 unfolding recordGood SignatureLine
-every-record l i all inside fits good =
+every-record l i all fits good =
     let r = recordAt l i in
     let parts = both (scalarsGood r) (layoutLies l (firstEntry r) (entryCount r)) good in
     let lies = lies-of l (firstEntry r) (entryCount r) (parts .1) in

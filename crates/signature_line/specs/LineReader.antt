@@ -14,7 +14,7 @@ use Rattle.signature_line.specs.declared.LineAnswer.{LineAnswer}
 use Rattle.signature_line.specs.declared.LineAnswer.the-variants as answer
 use Rattle.signature_line.specs.declared.SignatureRead.{SignatureRead}
 use Rattle.signature_line.specs.Line.{colon, comma, Parts, fields, longest}
-use Rattle.signature_line.specs.Meaning.{Fields, recordOf, layoutOf}
+use Rattle.signature_line.specs.Meaning.{Fields, layoutOf, LineMeaning, meaningOf}
 use Rattle.signature_line.specs.Words.{version, bareByte, ttlForm, mss, window, scale, entry, quirkWord, payload}
 
 unfoldable pub ttlRead : List ℕ → Read (Said × Said)
@@ -47,8 +47,12 @@ fieldsRead s = mapRead fields (partsRead s)
 unfoldable pub refusedAt : ℕ → SignatureRead
 refusedAt at = record { answer = answer.Refused at; raw = replicate 24 0; layout = layoutOf [] }
 
+-- A record and a layout that were read.
+abbrev pub readOf : LineMeaning → SignatureRead
+readOf m = record { answer = answer.Read; raw = m .raw; layout = m .layout }
+
 unfoldable pub readAs : Fields → SignatureRead
-readAs f = record { answer = answer.Read; raw = recordOf f; layout = layoutOf (f .layout) }
+readAs f = readOf (meaningOf f)
 
 abbrev pub answered : Judgement Fields → SignatureRead
 answered (means f) = readAs f
