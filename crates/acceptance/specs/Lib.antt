@@ -6,6 +6,7 @@ pub mod Demand3
 pub mod Honesty
 pub mod Lent
 pub mod Lines
+pub mod LineValues
 pub mod NotFree
 pub mod OnPaper
 pub mod Outcome
@@ -14,5 +15,6 @@ pub mod Promised
 pub mod Promises
 pub mod Refusals
 pub mod Stages
+pub mod TextLines
 pub mod Unchecked
 pub mod Values
