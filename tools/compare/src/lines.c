@@ -203,9 +203,9 @@ void line_families(unsigned share) {
         for (changes = 1 + below(&damaged, 3); changes > 0; changes--) size = damage_line(&damaged, s, size);
         try_line(s, size);
     }
-    family("words of the grammar in any order", LINE);
+    family("words of the grammar in any order, behind a beginning or none", LINE);
     for (i = 0; i < 150000 / share; i++) try_line(s, make_words(&words, s));
-    family("random bytes of the grammar's alphabet", LINE);
+    family("random bytes of the grammar's alphabet, behind a beginning or none", LINE);
     for (i = 0; i < 150000 / share; i++) try_line(s, make_letters(&letters, s));
     random_bytes(share);
 }

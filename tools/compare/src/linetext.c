@@ -13,8 +13,8 @@
     "wsize = \"*\" | word | \"%\" word | \"mss*\" byte | \"mtu*\" byte\n" \
     "scale = \"*\" | byte\n" \
     "quirks = \"\" | quirk { \",\" quirk }\n" \
-    "quirk = \"df\" | \"id+\" | \"id-\" | \"ecn\" | \"0+\" | \"flow\" | \"seq-\" | \"ack+\" | \"ack-\" | \"uptr+\" | \"urgf+\" | \"pushf+\"" \
-    " | \"ts1-\" | \"ts2+\" | \"opt+\" | \"exws\" | \"bad\"\n" \
+    "quirk = \"df\" | \"id+\" | \"id-\" | \"ecn\" | \"0+\" | \"flow\" | \"seq-\" | \"ack+\" | \"ack-\" | \"uptr+\" | \"urgf+\"" \
+    " | \"pushf+\" | \"ts1-\" | \"ts2+\" | \"opt+\" | \"exws\" | \"bad\"\n" \
     "pclass = \"0\" | \"+\" | \"*\"\n" \
     "byte = { \"0\" } 0..255\n" \
     "word = { \"0\" } 0..65535\n"

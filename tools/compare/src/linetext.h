@@ -22,7 +22,17 @@ void line_by_grammar(const uint8_t *s, size_t size, LineText *line);
 void line_by_original(const uint8_t *s, size_t size, LineText *line);
 
 /* How the original's answer may differ. */
-typedef enum { ALIKE, EMPTY_LAYOUT, NAMED_KIND, KIND_OVER_255, OVER_40_ENTRIES, OVER_512_BYTES, NOT_UTF8, OTHERWISE, LINE_CLASSES } LineClass;
+typedef enum {
+    ALIKE,
+    EMPTY_LAYOUT,
+    NAMED_KIND,
+    KIND_OVER_255,
+    OVER_40_ENTRIES,
+    OVER_512_BYTES,
+    NOT_UTF8,
+    OTHERWISE,
+    LINE_CLASSES
+} LineClass;
 
 /* The class of a line, by its text and what the two readings say of it; where there are several causes, by the first one in the line. */
 LineClass class_of_line(const uint8_t *s, size_t size, const LineText *here, const LineText *there);

@@ -39,7 +39,7 @@ size_t make_line(Random *r, uint8_t *s);
 /* A line after one change: a byte put in, taken out or replaced, two exchanged, the end cut off or lengthened. */
 size_t damage_line(Random *r, uint8_t *s, size_t size);
 
-/* Words of the grammar in any order, and bytes of its alphabet. */
+/* Words of the grammar in any order, or bytes of its alphabet, behind a line's beginning or none. */
 size_t make_words(Random *r, uint8_t *s);
 size_t make_letters(Random *r, uint8_t *s);
 

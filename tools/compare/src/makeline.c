@@ -152,11 +152,18 @@ size_t damage_line(Random *r, uint8_t *s, size_t size) {
     }
 }
 
+/* The beginning of a line up to some field, or none. */
+static size_t put_beginning(Random *r, uint8_t *s) {
+    static const char *const beginnings[] = {"",          "",           "4:",            "*:64:",             "6:64+?:0:",
+                                             "*:64:0:*:", "4:64:0:*:*,", "*:64:0:*:*,*:", "*:64:0:*:*,*:mss,", "*:64:0:*:*,*:mss:df,"};
+    return put_text(s, 0, beginnings[below(r, 10)]);
+}
+
 size_t make_words(Random *r, uint8_t *s) {
     static const char *const marks[] = {":", ":", ":", ",", ",", "*", "+", "-", "+?", "%", "mss*", "mtu*", "?", "eol+", "eol", "0", " "};
-    size_t at = 0;
-    unsigned i, count = below(r, 30);
-    for (i = 0; i < count && at < LINE_LONGEST; i++) switch (below(r, 5)) {
+    size_t at = put_beginning(r, s);
+    unsigned i, count = below(r, 12);
+    for (i = 0; i < count; i++) switch (below(r, 5)) {
         case 0: at = put_text(s, at, entry_words[below(r, ENTRY_WORDS)]); break;
         case 1: at = put_text(s, at, quirk_words[below(r, QUIRK_WORDS)]); break;
         case 2: at = put_number(r, s, at, chance(r, 50) ? 255 : 65535); break;
@@ -166,7 +173,7 @@ size_t make_words(Random *r, uint8_t *s) {
 }
 
 size_t make_letters(Random *r, uint8_t *s) {
-    size_t size = chance(r, 90) ? below(r, 60) : below(r, 700), i;
-    for (i = 0; i < size; i++) s[i] = (uint8_t)alphabet[below(r, sizeof alphabet - 1)];
+    size_t i = put_beginning(r, s), size = i + (chance(r, 90) ? below(r, 12) : below(r, 700));
+    for (; i < size; i++) s[i] = (uint8_t)alphabet[below(r, sizeof alphabet - 1)];
     return size;
 }

@@ -10,7 +10,8 @@ enum { FAMILIES = 64, ANSWERS = 23, KINDS = 6, MOST = 4096 };
 
 static const char *const answer_names[ANSWERS] = {
     "SYN", "SYN+ACK", "nothing", "refused 1", "refused 2", "refused 3", "refused 4", "refused 5", "refused 6", "refused 7",
-    "parsed", "malformed", "refused 8", "exact", "fuzzy", "none", "refused 9", "refused 10", "refused 11", "pairs", "hops", "line", "refused 13",
+    "parsed", "malformed", "refused 8", "exact", "fuzzy", "none", "refused 9", "refused 10", "refused 11", "pairs", "hops",
+    "line", "refused 13",
 };
 
 static const char *const class_names[LINE_CLASSES] = {
