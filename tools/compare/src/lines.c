@@ -136,9 +136,9 @@ static void every_row(void) {
     for (a = 0; a < 13; a++)
         for (b = 0; b < 13; b++)
             for (c = 0; c < 13; c++) {
-                sprintf(text, "*:64:0:*:*,*:%s,%s,%s:df:0", entries[a], entries[b], entries[c]), try_text(text);
-                if (c == 0) sprintf(text, "*:64:0:*:*,*:%s,%s:df:0", entries[a], entries[b]), try_text(text);
-                if (b == 0 && c == 0) sprintf(text, "*:64:0:*:*,*:%s:df:0", entries[a]), try_text(text);
+                sprintf(text, "*:0:0:*:*,*:%s,%s,%s::0", entries[a], entries[b], entries[c]), try_text(text);
+                if (c == 0) sprintf(text, "*:0:0:*:*,*:%s,%s::0", entries[a], entries[b]), try_text(text);
+                if (b == 0 && c == 0) sprintf(text, "*:0:0:*:*,*:%s::0", entries[a]), try_text(text);
             }
     for (a = 0; a < 18; a++)
         for (b = 0; b < 18; b++)
@@ -149,8 +149,8 @@ static void every_row(void) {
             }
     for (a = 0; a < 13; a++)
         for (b = 0; b <= 45; b++) {
-            for (at = sprintf(text, "*:64:0:*:*,*:"), c = 0; c < b; c++) at += sprintf(text + at, "%s%s", c ? "," : "", entries[a]);
-            sprintf(text + at, ":df:0"), try_text(text);
+            for (at = sprintf(text, "*:0:0:*:*,*:"), c = 0; c < b; c++) at += sprintf(text + at, "%s%s", c ? "," : "", entries[a]);
+            sprintf(text + at, "::0"), try_text(text);
         }
 }
 
