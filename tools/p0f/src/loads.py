@@ -10,8 +10,8 @@ from packets import with_openings, write_capture
 from parsed import asked
 from witnesses import p0f_says
 
-# loads: whether p0f loads the line, else a part of what it says; same: a line that p0f answers alike; here: 0 if the line is read, else
-# the offset of refusal 13.
+# loads: whether p0f loads the line, else a part of what it says; same: a line that p0f answers alike; here: none if the line is read,
+# else the offset of refusal 13.
 Question = namedtuple("Question", "rule text loads same here")
 
 
@@ -23,7 +23,24 @@ def question(rule, loads, here, same=None, **fields):
     return Question(rule, line(**fields), loads, line(**same) if same is not None else None, here)
 
 
-QUESTIONS = (
+# The smallest line of each rule, as docs/DIFFERENCES.md has them.
+SMALLEST = (
+    Question("guessed ttl", "*:1+?:0:*:*,*:::0", "Malformed signature", None, None),
+    Question("ttl of 0", "*:0:0:*:*,*:::0", "Bogus initial TTL", None, None),
+    Question("ttl over 255", "*:1+255:0:*:*,*:::0", "Bogus initial TTL", None, None),
+    Question("small modulus", "*:1:0:*:%0,*:::0", "Bogus '%' value", None, None),
+    Question("multiple of 0", "*:1:0:*:mss*0,*:::0", "Bogus MSS/MTU multiplier", None, None),
+    Question("end not last", "*:1:0:*:*,*:eol+0,ts::0", "EOL must be the last option", None, None),
+    Question("over 24 options", f"*:1:0:*:*,*:{','.join(['ts'] * 25)}::0", "Too many TCP options", None, None),
+    Question("quirk of the other version", "6:1:0:*:*,*::df:0", "'df' is not valid for IPv6", None, None),
+    Question("named kind", "*:1:0:*:*,*:?2::0", True, None, 14),
+    Question("multiple over 255", "*:1:0:*:mss*256,*:::0", True, None, 14),
+    Question("comma at the end", "*:1:0:*:*,*:ts,::0", True, None, 15),
+    Question("no digits", "*:1::*:*,*:::0", True, None, 4),
+    Question("over 512 bytes", f"*:1:{'0' * 499}:*:*,*:::0", True, None, 512),
+)
+
+QUESTIONS = SMALLEST + (
     question("the same", True, None),
     # p0f refuses, here read
     question("guessed ttl", "Malformed signature", None, ttl="64+?"),
