@@ -4,6 +4,7 @@ import os
 import subprocess
 from collections import namedtuple
 
+import loading
 from lines import line_of
 from make import cases_for
 from packets import with_openings, write_capture
@@ -37,6 +38,8 @@ SMALLEST = (
     Question("multiple over 255", "*:1:0:*:mss*256,*:::0", True, None, 14),
     Question("comma at the end", "*:1:0:*:*,*:ts,::0", True, None, 15),
     Question("no digits", "*:1::*:*,*:::0", True, None, 4),
+    Question("byte behind a bad ttl", "*:1-:x:*:*,*:::0", True, None, 5),
+    Question("minus for a colon", "*:1-0:*:*,*:::0", True, None, 4),
     Question("over 512 bytes", f"*:1:{'0' * 499}:*:*,*:::0", True, None, 512),
 )
 
@@ -70,6 +73,7 @@ QUESTIONS = SMALLEST + (
     question("multiple over 255", "Bogus MSS/MTU multiplier", 16, window="mss*1001"),
     question("comma at the end", True, 17, dict(layout="mss"), layout="mss,"),
     question("comma at the end", True, 20, dict(quirks="df"), quirks="df,"),
+    question("comma at the end", "EOL must be the last option", 19, layout="eol+0,"),
     question("no digits", True, 5, dict(ttl="64"), ttl="64+"),
     question("no digits", True, 2, dict(ttl="64+64"), ttl="+64"),
     question("no digits", True, 5, dict(olen="0"), olen=""),
@@ -79,6 +83,12 @@ QUESTIONS = SMALLEST + (
     question("no digits", True, 29, dict(layout="nop,nop,nop,eol+0"), layout="nop,nop,nop,eol+"),
     question("no digits", True, 14, layout="?"),
     question("over 512 bytes", True, 512, dict(olen="0"), olen="0" * 500),
+    question("byte behind a bad ttl", True, 6, dict(ttl="64-"), ttl="64-", olen="x"),
+    question("byte behind a bad ttl", "Malformed signature", 6, ttl="64-", olen=""),
+    Question("minus for a colon", "4:64-8:*:*,*:mss:df:0", True, "4:64:8:*:*,*:mss:df:0", 5),
+    # both read, p0f otherwise
+    question("byte behind a bad ttl", True, None, dict(version="4", ttl="64-"), version="4", ttl="64-", olen="8"),
+    question("byte behind a bad ttl", True, None, dict(version="4", ttl="64-", olen="08"), version="4", ttl="64-", olen="18"),
     # both read
     question("bad ttl", True, None, ttl="64-"),
     question("distance of 0", True, None, dict(ttl="64"), ttl="64+0"),
@@ -150,4 +160,5 @@ def print_loads(p0f, reader, folder):
         print(f"  {asking.rule}: {shown(asking.text)}: {words}; {'read' if here is None else f'refused at {here}'}"
               f"{'' if right else f', not as expected: {asking}'}")
     print(f"{len(QUESTIONS)} lines, {wrong} not as expected")
-    return bool(wrong)
+    unlike = loading.print_loading(lambda text: loaded(p0f, folder, text), reader)
+    return bool(wrong or unlike)
