@@ -44,7 +44,9 @@ fn main() {
     assert_eq!(record[..22], RECORD[..22]);
     assert_eq!(read_line(b"*:64:0:*:*,*::df:0"), LineRead::Refused);
     assert_eq!(read_line(b"*:64:0:*:*,*:\xff:df:0"), LineRead::NotText);
-    let LineRead::Read(named) = read_line(b"*:64:0:*:*,*:?2,?256::0") else { panic!("the original reads it") };
+    let LineRead::Read(named) = read_line(b"*:64:0:*:*,*:?2,?256::0") else {
+        panic!("the original reads it")
+    };
     assert_eq!(named.olayout, [TcpOption::Unknown(2), TcpOption::Unknown(0)]);
     println!("SYN+ACK with peer MSS 12: synack {answer}");
 }
