@@ -11,12 +11,10 @@ pub fn all(lines: &[&str]) {
     for line in lines {
         same_record(line);
     }
-    measure_calls(row, "original", '+', lines.len(), in_turn(lines, |line| {
-        drop(black_box(parse_signature(black_box(line))));
-    }));
-    measure_calls(row, "port", '+', lines.len(), in_turn(lines, |line| {
-        black_box(port::line(black_box(line.as_bytes())));
-    }));
+    let original = in_turn(lines, |line| drop(black_box(parse_signature(black_box(line)))));
+    measure_calls(row, "original", '+', lines.len(), original);
+    let port = in_turn(lines, |line| drop(black_box(port::line(black_box(line.as_bytes())))));
+    measure_calls(row, "port", '+', lines.len(), port);
 }
 
 /// A call for the next line, from the first again after the last.
