@@ -10,6 +10,7 @@ use taken::ttl_of;
 use written::plain_options;
 use written::plain_packet;
 
+mod lined;
 mod searched;
 mod taken;
 pub mod written;
@@ -57,6 +58,16 @@ pub struct PlainOptions {
     pub has_mss: u8,
     pub has_wscale: u8,
     pub wscale: u8,
+    pub kinds: [u8; 40],
+    pub bytes: [u8; 40],
+}
+
+#[repr(C)]
+pub struct PlainLine {
+    pub count: usize,
+    pub offset: usize,
+    pub refusal: u8,
+    pub raw: [u8; 24],
     pub kinds: [u8; 40],
     pub bytes: [u8; 40],
 }
