@@ -35,11 +35,11 @@ abbrev pub readOf : LineMeaning → SignatureRead
 readOf m = record { answer = answer.Read; raw = m .raw; layout = m .layout }
 
 -- The two lengths, and what is answered.
-long : (s : List ℕ) → longest < length s → readLine s ≡ refusedAt longest
+pub long : (s : List ℕ) → longest < length s → readLine s ≡ refusedAt longest
 unfolding readLine
 long s h = rw (lt-ltb longest (length s) h)
 
-short : (s : List ℕ) → length s ≤ longest → readLine s ≡ answered (judgement s (fieldsRead s))
+pub short : (s : List ℕ) → length s ≤ longest → readLine s ≡ answered (judgement s (fieldsRead s))
 unfolding readLine
 short s h = rw (le-ltb longest (length s) h)
 

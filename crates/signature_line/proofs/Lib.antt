@@ -1,2 +1,11 @@
 pub mod Accepted
+pub mod Arrays
+pub mod EveryRecord
+pub mod FieldsGood
+pub mod FieldWords
+pub mod LayoutRow
 pub mod Line
+pub mod QuirkRow
+pub mod RecordLine
+pub mod Spelled
+pub mod WellFormed

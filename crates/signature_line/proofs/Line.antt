@@ -26,7 +26,7 @@ use Rattle.signature_line.specs.Words.{version, bareByte, ttlForm, mss, 
 -- ---- every numeral goes on: `?2` to `?20`
 
 -- The named kinds are below 9, so 9 and more are unnamed; and 0 goes on to 06, 1 to 8 go on to 10 .. 80.
-big-unnamed : (n : ℕ) → 9 ≤ n → unnamed n ≡ true
+pub big-unnamed : (n : ℕ) → 9 ≤ n → unnamed n ≡ true
 unfolding unnamed
 big-unnamed n h = rw (lt-leb n 5 (omega arith), ne-eqb n 8 (λ (e : n ≡ 8). omega arith))
 
@@ -66,7 +66,7 @@ version-field : Field (Choice version) (tableRead version)
 unfolding version allApart
 version-field = table-field version tt refl refl
 
-byte-field : Field (Choice bareByte) (tableRead bareByte)
+pub byte-field : Field (Choice bareByte) (tableRead bareByte)
 unfolding bareByte allApart
 byte-field = table-field bareByte (any-lives 255, tt) refl refl
 
@@ -86,11 +86,11 @@ scale-field : Field (Choice scale) (tableRead scale)
 unfolding scale allApart
 scale-field = table-field scale (any-lives 255, tt) refl refl
 
-entry-field : Field (Choice entry) (tableRead entry)
+pub entry-field : Field (Choice entry) (tableRead entry)
 unfolding entry allApart
 entry-field = table-field entry (any-lives 255, (unnamed-lives, tt)) refl refl
 
-quirk-field : Field (Choice quirkWord) (tableRead quirkWord)
+pub quirk-field : Field (Choice quirkWord) (tableRead quirkWord)
 unfolding quirkWord allApart
 quirk-field = table-field quirkWord tt refl refl
 
@@ -140,11 +140,11 @@ quirk-before-comma : Words (isNot comma) (Choice quirkWord)
 unfolding quirkWord rowsWithin
 quirk-before-comma = table-within (isNot comma) quirkWord refl
 
-entry-empty : (v : Said) → Choice entry [] v → ⊥
+pub entry-empty : (v : Said) → Choice entry [] v → ⊥
 unfolding entry done
 entry-empty = table-empty entry refl
 
-quirk-empty : (v : Said) → Choice quirkWord [] v → ⊥
+pub quirk-empty : (v : Said) → Choice quirkWord [] v → ⊥
 unfolding quirkWord done
 quirk-empty = table-empty quirkWord refl
 
@@ -172,7 +172,7 @@ ttl-words = join-words (isNot colon) (Choice bareByte) (Choice ttlForm) byte-wor
 
 -- ---- rows
 
-layout-field : Field LayoutText layoutRead
+pub layout-field : Field LayoutText layoutRead
 unfolding layoutRead
 layout-field = listed-field (Choice entry) comma (tableRead entry) entry-before-comma entry-field entry-empty 39
 

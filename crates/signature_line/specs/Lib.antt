@@ -1,4 +1,5 @@
 pub mod Line
 pub mod LineReader
 pub mod Meaning
+pub mod OneRecord
 pub mod Words
