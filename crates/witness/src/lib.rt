@@ -2,6 +2,8 @@
 ghost use mathlib.Core.Path.{_≡_};
 ghost use Rattle.witness.specs.Written.{packetRead, optionsRead, plainProgress, firstOf, nextOf, Paged};
 ghost use Rattle.witness.specs.Taken.{searchRead, hopsRead};
+ghost use Rattle.witness.specs.Lined.{lineRead};
+use lined::plain_line;
 use packet_answer::peer_of;
 use report::PAGE;
 use searched::plain_search;
@@ -107,6 +109,14 @@ pub extern "C" fn witness_options(options: &[u8]) -> PlainOptions
     ensures { λ r. ⌜ r ≡ optionsRead (now (options .entry)) ⌝ }
 {
     plain_options(syn_options::parse_options_raw(options))
+}
+
+// The reading of a line of p0f's text form.
+#[no_mangle]
+pub extern "C" fn witness_line(line: &[u8]) -> PlainLine
+    ensures { λ r. ⌜ r ≡ lineRead (now (line .entry)) ⌝ }
+{
+    plain_line(parse_tcp::parse_tcp_signature(line))
 }
 
 #[no_mangle]
