@@ -1,11 +1,13 @@
 -- The lines' values, every case computed.
 use mathlib.Core.Path.{refl}
+use native.Mathlib.Omega.{arith}
 use Rattle.quirks.specs.Quirks.{placeOf, bitOf}
 use Rattle.grammar.specs.Numeral.{any}
 use Rattle.grammar.specs.States.{fits, after, done, run, left, statesRead}
 use Rattle.signature_line.specs.LineReader.{ttlRead, layoutRead, quirksRead, partsRead, fieldsRead, refusedAt, readAs, readLine}
 use Rattle.signature_line.specs.Meaning.{kindSaid, byteSaid, layoutOf, unionFrom, recordOf}
 use Rattle.signature_line.specs.Words.{version, bareByte, ttlForm, mss, window, scale, unnamed, entry, quirkWord, payload}
+use Rattle.signature_line.proofs.Zeros.{zeros-refused}
 use Rattle.acceptance.specs.LineValues.{LinesRead, LinesRefused, LineValues}
 
 lines-read : LinesRead
@@ -53,7 +55,7 @@ lines-refused =
       too-soon = refl;
       byte-255 = refl;
       entry-41 = refl;
-      zeros-16 = refl;
+      zeros-512 = zeros-refused 509 (omega arith);
       zeros-513 = refl;
       bytes-513 = refl;
     }

@@ -159,7 +159,7 @@ pub record LinesRefused : Type 0 where
   -- a 41st entry: the comma after the 40th
   pub entry-41 : readLine (ascii "*:64:0:*:*,*:nop" ++ nops 40 ++ ascii "::0") ≡ refusedAt 172
   -- 512 bytes that go on and are no line: their length; 513 bytes of anything: 512
-  pub zeros-16 : readLine (ascii "*:" ++ replicate 14 48) ≡ refusedAt 16
+  pub zeros-512 : readLine (ascii "*:" ++ replicate 510 48) ≡ refusedAt 512
   pub zeros-513 : readLine (ascii "*:" ++ replicate 511 48) ≡ refusedAt 512
   pub bytes-513 : readLine (replicate 513 0) ≡ refusedAt 512
 

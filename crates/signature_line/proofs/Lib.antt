@@ -9,3 +9,4 @@ pub mod QuirkRow
 pub mod RecordLine
 pub mod Spelled
 pub mod WellFormed
+pub mod Zeros
