@@ -1,17 +1,16 @@
 -- Fields put together are fields: one after the other, behind a byte, in rows; and the bytes of their words.
-use Prim.Native.Nat.{ℕ, zero, suc, _+_, _<_, _≤_}
+use Prim.Native.Nat.{ℕ, zero, suc}
 use mathlib.Core.Path.{_≡_, refl, ap}
-use mathlib.Core.Logic.{_⊎_, inl, inr, ⊎-elim}
+use mathlib.Core.Logic.{inl, ⊎-elim}
 use mathlib.Core.Bool.{Bool, true, false, not}
 use mathlib.Core.List.{List, [], _∷_, _++_, nil≢cons}
-use native.Mathlib.Omega.{arith}
 use lib.Dec.{eqb}
-use lib.ListN.{length, drop}
-use borrow.Author.Tests.{ne-eqb, eq-eqb}
-use Rattle.grammar.specs.Language.{GoesOn, Join, Behind, Then, Optional, Mapped, cons, More, Listed, AnyMore, AnyListed}
+use lib.ListN.{drop}
+use borrow.Author.Tests.{eq-eqb}
+use Rattle.grammar.specs.Language.{Join, Behind, Then, Optional, Mapped, cons, More, Listed, AnyMore, AnyListed}
 use Rattle.grammar.specs.Reading.{Read, behindRead, joinRead, thenRead, mapRead, listedRead, anyListedRead}
 use Rattle.grammar.proofs.Join.{Within, nil, inside, Outside}
-use Rattle.grammar.proofs.Reading.{ReadsAt, Field, map-at, behind-at, join-at, optional-at, listed-at, any-listed-at}
+use Rattle.grammar.proofs.Reading.{Field, map-at, behind-at, join-at, optional-at, listed-at, any-listed-at}
 
 -- ---- the bytes of words
 

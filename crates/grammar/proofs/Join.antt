@@ -1,7 +1,7 @@
 -- Two languages one after the other, where the second never begins with a byte of the first: the first is read, then the second.
 use Prim.Native.Nat.{ℕ}
 use mathlib.Core.Path.{_≡_, refl, sym, _∙_, ap}
-use mathlib.Core.Logic.{_↔_, _⊎_, inl, inr, ⊎-elim}
+use mathlib.Core.Logic.{_⊎_, inl, inr}
 use mathlib.Core.Bool.{Bool, true, false, false≢true}
 use mathlib.Core.List.{List, [], _∷_, _++_, append-assoc, append-nil, head-eq-of-cons-eq, tail-eq-of-cons-eq, nil≢cons, cons≢nil}
 use Rattle.grammar.specs.Language.{GoesOn, Join}
@@ -20,10 +20,6 @@ Outside D (b ∷ w) = D b ≡ false
 pub within-left : (D : ℕ → Bool) (x y : List ℕ) → Within D (x ++ y) → Within D x
 within-left D [] y h = nil
 within-left D (b ∷ x) y (inside d h) = inside d (within-left D x y h)
-
-outside-left : (D : ℕ → Bool) (x y : List ℕ) → Outside D (x ++ y) → Outside D x
-outside-left D [] y h = tt
-outside-left D (b ∷ x) y h = h
 
 within-at : (D : ℕ → Bool) (x : List ℕ) (b : ℕ) (y : List ℕ) → Within D (x ++ b ∷ y) → D b ≡ true
 within-at D [] b y (inside d h) = d

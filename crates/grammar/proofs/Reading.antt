@@ -1,18 +1,18 @@
 -- Readings put together are exact.
-use Prim.Native.Nat.{ℕ, zero, suc, _+_, _-_, _<_, _≤_}
+use Prim.Native.Nat.{ℕ, zero, suc, _+_, _-_, _≤_}
 use mathlib.Core.Path.{_≡_, refl, sym, _∙_, ap}
-use mathlib.Core.Logic.{_↔_, _⊎_, inl, inr, ⊎-elim}
+use mathlib.Core.Logic.{_↔_, inl, inr, ⊎-elim}
 use mathlib.Core.Bool.{Bool, true, false, cond, false≢true}
-use mathlib.Core.List.{List, [], _∷_, _++_, append-assoc, append-nil, nil≢cons, cons≢nil}
+use mathlib.Core.List.{List, [], _∷_, _++_, cons≢nil}
 use native.Mathlib.Omega.{arith}
 use lib.Dec.{eqb}
 use lib.ListN.{length, take, drop, take-append-drop, length-drop}
 use lib.Seq.{take-add, drop-drop}
-use borrow.Author.Tests.{eqb-true, eqb-false, eq-eqb}
+use borrow.Author.Tests.{eqb-true, eqb-false}
 use Rattle.grammar.specs.Language.{GoesOn, Join, Behind, Optional, Mapped, cons, More, Listed, AnyMore}
 use Rattle.grammar.specs.Reading.{Read, later, behindRead, both, joinRead, mapRead, optionalRead, moreRead}
 use Rattle.grammar.proofs.Exact.{Exact, Stops, After, step, alike}
-use Rattle.grammar.proofs.Join.{Within, nil, inside, Outside, joined, unjoined}
+use Rattle.grammar.proofs.Join.{Within, Outside, joined, unjoined}
 
 -- A reading of a string is exact.
 pub record ReadsAt {A : Type 0} (L : List ℕ → A → Type 0) (s : List ℕ) (x : Read A) : Type 0 where
@@ -177,9 +177,6 @@ module _ {A : Type 0} (F : List ℕ → A → Type 0) (c : ℕ) (D : ℕ → Boo
   pub listed-at : (n : ℕ) (s : List ℕ) → ReadsAt (Listed F c n) s (mapRead cons (joinRead f (moreRead f c n) s))
   listed-at n s = list-at (More F c n) (more-out n) (more-goes n) (moreRead f c n) s (more-at n (drop (f s .count) s))
 
-  pub listed-goes : (n : ℕ) → GoesOn (Listed F c n) []
-  listed-goes n = list-goes (More F c n) (more-goes n)
-
   -- Any number more: as many turns as there are bytes suffice.
   any-out : (w : List ℕ) (vs : List A) → AnyMore F c w vs → Outside D w
   any-out w vs m = more-out (m .0) w vs (m .1)
@@ -229,6 +226,3 @@ module _ {A : Type 0} (F : List ℕ → A → Type 0) (c : ℕ) (D : ℕ → Boo
 
   pub any-listed-at : (s : List ℕ) → ReadsAt (Mapped cons (Join F (AnyMore F c))) s (mapRead cons (joinRead f (λ (r : List ℕ). moreRead f c (length r) r) s))
   any-listed-at s = list-at (AnyMore F c) any-out any-goes (λ (r : List ℕ). moreRead f c (length r) r) s (any-at (length (drop (f s .count) s)) (drop (f s .count) s) (omega arith))
-
-  pub any-listed-goes : GoesOn (Mapped cons (Join F (AnyMore F c))) []
-  any-listed-goes = list-goes (AnyMore F c) any-goes

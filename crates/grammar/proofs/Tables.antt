@@ -1,7 +1,7 @@
 -- A table is read exactly, if its rows are apart; the bytes of its words; what holds of every row's meaning.
-use Prim.Native.Nat.{ℕ, zero, suc, _+_, _-_, _<_, _≤_}
-use mathlib.Core.Path.{_≡_, refl, sym, _∙_}
-use mathlib.Core.Logic.{_↔_, _⊎_, inl, inr, ⊎-elim}
+use Prim.Native.Nat.{ℕ, suc, _+_, _-_, _<_, _≤_}
+use mathlib.Core.Path.{_≡_, sym, _∙_}
+use mathlib.Core.Logic.{_↔_, inl, inr, ⊎-elim}
 use mathlib.Core.Bool.{Bool, true, false, cond, not, _&&_, false≢true}
 use mathlib.Core.List.{List, [], _∷_, cons≢nil}
 use native.Mathlib.Omega.{arith}
@@ -10,9 +10,8 @@ use lib.ListN.{length}
 use borrow.Author.Tests.{eq-eqb, le-leb, lt-ltb, not-true}
 use Rattle.basis.specs.Tests.{allBelow}
 use Rattle.basis.proofs.Tests.{and-left, and-right, below}
-use Rattle.grammar.specs.Language.{GoesOn}
-use Rattle.grammar.specs.Numeral.{Digits, Numeral}
-use Rattle.grammar.specs.States.{Awaited, start, after, isNil, run, left, done, statesRead, tableRead}
+use Rattle.grammar.specs.Numeral.{Digits}
+use Rattle.grammar.specs.States.{Awaited, start, after, isNil, run, done, statesRead, tableRead}
 use Rattle.grammar.specs.Table.{Tail, nothing, numeral, Row, row, Said, said, TailSays, RowSays, Choice}
 use Rattle.grammar.proofs.Exact.{alike}
 use Rattle.grammar.proofs.Join.{Within, nil, inside, Outside}

@@ -1,18 +1,17 @@
 -- Laws of a field's reading at a place, in the expressions that the code makes.
-use Prim.Native.Nat.{ℕ, zero, suc, _+_, _*_, _-_, _<_, _≤_}
+use Prim.Native.Nat.{ℕ, suc, _+_, _<_, _≤_}
 use mathlib.Core.Path.{_≡_, refl, sym, _∙_, ap}
-use mathlib.Core.Bool.{Bool, true, false, cond, not, false≢true}
-use mathlib.Core.List.{List, [], _∷_, _++_}
+use mathlib.Core.Bool.{Bool, true, false, cond, not}
+use mathlib.Core.List.{List, [], _∷_}
 use native.Mathlib.Omega.{arith}
 use native.Mathlib.Decide.{decLe}
 use native.Mathlib.Numerals.{add-one}
-use lib.Dec.{eqb}
 use lib.ListN.{length, drop, drop-of-length-le}
 use lib.Seq.{drop-cons}
 use borrow.Author.Tests.{not-true, not-false, lt-ltb, le-ltb, eq-eqb, ne-eqb}
 use Rattle.basis.specs.Bytes.{byteAt}
 use Rattle.grammar.specs.Reading.{Read, later}
-use Rattle.grammar.specs.States.{Awaited, letters, after, isNil, run, left, Done, done, statesRead, start}
+use Rattle.grammar.specs.States.{Awaited, letters, after, isNil, run, left, Done, done, statesRead}
 use Rattle.grammar.specs.Table.{nothing, Row, Said}
 use Rattle.signature_line.specs.Words.{bareByte, ttlForm}
 use Rattle.one_field.specs.declared.Piece.{Piece}
@@ -91,9 +90,6 @@ module _ (s : List ℕ) (at : ℕ) where
       → stateAt states s at ≡ stateAt others s at
   unfolding stateAt
   narrow-here states others h a d = rw (drop-cons s at 0 h) (ap (pieceOf at) (read-narrow states others (byteAt s at) (drop (suc at) s) a d))
-
-  pub narrow-end : (states others : List Awaited) → length s ≤ at → done states ≡ done others → stateAt states s at ≡ stateAt others s at
-  narrow-end states others h d = ends states h ∙ ap (donePiece at) d ∙ sym (ends others h)
 
   -- What a call gave for the bytes behind this one is what is read here.
   pub goes-on

@@ -1,7 +1,7 @@
 -- Words: the loop over one, one of two, and what stands behind a word.
-use Prim.Native.Nat.{ℕ, zero, suc, _+_, _<_, _≤_}
+use Prim.Native.Nat.{ℕ, suc, _+_, _<_, _≤_}
 use mathlib.Core.Path.{_≡_, refl, sym, _∙_, ap}
-use mathlib.Core.Bool.{Bool, true, false, cond, not, false≢true}
+use mathlib.Core.Bool.{Bool, true, false, not, false≢true}
 use mathlib.Core.List.{List, [], _∷_, _++_, append-nil}
 use native.Mathlib.Omega.{arith}
 use native.Mathlib.Numerals.{add-one}
@@ -11,7 +11,7 @@ use lib.Seq.{drop-cons, drop-drop}
 use borrow.Author.Tests.{eq-eqb, ne-eqb, not-true, not-false}
 use Rattle.basis.specs.Bytes.{byteAt}
 use Rattle.grammar.specs.Reading.{Read, later}
-use Rattle.grammar.specs.States.{Awaited, letters, after, isNil, run, left, Done, done, statesRead}
+use Rattle.grammar.specs.States.{Awaited, letters, after, run, left, done, statesRead}
 use Rattle.grammar.specs.Table.{Tail, nothing, Row, row, Said, said}
 use Rattle.one_field.specs.declared.Piece.{Piece}
 use Rattle.one_field.specs.Places.{piece, noPiece, wholePiece, pieceOf, stateAt, wordAt, eitherAt}

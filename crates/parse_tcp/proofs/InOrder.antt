@@ -1,9 +1,8 @@
 -- The fields that calls gave, one after the other, are the fields of the line.
 use Prim.Native.Nat.{ℕ}
-use mathlib.Core.Path.{_≡_, refl, _∙_}
-use mathlib.Core.Bool.{Bool, true}
+use mathlib.Core.Path.{_≡_}
+use mathlib.Core.Bool.{true}
 use mathlib.Core.List.{List}
-use Rattle.grammar.specs.Table.{Row}
 use Rattle.signature_line.specs.Line.{colon, comma}
 use Rattle.signature_line.specs.Words.{version, bareByte, mss, window, scale, payload}
 use Rattle.one_field.specs.declared.Piece.{Piece}

@@ -1,8 +1,8 @@
 -- Each field of a line as a stage of the answer.
-use Prim.Native.Nat.{ℕ, zero, suc, _+_, _<_, _≤_}
+use Prim.Native.Nat.{ℕ, _+_}
 use mathlib.Core.Path.{_≡_, refl, sym, _∙_, ap}
 use mathlib.Core.Bool.{Bool, true, false, cond, _&&_, false≢true}
-use mathlib.Core.List.{List, [], _∷_}
+use mathlib.Core.List.{List}
 use native.Mathlib.Omega.{arith}
 use lib.Dec.{eqb}
 use lib.ListN.{length, take, drop}
@@ -20,10 +20,8 @@ use Rattle.signature_line.proofs.Line.{byte-field}
 use Rattle.one_field.specs.declared.Piece.{Piece}
 use Rattle.one_field.specs.declared.Place.{Place}
 use Rattle.one_field.specs.declared.TtlPiece.{TtlPiece}
-use Rattle.one_field.specs.Places.{place, noPiece, pieceOf, stateAt, pieceAt, fieldAt, behindAt, ttlPiece, noTtl, ttlAt}
-use Rattle.parse_tcp.specs.declared.layout.LayoutPiece.{LayoutPiece}
-use Rattle.parse_tcp.specs.declared.quirk_set.QuirksPiece.{QuirksPiece}
-use Rattle.parse_tcp.specs.Rows.{saidBy, noLayout, layoutPieceOf, layoutAt, quirksPiece, quirksOf, quirksAt}
+use Rattle.one_field.specs.Places.{noPiece, pieceOf, stateAt, fieldAt, behindAt, noTtl, ttlAt}
+use Rattle.parse_tcp.specs.Rows.{saidBy, layoutPieceOf, layoutAt, quirksOf, quirksAt}
 use Rattle.parse_tcp.proofs.Chain.{finish, finishAt, then-finish}
 
 -- ---- where the line goes on, and where it does not

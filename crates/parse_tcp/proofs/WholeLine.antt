@@ -2,21 +2,20 @@
 use Prim.Native.Nat.{ℕ, _+_, _/_, _%_, _<_, _≤_}
 use mathlib.Core.Path.{_≡_, refl, sym, _∙_, ap}
 use mathlib.Core.Bool.{Bool, true, false, cond, not, _&&_}
-use mathlib.Core.List.{List, [], _∷_}
+use mathlib.Core.List.{List}
 use native.Mathlib.Omega.{arith}
 use lib.Dec.{eqb}
 use lib.ListN.{length, drop}
 use borrow.Author.Tests.{not-true, not-false}
 use Rattle.basis.specs.Bytes.{byteAt}
 use Rattle.tcp.specs.declared.Layout.{Layout}
-use Rattle.grammar.specs.Reading.{Read, thenRead, mapRead, Judgement, means, refused, judgement}
+use Rattle.grammar.specs.Reading.{Read, thenRead, mapRead, means, refused, judgement}
 use Rattle.grammar.specs.States.{tableRead}
 use Rattle.grammar.specs.Table.{Said, said}
 use Rattle.signature_line.specs.Line.{colon, comma, Parts, fields, longest}
 use Rattle.signature_line.specs.LineReader.{ttlRead, layoutRead, quirksRead, afterScaleRead, afterOlenRead, partsRead, fieldsRead}
 use Rattle.signature_line.specs.LineReader.{refusedAt, readOf, readAs, answered, readLine}
 use Rattle.signature_line.specs.Meaning.{Fields, recordOf, layoutOf, unionFrom, meaningOf}
-use Rattle.signature_line.specs.OneRecord.{WellFormedLine}
 use Rattle.signature_line.specs.Words.{version, bareByte, mss, window, scale, payload}
 use Rattle.signature_line.specs.declared.LineAnswer.the-variants as answer
 use Rattle.signature_line.specs.declared.SignatureRead.{SignatureRead}
@@ -30,7 +29,7 @@ use Rattle.parse_tcp.specs.Stages.{versionIn, ttlIn, olenIn, mssIn, wind
 use Rattle.parse_tcp.specs.Stages.{recordBytes}
 use Rattle.parse_tcp.proofs.Chain.{finish, finishAt}
 use Rattle.parse_tcp.proofs.StageLaws.{table-stage, ttl-stage, layout-stage, quirks-stage, last-bad, last-more, last-whole}
-use Rattle.parse_tcp.proofs.StageLaws.{behind-on, field-begins, layout-same, quirks-same, quirks-begin, here}
+use Rattle.parse_tcp.proofs.StageLaws.{behind-on, field-begins, layout-same, quirks-same, quirks-begin}
 
 -- ---- from the judgement on
 

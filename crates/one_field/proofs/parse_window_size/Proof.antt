@@ -3,8 +3,6 @@ use mathlib.Core.Path.{refl, sym, _∙_}
 use native.Mathlib.Omega.{arith}
 use mathlib.Core.List.{[], _∷_}
 use Rattle.basis.proofs.Rules.{cases}
-use borrow.Author.Tests.{ne-eqb}
-use Rattle.basis.specs.Bytes.{byteAt}
 use Rattle.grammar.specs.States.{letters, start, fits, after, done}
 use Rattle.signature_line.specs.Words.{word, window}
 use Rattle.one_field.proofs.PlaceLaws.{field-missing, field-here, ends, narrow-here, goes-on, one-byte}

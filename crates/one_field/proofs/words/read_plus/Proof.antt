@@ -6,7 +6,7 @@ use borrow.Author.Tests.{ne-eqb}
 use Rattle.basis.specs.Ascii.{ascii}
 use Rattle.basis.specs.Bytes.{byteAt}
 use Rattle.grammar.specs.Table.{nothing}
-use Rattle.grammar.specs.States.{Awaited, letters, fits, after, done}
+use Rattle.grammar.specs.States.{letters, fits, after, done}
 use Rattle.signature_line.specs.Words.{byte}
 use Rattle.one_field.proofs.PlaceLaws.{ends, narrow-here, one-byte}
 use borrow.Author.Needs.{needs}

@@ -2,7 +2,7 @@
 use mathlib.Core.Path.{refl, sym, _∙_}
 use native.Mathlib.Omega.{arith}
 use Rattle.basis.proofs.Rules.{cases}
-use Rattle.grammar.specs.States.{start, fits, after, done}
+use Rattle.grammar.specs.States.{start, after, done}
 use Rattle.signature_line.specs.Words.{ttlForm}
 use Rattle.one_field.proofs.PlaceLaws.{ends, stays, goes-on, one-byte}
 use borrow.Author.Needs.{needs}

@@ -2,7 +2,7 @@
 use Prim.Native.Nat.{_-_, _≤_}
 use mathlib.Core.Path.{_≡_, refl, _∙_}
 use native.Mathlib.Omega.{arith}
-use Rattle.parse_tcp.specs.Rows.{kindByte, restByte, entriesAt}
+use Rattle.parse_tcp.specs.Rows.{entriesAt}
 use Rattle.parse_tcp.proofs.LayoutLaws.{entries-full, entries-end, entries-bad, entries-turn, begun, stored-as}
 use borrow.Author.Needs.{needs}
 use Rattle.parse_tcp.proofs.layout.more_entries.Statement.{statement}
