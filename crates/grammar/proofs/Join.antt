@@ -64,20 +64,24 @@ module _ {A B : Type 0} (F : List ℕ → A → Type 0) (T : List ℕ → B → 
   first-stops p [] st b y e g = nil≢cons e
   first-stops p (a ∷ r) st b y e g = let h = head-eq-of-cons-eq e in st (rw h g)
 
-  joined-stops : (p p′ r r′ : List ℕ) (v : A) → Exact F p r true v → GoesOn T p′ → Stops T p′ r′ → r ≡ p′ ++ r′ → Stops (Join F T) (p ++ p′) r′
+  joined-stops
+      : (p p′ r r′ : List ℕ) (v : A) → Exact F p r true v → GoesOn T p′ → Stops T p′ r′ → r ≡ p′ ++ r′
+      → Stops (Join F T) (p ++ p′) r′
   joined-stops p p′ r [] v e t st q = tt
   joined-stops p p′ r (b ∷ r″) v e t st q = λ g.
       let d = g .derives in
       let together : ((p ++ p′) ++ b ∷ []) ++ g .tail ≡ p ++ (p′ ++ b ∷ g .tail) = simp append-assoc in
       by (g .meaning) (d .left) (d .right) (d .first) (d .second) (g .tail)
-      (meets D p (p′ ++ b ∷ g .tail) (d .left) (d .right) (within p v (e .yields refl)) (outside (d .right) (g .meaning .1) (d .second)) (sym together ∙ d .splits))
+      (meets D p (p′ ++ b ∷ g .tail) (d .left) (d .right) (within p v (e .yields refl)) (outside (d .right) (g .meaning .1) (d .second))
+      (sym together ∙ d .splits))
     where
       at-b : (z : List ℕ) → p′ ≡ [] → (c : ℕ) (y : List ℕ) → b ∷ z ≡ c ∷ y → GoesOn F (p ++ c ∷ []) → ⊥
       at-b z n c y k g =
           let whole : p′ ++ b ∷ r″ ≡ b ∷ r″ = rw n in
           first-stops p r (e .stops) c r″ (q ∙ whole ∙ ap (λ (x : ℕ). x ∷ r″) (head-eq-of-cons-eq k)) g
 
-      by : (m : A × B) (u w : List ℕ) → F u (m .0) → T w (m .1) → (z : List ℕ) → ((p ≡ u) × (p′ ++ b ∷ z ≡ w)) ⊎ Longer p (p′ ++ b ∷ z) u → ⊥
+      by : (m : A × B) (u w : List ℕ) → F u (m .0) → T w (m .1) → (z : List ℕ)
+          → ((p ≡ u) × (p′ ++ b ∷ z ≡ w)) ⊎ Longer p (p′ ++ b ∷ z) u → ⊥
       by m u w f s z (inl k) =
           let a : (p′ ++ b ∷ []) ++ z ≡ p′ ++ b ∷ z = simp append-assoc in
           st (record { tail = z; meaning = m .1; derives = rw (a, k .1) s })
@@ -96,7 +100,14 @@ module _ {A B : Type 0} (F : List ℕ → A → Type 0) (T : List ℕ → B → 
             record {
               tail = t .live .tail;
               meaning = (v, t .live .meaning);
-              derives = record { left = p; right = p′ ++ t .live .tail; splits = append-assoc p p′ (t .live .tail); first = f; second = t .live .derives };
+              derives =
+                  record {
+                    left = p;
+                    right = p′ ++ t .live .tail;
+                    splits = append-assoc p p′ (t .live .tail);
+                    first = f;
+                    second = t .live .derives;
+                  };
             };
         stops = joined-stops p p′ r r′ v e (t .live) (t .stops) q;
         yields = λ h. record { left = p; right = p′; splits = refl; first = f; second = t .yields h };
@@ -121,11 +132,19 @@ module _ {A B : Type 0} (F : List ℕ → A → Type 0) (T : List ℕ → B → 
             record {
               tail = e .live .tail ++ t .tail;
               meaning = (e .live .meaning, t .meaning);
-              derives = record { left = p ++ e .live .tail; right = t .tail; splits = sym (append-assoc p (e .live .tail) (t .tail)); first = e .live .derives; second = t .derives };
+              derives =
+                  record {
+                    left = p ++ e .live .tail;
+                    right = t .tail;
+                    splits = sym (append-assoc p (e .live .tail) (t .tail));
+                    first = e .live .derives;
+                    second = t .derives;
+                  };
             };
         stops = stops r (e .stops) f;
         yields = λ h. absurd (false≢true h);
-        only = λ n j. by n (j .left) (j .right) (j .first) (meets D p [] (j .left) (j .right) f (outside (j .right) (n .1) (j .second)) (append-nil p ∙ j .splits));
+        only = λ n j. by n (j .left) (j .right) (j .first)
+            (meets D p [] (j .left) (j .right) f (outside (j .right) (n .1) (j .second)) (append-nil p ∙ j .splits));
       }
     where
       none : (a : A) (x : List ℕ) → F x a → p ≡ x → ⊥
@@ -147,4 +166,5 @@ module _ {A B : Type 0} (F : List ℕ → A → Type 0) (T : List ℕ → B → 
           at n x w g z (inl k) = none (n .0) x g (k .0)
           at n x w g z (inr l) =
               let c : (p ++ l .byte ∷ []) ++ l .rest ≡ p ++ l .byte ∷ l .rest = simp append-assoc in
-              first-stops p (b ∷ r″) st (l .byte) r″ (ap (λ (k : ℕ). k ∷ r″) (head-eq-of-cons-eq (l .next))) (record { tail = l .rest; meaning = n .0; derives = rw (c, ← (l .longer)) g })
+              first-stops p (b ∷ r″) st (l .byte) r″ (ap (λ (k : ℕ). k ∷ r″) (head-eq-of-cons-eq (l .next)))
+              (record { tail = l .rest; meaning = n .0; derives = rw (c, ← (l .longer)) g })

@@ -9,7 +9,7 @@ use lib.Dec.{eqb}
 use lib.ListN.{length, take, drop, take-append-drop, length-drop}
 use lib.Seq.{take-add, drop-drop}
 use borrow.Author.Tests.{eqb-true, eqb-false}
-use Rattle.grammar.specs.Language.{GoesOn, Join, Behind, Optional, Mapped, cons, More, Listed, AnyMore}
+use Rattle.grammar.specs.Language.{GoesOn, Join, Behind, Optional, Mapped, cons, More, Listed, AnyMore, AnyListed}
 use Rattle.grammar.specs.Reading.{Read, later, behindRead, both, joinRead, mapRead, optionalRead, moreRead}
 use Rattle.grammar.proofs.Exact.{Exact, Stops, After, step, alike}
 use Rattle.grammar.proofs.Join.{Within, Outside, joined, unjoined}
@@ -29,17 +29,29 @@ pub record Field {A : Type 0} (L : List ℕ → A → Type 0) (f : List ℕ → 
 behind-same : {A : Type 0} (c : ℕ) (L : List ℕ → A → Type 0) (b : ℕ) → b ≡ c → (w : List ℕ) (v : A) → L w v ↔ After b (Behind c L) w v
 behind-same c L b e w v = (λ l. (e, l), λ l. l .1)
 
-behind-none : {A : Type 0} (c : ℕ) (L : List ℕ → A → Type 0) (g : GoesOn L []) (r : List ℕ) (d : A) → Stops (Behind c L) [] r → Exact (Behind c L) [] r false d
+behind-none
+    : {A : Type 0} (c : ℕ) (L : List ℕ → A → Type 0) (g : GoesOn L []) (r : List ℕ) (d : A) → Stops (Behind c L) [] r
+    → Exact (Behind c L) [] r false d
 behind-none c L g r d st =
-    record { live = record { tail = c ∷ g .tail; meaning = g .meaning; derives = (refl, g .derives) }; stops = st; yields = λ h. absurd (false≢true h); only = λ v l. absurd l }
+    record {
+      live = record { tail = c ∷ g .tail; meaning = g .meaning; derives = (refl, g .derives) };
+      stops = st;
+      yields = λ h. absurd (false≢true h);
+      only = λ v l. absurd l;
+    }
 
 pub behind-at : {A : Type 0} (c : ℕ) (L : List ℕ → A → Type 0) (f : List ℕ → Read A) → GoesOn L [] → (s : List ℕ)
     → ((b : ℕ) (bs : List ℕ) → s ≡ b ∷ bs → ReadsAt L bs (f bs)) → ReadsAt (Behind c L) s (behindRead c f s)
 behind-at c L f g [] h = record { within = omega arith; exact = behind-none c L g [] (f [] .value) tt }
 behind-at {A} c L f g (b ∷ bs) h = by (eqb b c) refl (h b bs refl)
   where
-    by : (k : Bool) → eqb b c ≡ k → ReadsAt L bs (f bs) → ReadsAt (Behind c L) (b ∷ bs) (cond k (later (f bs)) (record { count = 0; good = false; value = f [] .value }))
-    by true e r = record { within = omega (arith, r .within); exact = step (Behind c L) b (alike _ _ (behind-same c L b (eqb-true b c e)) (r .exact)) }
+    by : (k : Bool) → eqb b c ≡ k → ReadsAt L bs (f bs)
+        → ReadsAt (Behind c L) (b ∷ bs) (cond k (later (f bs)) (record { count = 0; good = false; value = f [] .value }))
+    by true e r =
+        record {
+          within = omega (arith, r .within);
+          exact = step (Behind c L) b (alike _ _ (behind-same c L b (eqb-true b c e)) (r .exact));
+        }
     by false e r =
         record { within = omega arith; exact = behind-none c L g (b ∷ bs) (f [] .value) (λ k. eqb-false b c e (k .derives .0)) }
 
@@ -47,14 +59,19 @@ behind-at {A} c L f g (b ∷ bs) h = by (eqb b c) refl (h b bs refl)
 
 module _ {A B : Type 0} (F : List ℕ → A → Type 0) (T : List ℕ → B → Type 0) (D : ℕ → Bool)
     (within : (w : List ℕ) (v : A) → F w v → Within D w) (outside : (w : List ℕ) (v : B) → T w v → Outside D w) (goes : GoesOn T []) where
-  pub join-at : (s : List ℕ) (x : Read A) (y : Read B) (d : B) → ReadsAt F s x → ReadsAt T (drop (x .count) s) y → ReadsAt (Join F T) s (both x y d)
+  pub join-at
+      : (s : List ℕ) (x : Read A) (y : Read B) (d : B) → ReadsAt F s x → ReadsAt T (drop (x .count) s) y
+      → ReadsAt (Join F T) s (both x y d)
   join-at s x y d e t = by (x .good) (e .exact)
     where
       n : length (drop (x .count) s) ≡ length s - x .count
       n = length-drop (x .count) s
 
       by : (k : Bool) → Exact F (take (x .count) s) (drop (x .count) s) k (x .value)
-          → ReadsAt (Join F T) s (cond k (record { count = x .count + y .count; good = y .good; value = (x .value, y .value) }) (record { count = x .count; good = false; value = (x .value, d) }))
+          → ReadsAt (Join F T) s
+          (cond k
+          (record { count = x .count + y .count; good = y .good; value = (x .value, y .value) })
+          (record { count = x .count; good = false; value = (x .value, d) }))
       by true f =
           record {
             within = omega (arith, n, t .within, e .within);
@@ -66,7 +83,9 @@ module _ {A B : Type 0} (F : List ℕ → A → Type 0) (T : List ℕ → B → 
 
 -- ---- another meaning; nothing or a word
 
-pub map-at : {A B : Type 0} (f : A → B) (L : List ℕ → A → Type 0) (s : List ℕ) (x : Read A) → ReadsAt L s x → ReadsAt (Mapped f L) s (mapRead f x)
+pub map-at
+    : {A B : Type 0} (f : A → B) (L : List ℕ → A → Type 0) (s : List ℕ) (x : Read A) → ReadsAt L s x
+    → ReadsAt (Mapped f L) s (mapRead f x)
 map-at {A} f L s x r =
     let e = r .exact in
     record {
@@ -96,7 +115,8 @@ module _ {A : Type 0} (d : A) (L : List ℕ → A → Type 0) (empty : (v : A) �
     where
       stops : (q : List ℕ) → Stops L (b ∷ p) q → Stops (Optional d L) (b ∷ p) q
       stops [] st = tt
-      stops (c ∷ q) st = λ g. ⊎-elim (λ k. cons≢nil (k .0)) (λ l. st (record { tail = g .tail; meaning = g .meaning; derives = l })) (g .derives)
+      stops (c ∷ q) st = λ g.
+          ⊎-elim (λ k. cons≢nil (k .0)) (λ l. st (record { tail = g .tail; meaning = g .meaning; derives = l })) (g .derives)
 
   none : (r : List ℕ) (good : Bool) (v : A) → Exact L [] r good v → Exact (Optional d L) [] r true d
   none r good v e =
@@ -109,7 +129,8 @@ module _ {A : Type 0} (d : A) (L : List ℕ → A → Type 0) (empty : (v : A) �
     where
       stops : (q : List ℕ) → Stops L [] q → Stops (Optional d L) [] q
       stops [] st = tt
-      stops (c ∷ q) st = λ g. ⊎-elim (λ k. cons≢nil (k .0)) (λ l. st (record { tail = g .tail; meaning = g .meaning; derives = l })) (g .derives)
+      stops (c ∷ q) st = λ g.
+          ⊎-elim (λ k. cons≢nil (k .0)) (λ l. st (record { tail = g .tail; meaning = g .meaning; derives = l })) (g .derives)
 
   pub optional-at : (s : List ℕ) (x : Read A) → ReadsAt L s x → ReadsAt (Optional d L) s (optionalRead d x)
   optional-at s x r = by (eqb (x .count) 0) refl
@@ -120,15 +141,24 @@ module _ {A : Type 0} (d : A) (L : List ℕ → A → Type 0) (empty : (v : A) �
           record { within = omega arith; exact = none s (x .good) (x .value) (rw z at (r .exact)) }
       by false e = record { within = r .within; exact = at s (x .count) (r .within) (eqb-false (x .count) 0 e) (r .exact) }
         where
-          at : (q : List ℕ) (n : ℕ) → n ≤ length q → (n ≡ 0 → ⊥) → Exact L (take n q) (drop n q) (x .good) (x .value) → Exact (Optional d L) (take n q) (drop n q) (x .good) (x .value)
+          at : (q : List ℕ) (n : ℕ) → n ≤ length q → (n ≡ 0 → ⊥) → Exact L (take n q) (drop n q) (x .good) (x .value)
+              → Exact (Optional d L) (take n q) (drop n q) (x .good) (x .value)
           at q zero h z f = absurd (z refl)
           at [] (suc n) h z f = absurd (omega arith)
           at (b ∷ q) (suc n) h z f = some (take n q) (drop n q) (x .good) (x .value) b f
 
 -- ---- rows
 
-module _ {A : Type 0} (F : List ℕ → A → Type 0) (c : ℕ) (D : ℕ → Bool) (within : (w : List ℕ) (v : A) → F w v → Within D w) (out : D c ≡ false)
+module _ {A : Type 0} (F : List ℕ → A → Type 0) (c : ℕ) (D : ℕ → Bool)
+    (within : (w : List ℕ) (v : A) → F w v → Within D w) (out : D c ≡ false)
     (goes : GoesOn F []) (f : List ℕ → Read A) (reads : (s : List ℕ) → ReadsAt F s (f s)) where
+  -- Any number more, in as many turns as there are bytes; and one entry, with at most so many behind it.
+  abbrev anyRead : List ℕ → Read (List A)
+  anyRead r = moreRead f c (length r) r
+
+  abbrev turn : ℕ → List ℕ → Read (List A)
+  turn n r = mapRead cons (joinRead f (moreRead f c n) r)
+
   behind-out : {B : Type 0} (L : List ℕ → B → Type 0) (w : List ℕ) (v : B) → Behind c L w v → Outside D w
   behind-out L [] v l = tt
   behind-out L (b ∷ w) v l = rw (l .0) out
@@ -152,16 +182,28 @@ module _ {A : Type 0} (F : List ℕ → A → Type 0) (c : ℕ) (D : ℕ → Boo
       record {
         tail = goes .tail ++ t .tail;
         meaning = goes .meaning ∷ t .meaning;
-        derives = ((goes .meaning, t .meaning), record { left = goes .tail; right = t .tail; splits = refl; first = goes .derives; second = t .derives }, refl);
+        derives = (
+          (goes .meaning, t .meaning),
+          record { left = goes .tail; right = t .tail; splits = refl; first = goes .derives; second = t .derives },
+          refl,
+        );
       }
 
   -- One more entry, and what follows it.
-  list-at : (T : List ℕ → List A → Type 0) → ((w : List ℕ) (v : List A) → T w v → Outside D w) → GoesOn T [] → (t : List ℕ → Read (List A)) (s : List ℕ)
-      → ReadsAt T (drop (f s .count) s) (t (drop (f s .count) s)) → ReadsAt (Mapped cons (Join F T)) s (mapRead cons (joinRead f t s))
-  list-at T o g t s r = map-at cons (Join F T) s (joinRead f t s) (join-at F T D within o g s (f s) (t (drop (f s .count) s)) (t [] .value) (reads s) r)
+  list-at
+      : (T : List ℕ → List A → Type 0) → ((w : List ℕ) (v : List A) → T w v → Outside D w) → GoesOn T []
+      → (t : List ℕ → Read (List A)) (s : List ℕ) → ReadsAt T (drop (f s .count) s) (t (drop (f s .count) s))
+      → ReadsAt (Mapped cons (Join F T)) s (mapRead cons (joinRead f t s))
+  list-at T o g t s r =
+      map-at cons (Join F T) s (joinRead f t s)
+      (join-at F T D within o g s (f s) (t (drop (f s .count) s)) (t [] .value) (reads s) r)
 
   no-more : (r : List ℕ) → ReadsAt (More F c zero) r (moreRead f c zero r)
-  no-more r = record { within = omega arith; exact = record { live = more-goes zero; stops = stops r; yields = λ h. (refl, refl); only = λ v m. (refl, m .1) } }
+  no-more r =
+      record {
+        within = omega arith;
+        exact = record { live = more-goes zero; stops = stops r; yields = λ h. (refl, refl); only = λ v m. (refl, m .1) };
+      }
     where
       stops : (q : List ℕ) → Stops (More F c zero) [] q
       stops [] = tt
@@ -171,7 +213,7 @@ module _ {A : Type 0} (F : List ℕ → A → Type 0) (c : ℕ) (D : ℕ → Boo
   more-at zero s = no-more s
   more-at (suc n) s =
       optional-at [] (Behind c (Listed F c n)) (behind-empty (Listed F c n)) s _
-      (behind-at c (Listed F c n) (λ (r : List ℕ). mapRead cons (joinRead f (moreRead f c n) r)) (list-goes (More F c n) (more-goes n)) s
+      (behind-at c (Listed F c n) (turn n) (list-goes (More F c n) (more-goes n)) s
       (λ b bs e. list-at (More F c n) (more-out n) (more-goes n) (moreRead f c n) bs (more-at n (drop (f bs .count) bs))))
 
   pub listed-at : (n : ℕ) (s : List ℕ) → ReadsAt (Listed F c n) s (mapRead cons (joinRead f (moreRead f c n) s))
@@ -184,27 +226,40 @@ module _ {A : Type 0} (F : List ℕ → A → Type 0) (c : ℕ) (D : ℕ → Boo
   pub any-goes : GoesOn (AnyMore F c) []
   any-goes = record { tail = []; meaning = []; derives = (zero, (refl, refl)) }
 
-  any-same : (w : List ℕ) (vs : List A) → Optional [] (Behind c (Mapped cons (Join F (AnyMore F c)))) w vs ↔ AnyMore F c w vs
+  any-same : (w : List ℕ) (vs : List A) → Optional [] (Behind c (AnyListed F c)) w vs ↔ AnyMore F c w vs
   any-same w vs = (λ o. to w o, λ m. from w (m .0) (m .1))
     where
-      to : (w′ : List ℕ) → Optional [] (Behind c (Mapped cons (Join F (AnyMore F c)))) w′ vs → AnyMore F c w′ vs
+      to : (w′ : List ℕ) → Optional [] (Behind c (AnyListed F c)) w′ vs → AnyMore F c w′ vs
       to w′ (inl k) = (zero, k)
       to [] (inr k) = absurd k
       to (b ∷ w′) (inr k) =
           let j = k .1 .1 in
-          let s = j .second in
-          (suc (s .0), inr (k .0, (k .1 .0, record { left = j .left; right = j .right; splits = j .splits; first = j .first; second = s .1 }, k .1 .2)))
+          let i : Join F (More F c (j .second .0)) w′ (k .1 .0) =
+          record { left = j .left; right = j .right; splits = j .splits; first = j .first; second = j .second .1 } in
+          (suc (j .second .0), inr (k .0, (k .1 .0, i, k .1 .2)))
 
-      from : (w′ : List ℕ) (n : ℕ) → More F c n w′ vs → Optional [] (Behind c (Mapped cons (Join F (AnyMore F c)))) w′ vs
+      from : (w′ : List ℕ) (n : ℕ) → More F c n w′ vs → Optional [] (Behind c (AnyListed F c)) w′ vs
       from w′ zero k = inl k
       from w′ (suc n) (inl k) = inl k
       from [] (suc n) (inr k) = absurd k
       from (b ∷ w′) (suc n) (inr k) =
           let j = k .1 .1 in
-          inr (k .0, (k .1 .0, record { left = j .left; right = j .right; splits = j .splits; first = j .first; second = (n, j .second) }, k .1 .2))
+          let i : Join F (AnyMore F c) w′ (k .1 .0) =
+          record { left = j .left; right = j .right; splits = j .splits; first = j .first; second = (n, j .second) } in
+          inr (k .0, (k .1 .0, i, k .1 .2))
 
   any-none : (q : List ℕ) → length q ≤ 0 → ReadsAt (AnyMore F c) q (record { count = 0; good = true; value = [] })
-  any-none [] h = record { within = omega arith; exact = record { live = any-goes; stops = tt; yields = λ t. (zero, (refl, refl)); only = λ v m. (refl, value v (m .0) (m .1)) } }
+  any-none [] h =
+      record {
+        within = omega arith;
+        exact =
+            record {
+              live = any-goes;
+              stops = tt;
+              yields = λ t. (zero, (refl, refl));
+              only = λ v m. (refl, value v (m .0) (m .1));
+            };
+      }
     where
       value : (v : List A) (n : ℕ) → More F c n [] v → v ≡ []
       value v zero m = m .1
@@ -219,10 +274,13 @@ module _ {A : Type 0} (F : List ℕ → A → Type 0) (c : ℕ) (D : ℕ → Boo
   any-at zero s h = any-none s h
   any-at (suc n) s h =
       let o =
-      optional-at [] (Behind c (Mapped cons (Join F (AnyMore F c)))) (behind-empty (Mapped cons (Join F (AnyMore F c)))) s _
-      (behind-at c (Mapped cons (Join F (AnyMore F c))) (λ (r : List ℕ). mapRead cons (joinRead f (moreRead f c n) r)) (list-goes (AnyMore F c) any-goes) s
-      (λ b bs e. list-at (AnyMore F c) any-out any-goes (moreRead f c n) bs (any-at n (drop (f bs .count) bs) (shorter-rest n (f bs .count) s b bs h e)))) in
+      optional-at [] (Behind c (AnyListed F c)) (behind-empty (AnyListed F c)) s _
+      (behind-at c (AnyListed F c) (turn n) (list-goes (AnyMore F c) any-goes) s
+      (λ b bs e. list-at (AnyMore F c) any-out any-goes (moreRead f c n) bs
+      (any-at n (drop (f bs .count) bs) (shorter-rest n (f bs .count) s b bs h e)))) in
       record { within = o .within; exact = alike _ _ any-same (o .exact) }
 
-  pub any-listed-at : (s : List ℕ) → ReadsAt (Mapped cons (Join F (AnyMore F c))) s (mapRead cons (joinRead f (λ (r : List ℕ). moreRead f c (length r) r) s))
-  any-listed-at s = list-at (AnyMore F c) any-out any-goes (λ (r : List ℕ). moreRead f c (length r) r) s (any-at (length (drop (f s .count) s)) (drop (f s .count) s) (omega arith))
+  pub any-listed-at : (s : List ℕ) → ReadsAt (AnyListed F c) s (mapRead cons (joinRead f anyRead s))
+  any-listed-at s =
+      list-at (AnyMore F c) any-out any-goes anyRead s
+      (any-at (length (drop (f s .count) s)) (drop (f s .count) s) (omega arith))

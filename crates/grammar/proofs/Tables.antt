@@ -53,7 +53,9 @@ row-single [] f t w u v c d =
 row-single (c′ ∷ cs) f t [] u v c d = absurd c
 row-single (c′ ∷ cs) f t (b ∷ w) u v c d = row-single cs f t w u v (c .1) (d .1)
 
-tail-apart : (t : Tail) (cs : List ℕ) → apartTail t cs ≡ true → (g : ℕ) (u : Tail) (w : List ℕ) (n : ℕ) (v : Said) → TailSays t w n → RowSays cs g u w v → ⊥
+tail-apart
+    : (t : Tail) (cs : List ℕ) → apartTail t cs ≡ true → (g : ℕ) (u : Tail) (w : List ℕ) (n : ℕ) (v : Said) → TailSays t w n
+    → RowSays cs g u w v → ⊥
 tail-apart nothing [] e g u w n v a r = false≢true e
 tail-apart nothing (c ∷ cs) e g u [] n v a r = r
 tail-apart nothing (c ∷ cs) e g u (b ∷ w) n v a r = cons≢nil (a .0)
@@ -77,16 +79,21 @@ rows-apart (c ∷ cs) t (d ∷ ds) u e f g (k ∷ w) a b x y =
 row-apart : (cs : List ℕ) (t : Tail) (rows : List Row) → apartFrom cs t rows ≡ true → (f : ℕ) (w : List ℕ) (a b : Said)
     → RowSays cs f t w a → Choice rows w b → ⊥
 row-apart cs t [] e f w a b x y = y
-row-apart cs t (row ds g u ∷ rows) e f w a b x (inl y) = rows-apart cs t ds u (and-left (apart cs t ds u) (apartFrom cs t rows) e) f g w a b x y
-row-apart cs t (row ds g u ∷ rows) e f w a b x (inr y) = row-apart cs t rows (and-right (apart cs t ds u) (apartFrom cs t rows) e) f w a b x y
+row-apart cs t (row ds g u ∷ rows) e f w a b x (inl y) =
+    rows-apart cs t ds u (and-left (apart cs t ds u) (apartFrom cs t rows) e) f g w a b x y
+row-apart cs t (row ds g u ∷ rows) e f w a b x (inr y) =
+    row-apart cs t rows (and-right (apart cs t ds u) (apartFrom cs t rows) e) f w a b x y
 
 pub apart-single : (rows : List Row) → allApart rows ≡ true → Single (Choice rows)
 unfolding allApart
 apart-single [] e w u v c d = absurd c
 apart-single (row cs f t ∷ rows) e w u v (inl c) (inl d) = row-single cs f t w u v c d
-apart-single (row cs f t ∷ rows) e w u v (inl c) (inr d) = absurd (row-apart cs t rows (and-left (apartFrom cs t rows) (allApart rows) e) f w u v c d)
-apart-single (row cs f t ∷ rows) e w u v (inr c) (inl d) = absurd (row-apart cs t rows (and-left (apartFrom cs t rows) (allApart rows) e) f w v u d c)
-apart-single (row cs f t ∷ rows) e w u v (inr c) (inr d) = apart-single rows (and-right (apartFrom cs t rows) (allApart rows) e) w u v c d
+apart-single (row cs f t ∷ rows) e w u v (inl c) (inr d) =
+    absurd (row-apart cs t rows (and-left (apartFrom cs t rows) (allApart rows) e) f w u v c d)
+apart-single (row cs f t ∷ rows) e w u v (inr c) (inl d) =
+    absurd (row-apart cs t rows (and-left (apartFrom cs t rows) (allApart rows) e) f w v u d c)
+apart-single (row cs f t ∷ rows) e w u v (inr c) (inr d) =
+    apart-single rows (and-right (apartFrom cs t rows) (allApart rows) e) w u v c d
 
 -- ---- the bytes of a table's words
 
@@ -198,7 +205,8 @@ unfolding statesRead
 table-field rows l e a =
     let lives = start-lives rows l in
     let goes = any-goes (start rows) lives e in
-    let single : Single (AnyOf (start rows)) = λ w u v c d. apart-single rows a w u v (start-same rows w u .0 c) (start-same rows w v .0 d) in
+    let single : Single (AnyOf (start rows)) =
+    λ w u v c d. apart-single rows a w u v (start-same rows w u .0 c) (start-same rows w v .0 d) in
     record {
       goes = record { tail = goes .tail; meaning = goes .meaning; derives = start-same rows _ _ .0 (goes .derives) };
       reads = λ s.

@@ -107,7 +107,8 @@ module _ (f max : ℕ) (wanted : ℕ → Bool) where
   read-some (b ∷ s) e k q = by (fits max 0 b) refl
     where
       by : (x : Bool) → fits max 0 b ≡ x
-          → statesRead numerals (b ∷ s) ≡ record { count = span max 0 (b ∷ s); good = k; value = cond k (said f (value (b ∷ s))) (said 0 0) }
+          → statesRead numerals (b ∷ s)
+          ≡ record { count = span max 0 (b ∷ s); good = k; value = cond k (said f (value (b ∷ s))) (said 0 0) }
       by true h =
           let d = 0 * 10 + (b - 48) in
           let r = digits-run f max d wanted s in

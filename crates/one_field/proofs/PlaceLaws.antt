@@ -16,7 +16,8 @@ use Rattle.grammar.specs.Table.{nothing, Row, Said}
 use Rattle.signature_line.specs.Words.{bareByte, ttlForm}
 use Rattle.one_field.specs.declared.Piece.{Piece}
 use Rattle.one_field.specs.declared.Place.{Place}
-use Rattle.one_field.specs.Places.{piece, noPiece, pieceOf, stateAt, pieceAt, fieldAt, place, behindAt, noTtl, ttlPiece, ttlAt, wordAt}
+use Rattle.one_field.specs.Places.{piece, noPiece, pieceOf, stateAt, pieceAt, wordAt}
+use Rattle.one_field.specs.Places.{place, fieldAt, behindAt, noTtl, ttlPiece, ttlAt}
 
 -- ---- a reading, one byte at a time
 
@@ -76,7 +77,9 @@ module _ (s : List ℕ) (at : ℕ) where
       (later-piece at (statesRead next (drop (suc at) s)) ∙ ap (λ (k : ℕ). pieceOf k (statesRead next (drop (suc at) s))) (add-one at))
 
   -- A byte that none goes on with, and the end.
-  pub stays : (states : List Awaited) → at < length s → isNil (after (byteAt s at) states) ≡ true → stateAt states s at ≡ donePiece at (done states)
+  pub stays
+      : (states : List Awaited) → at < length s → isNil (after (byteAt s at) states) ≡ true
+      → stateAt states s at ≡ donePiece at (done states)
   unfolding stateAt
   stays states h n = rw (drop-cons s at 0 h, read-stays states (byteAt s at) (drop (suc at) s) n) (stopped at (done states))
 
@@ -89,7 +92,8 @@ module _ (s : List ℕ) (at : ℕ) where
       : (states others : List Awaited) → at < length s → after (byteAt s at) states ≡ after (byteAt s at) others → done states ≡ done others
       → stateAt states s at ≡ stateAt others s at
   unfolding stateAt
-  narrow-here states others h a d = rw (drop-cons s at 0 h) (ap (pieceOf at) (read-narrow states others (byteAt s at) (drop (suc at) s) a d))
+  narrow-here states others h a d =
+      rw (drop-cons s at 0 h) (ap (pieceOf at) (read-narrow states others (byteAt s at) (drop (suc at) s) a d))
 
   -- What a call gave for the bytes behind this one is what is read here.
   pub goes-on

@@ -167,7 +167,9 @@ module _ (s : List ℕ) (at : ℕ) where
       let n = entry-some g in
       rw (g, ne-eqb (read s at .count + others .count) 0 (λ z. n (omega arith)))
 
-  unread : read s at .good ≡ false → (k : Bool) → eqb (read s at .count) 0 ≡ k → layoutPieceOf at (layoutRead (drop at s)) ≡ noLayout (at + read s at .count) k
+  unread
+      : read s at .good ≡ false → (k : Bool) → eqb (read s at .count) 0 ≡ k
+      → layoutPieceOf at (layoutRead (drop at s)) ≡ noLayout (at + read s at .count) k
   unfolding layoutRead layoutPieceOf layoutOf
   unread g true z = rw (g, z) (ap (λ (i : ℕ). noLayout i true) (omega (arith, eqb-true (read s at .count) 0 z)))
   unread g false z = rw (g, z)

@@ -111,4 +111,5 @@ module _ {A : Type 0} (f : List ℕ → Read A) (c : ℕ) (s : List ℕ) (at m :
 -- A field that took nothing ends where it began.
 pub no-further : (at n : ℕ) → eqb (at + n) at ≡ eqb n 0
 no-further at zero = rw (eq-eqb (at + 0) at (omega arith))
-no-further at (suc n) = rw (ne-eqb (at + suc n) at (λ (z : at + suc n ≡ at). omega arith), ne-eqb (suc n) 0 (λ (z : suc n ≡ 0). omega arith))
+no-further at (suc n) =
+    rw (ne-eqb (at + suc n) at (λ (z : at + suc n ≡ at). omega arith), ne-eqb (suc n) 0 (λ (z : suc n ≡ 0). omega arith))

@@ -38,8 +38,8 @@ nowhere k s p h e = rw e
 
 -- A field that was not read: nothing behind it is.
 unread
-    : {A B : Type 0} (k : A → SignatureRead) (l : B → SignatureRead) (c : ℕ) (s : List ℕ) (p : Place) (f : List ℕ → Read A) (g : List ℕ → Read B)
-    (at : ℕ) (good : Bool) → p .good ≡ false → at ≡ p .at → good ≡ false
+    : {A B : Type 0} (k : A → SignatureRead) (l : B → SignatureRead) (c : ℕ) (s : List ℕ) (p : Place)
+    (f : List ℕ → Read A) (g : List ℕ → Read B) (at : ℕ) (good : Bool) → p .good ≡ false → at ≡ p .at → good ≡ false
     → finishAt k s p f ≡ finishAt l s (behindAt c s at good) g
 unfolding finishAt behindAt
 unread k l c s p f g at good e i q = rw (e, i, q)

@@ -52,6 +52,22 @@ begins s h = short s h ∙ same-test s (partsRead s) (0 + partsRead s .count) (o
 
 -- ---- the places between the fields, and what was said before each
 
+-- What is read behind the TTL, and the readings behind a field that have no name.
+abbrev After2 : Type 0
+After2 = Said × (Said × (Said × (Said × (List Said × (List Said × Said)))))
+
+abbrev afterTtlRead : List ℕ → Read After2
+afterTtlRead = thenRead (tableRead bareByte) colon afterOlenRead
+
+abbrev afterVersionRead : List ℕ → Read ((Said × Said) × After2)
+afterVersionRead = thenRead ttlRead colon afterTtlRead
+
+abbrev afterWindowRead : List ℕ → Read (Said × (List Said × (List Said × Said)))
+afterWindowRead = thenRead (tableRead scale) colon afterScaleRead
+
+abbrev afterMssRead : List ℕ → Read (Said × (Said × (List Said × (List Said × Said))))
+afterMssRead = thenRead (tableRead window) comma afterWindowRead
+
 module _ (s : List ℕ) where
   abbrev p1 : Place
   p1 = behindAt colon s (versionIn s .at) (versionIn s .good)
@@ -77,9 +93,6 @@ module _ (s : List ℕ) where
   abbrev p8 : Place
   p8 = behindAt colon s (quirksIn s .at) (quirksIn s .good)
 
-  abbrev After2 : Type 0
-  After2 = Said × (Said × (Said × (Said × (List Said × (List Said × Said)))))
-
   abbrev k1 : (Said × Said) × After2 → SignatureRead
   k1 u = ask (saidBy (versionIn s), u)
 
@@ -104,27 +117,27 @@ module _ (s : List ℕ) where
   abbrev k8 : Said → SignatureRead
   k8 u = k7 (quirksRead (drop (p7 .at) s) .value, u)
 
-  step1 : finishAt ask s (place 0 true) partsRead ≡ finishAt k1 s p1 (thenRead ttlRead colon (thenRead (tableRead bareByte) colon afterOlenRead))
+  step1 : finishAt ask s (place 0 true) partsRead ≡ finishAt k1 s p1 afterVersionRead
   unfolding partsRead versionIn
   step1 = table-stage colon _ s (place 0 true) version ask
 
-  step2 : finishAt k1 s p1 (thenRead ttlRead colon (thenRead (tableRead bareByte) colon afterOlenRead)) ≡ finishAt k2 s p2 (thenRead (tableRead bareByte) colon afterOlenRead)
+  step2 : finishAt k1 s p1 afterVersionRead ≡ finishAt k2 s p2 afterTtlRead
   unfolding ttlIn
   step2 = ttl-stage s p1 colon _ k1
 
-  step3 : finishAt k2 s p2 (thenRead (tableRead bareByte) colon afterOlenRead) ≡ finishAt k3 s p3 afterOlenRead
+  step3 : finishAt k2 s p2 afterTtlRead ≡ finishAt k3 s p3 afterOlenRead
   unfolding olenIn
   step3 = table-stage colon _ s p2 bareByte k2
 
-  step4 : finishAt k3 s p3 afterOlenRead ≡ finishAt k4 s p4 (thenRead (tableRead window) comma (thenRead (tableRead scale) colon afterScaleRead))
+  step4 : finishAt k3 s p3 afterOlenRead ≡ finishAt k4 s p4 afterMssRead
   unfolding mssIn
   step4 = table-stage colon _ s p3 mss k3
 
-  step5 : finishAt k4 s p4 (thenRead (tableRead window) comma (thenRead (tableRead scale) colon afterScaleRead)) ≡ finishAt k5 s p5 (thenRead (tableRead scale) colon afterScaleRead)
+  step5 : finishAt k4 s p4 afterMssRead ≡ finishAt k5 s p5 afterWindowRead
   unfolding windowIn
   step5 = table-stage comma _ s p4 window k4
 
-  step6 : finishAt k5 s p5 (thenRead (tableRead scale) colon afterScaleRead) ≡ finishAt k6 s p6 afterScaleRead
+  step6 : finishAt k5 s p5 afterWindowRead ≡ finishAt k6 s p6 afterScaleRead
   unfolding scaleIn
   step6 = table-stage colon _ s p5 scale k5
 

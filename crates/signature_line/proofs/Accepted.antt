@@ -60,7 +60,8 @@ same-meaning : (m n : LineMeaning) → readOf m ≡ readOf n → m ≡ n
 same-meaning m n e =
     parts (m .raw) (n .raw) (m .layout) (n .layout) (ap (λ (r : SignatureRead). r .raw) e) (ap (λ (r : SignatureRead). r .layout) e)
   where
-    parts : (a b : List ℕ) (c d : Layout) → a ≡ b → c ≡ d → _≡_ {A = LineMeaning} (record { raw = a; layout = c }) (record { raw = b; layout = d })
+    parts : (a b : List ℕ) (c d : Layout) → a ≡ b → c ≡ d
+        → _≡_ {A = LineMeaning} (record { raw = a; layout = c }) (record { raw = b; layout = d })
     parts a b c d p q = cc
 
 -- ---- accepted exactly

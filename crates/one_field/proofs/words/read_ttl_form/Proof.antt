@@ -11,7 +11,9 @@ use Rattle.one_field.proofs.words.read_ttl_form.Tie as tie
 
 returns : tie.Need-returns
 unfolding ttlForm done
-returns c = let a = c .before .before .before .args in c .whole .ensures ∙ sym (ends (a .s .now) (a .from) (start ttlForm) (c .before .if1 .taken))
+returns c =
+    let a = c .before .before .before .args in
+    c .whole .ensures ∙ sym (ends (a .s .now) (a .from) (start ttlForm) (c .before .if1 .taken))
 
 returns-2 : tie.Need-returns-2
 unfolding ttlForm after
