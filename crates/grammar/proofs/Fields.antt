@@ -10,7 +10,8 @@ use borrow.Author.Tests.{eq-eqb}
 use Rattle.grammar.specs.Language.{Join, Behind, Then, Optional, Mapped, cons, More, Listed, AnyMore, AnyListed}
 use Rattle.grammar.specs.Reading.{Read, behindRead, joinRead, thenRead, mapRead, listedRead, anyListedRead}
 use Rattle.grammar.proofs.Join.{Within, nil, inside, Outside}
-use Rattle.grammar.proofs.Reading.{Field, map-at, behind-at, join-at, optional-at, listed-at, any-listed-at}
+use Rattle.grammar.proofs.Listed.{listed-at, any-listed-at}
+use Rattle.grammar.proofs.Reading.{Field, map-at, behind-at, join-at, optional-at}
 
 -- ---- the bytes of words
 

@@ -16,7 +16,9 @@ use Rattle.grammar.proofs.Fields.{listed-words, any-listed-words}
 use Rattle.grammar.proofs.Join.{Outside}
 use Rattle.grammar.proofs.Numerals.{From, any-lives}
 use Rattle.grammar.proofs.Reading.{Field}
-use Rattle.grammar.proofs.Tables.{allApart, rowsWithin, rowsOutside, table-field, table-within, table-outside, table-empty}
+use Rattle.grammar.proofs.Apart.{allApart}
+use Rattle.grammar.proofs.Tables.{table-field, table-empty}
+use Rattle.grammar.proofs.WordBytes.{rowsWithin, rowsOutside, table-within, table-outside}
 use Rattle.signature_line.specs.Line.{colon, comma, TtlText, LayoutText, QuirksText, AfterScale, AfterOlen, fields, LineSays}
 use Rattle.signature_line.specs.LineReader.{ttlRead, layoutRead, quirksRead, afterScaleRead, afterOlenRead, partsRead, fieldsRead}
 use Rattle.signature_line.specs.Words.{version, bareByte, ttlForm, mss, window, scale, unnamed, entry, quirkWord, payload}
