@@ -1,17 +1,17 @@
 -- Fields put together are fields: one after the other, behind a byte, in rows; and the bytes of their words.
-use Prim.Native.Nat.{ℕ, zero, suc, _+_, _<_, _≤_}
+use Prim.Native.Nat.{ℕ, zero, suc}
 use mathlib.Core.Path.{_≡_, refl, ap}
-use mathlib.Core.Logic.{_⊎_, inl, inr, ⊎-elim}
+use mathlib.Core.Logic.{inl, ⊎-elim}
 use mathlib.Core.Bool.{Bool, true, false, not}
 use mathlib.Core.List.{List, [], _∷_, _++_, nil≢cons}
-use native.Mathlib.Omega.{arith}
 use lib.Dec.{eqb}
-use lib.ListN.{length, drop}
-use borrow.Author.Tests.{ne-eqb, eq-eqb}
-use Rattle.grammar.specs.Language.{GoesOn, Join, Behind, Then, Optional, Mapped, cons, More, Listed, AnyMore, AnyListed}
+use lib.ListN.{drop}
+use borrow.Author.Tests.{eq-eqb}
+use Rattle.grammar.specs.Language.{Join, Behind, Then, Optional, Mapped, cons, More, Listed, AnyMore, AnyListed}
 use Rattle.grammar.specs.Reading.{Read, behindRead, joinRead, thenRead, mapRead, listedRead, anyListedRead}
 use Rattle.grammar.proofs.Join.{Within, nil, inside, Outside}
-use Rattle.grammar.proofs.Reading.{ReadsAt, Field, map-at, behind-at, join-at, optional-at, listed-at, any-listed-at}
+use Rattle.grammar.proofs.Listed.{listed-at, any-listed-at}
+use Rattle.grammar.proofs.Reading.{Field, map-at, behind-at, join-at, optional-at}
 
 -- ---- the bytes of words
 
@@ -26,8 +26,11 @@ within-append D (b ∷ x) y (inside d f) g = inside d (within-append D x y f g)
 abbrev pub Words : {A : Type 0} → (ℕ → Bool) → (List ℕ → A → Type 0) → Type 0
 Words {A} D L = (w : List ℕ) (v : A) → L w v → Within D w
 
-pub join-words : {A B : Type 0} (D : ℕ → Bool) (F : List ℕ → A → Type 0) (T : List ℕ → B → Type 0) → Words D F → Words D T → Words D (Join F T)
-join-words D F T f t w v j = rw (j .splits) (within-append D (j .left) (j .right) (f (j .left) (v .0) (j .first)) (t (j .right) (v .1) (j .second)))
+pub join-words
+    : {A B : Type 0} (D : ℕ → Bool) (F : List ℕ → A → Type 0) (T : List ℕ → B → Type 0) → Words D F → Words D T → Words D (Join F T)
+join-words D F T f t w v j =
+    rw (j .splits)
+    (within-append D (j .left) (j .right) (f (j .left) (v .0) (j .first)) (t (j .right) (v .1) (j .second)))
 
 behind-words : {A : Type 0} (D : ℕ → Bool) (c : ℕ) → D c ≡ true → (L : List ℕ → A → Type 0) → Words D L → Words D (Behind c L)
 behind-words D c e L h [] v l = absurd l
@@ -56,15 +59,25 @@ then-field F c G f g h x y =
           record {
             tail = x .goes .tail ++ c ∷ y .goes .tail;
             meaning = (x .goes .meaning, y .goes .meaning);
-            derives = record { left = x .goes .tail; right = c ∷ y .goes .tail; splits = refl; first = x .goes .derives; second = (refl, y .goes .derives) };
+            derives =
+                record {
+                  left = x .goes .tail;
+                  right = c ∷ y .goes .tail;
+                  splits = refl;
+                  first = x .goes .derives;
+                  second = (refl, y .goes .derives);
+                };
           };
       reads = λ s.
-          join-at F (Behind c G) (isNot c) h (behind-outside c G) (record { tail = c ∷ y .goes .tail; meaning = y .goes .meaning; derives = (refl, y .goes .derives) })
+          join-at F (Behind c G) (isNot c) h (behind-outside c G)
+          (record { tail = c ∷ y .goes .tail; meaning = y .goes .meaning; derives = (refl, y .goes .derives) })
           s (f s) (behindRead c g (drop (f s .count) s)) (g [] .value) (x .reads s)
           (behind-at c G g (y .goes) (drop (f s .count) s) (λ b bs e. y .reads bs));
     }
 
-listed-empty : {A : Type 0} (F : List ℕ → A → Type 0) (T : List ℕ → List A → Type 0) → ((v : A) → F [] v → ⊥) → (vs : List A) → Mapped cons (Join F T) [] vs → ⊥
+listed-empty
+    : {A : Type 0} (F : List ℕ → A → Type 0) (T : List ℕ → List A → Type 0) → ((v : A) → F [] v → ⊥) → (vs : List A)
+    → Mapped cons (Join F T) [] vs → ⊥
 listed-empty F T h vs l = none (l .1 .left) (l .1 .right) (l .1 .splits) (l .0 .0) (l .1 .first)
   where
     none : (x y : List ℕ) → [] ≡ x ++ y → (v : _) → F x v → ⊥
@@ -98,7 +111,8 @@ join-field F T D f t h o x y =
 -- ---- another meaning
 
 pub map-field
-    : {A B : Type 0} (g : A → B) (L : List ℕ → A → Type 0) (f : List ℕ → Read A) → Field L f → Field (Mapped g L) (λ (s : List ℕ). mapRead g (f s))
+    : {A B : Type 0} (g : A → B) (L : List ℕ → A → Type 0) (f : List ℕ → Read A) → Field L f
+    → Field (Mapped g L) (λ (s : List ℕ). mapRead g (f s))
 map-field g L f x =
     record {
       goes = record { tail = x .goes .tail; meaning = g (x .goes .meaning); derives = (x .goes .meaning, x .goes .derives, refl) };

@@ -1,7 +1,7 @@
 -- Two languages one after the other, where the second never begins with a byte of the first: the first is read, then the second.
 use Prim.Native.Nat.{ℕ}
 use mathlib.Core.Path.{_≡_, refl, sym, _∙_, ap}
-use mathlib.Core.Logic.{_↔_, _⊎_, inl, inr, ⊎-elim}
+use mathlib.Core.Logic.{_⊎_, inl, inr}
 use mathlib.Core.Bool.{Bool, true, false, false≢true}
 use mathlib.Core.List.{List, [], _∷_, _++_, append-assoc, append-nil, head-eq-of-cons-eq, tail-eq-of-cons-eq, nil≢cons, cons≢nil}
 use Rattle.grammar.specs.Language.{GoesOn, Join}
@@ -20,10 +20,6 @@ Outside D (b ∷ w) = D b ≡ false
 pub within-left : (D : ℕ → Bool) (x y : List ℕ) → Within D (x ++ y) → Within D x
 within-left D [] y h = nil
 within-left D (b ∷ x) y (inside d h) = inside d (within-left D x y h)
-
-outside-left : (D : ℕ → Bool) (x y : List ℕ) → Outside D (x ++ y) → Outside D x
-outside-left D [] y h = tt
-outside-left D (b ∷ x) y h = h
 
 within-at : (D : ℕ → Bool) (x : List ℕ) (b : ℕ) (y : List ℕ) → Within D (x ++ b ∷ y) → D b ≡ true
 within-at D [] b y (inside d h) = d
@@ -68,20 +64,24 @@ module _ {A B : Type 0} (F : List ℕ → A → Type 0) (T : List ℕ → B → 
   first-stops p [] st b y e g = nil≢cons e
   first-stops p (a ∷ r) st b y e g = let h = head-eq-of-cons-eq e in st (rw h g)
 
-  joined-stops : (p p′ r r′ : List ℕ) (v : A) → Exact F p r true v → GoesOn T p′ → Stops T p′ r′ → r ≡ p′ ++ r′ → Stops (Join F T) (p ++ p′) r′
+  joined-stops
+      : (p p′ r r′ : List ℕ) (v : A) → Exact F p r true v → GoesOn T p′ → Stops T p′ r′ → r ≡ p′ ++ r′
+      → Stops (Join F T) (p ++ p′) r′
   joined-stops p p′ r [] v e t st q = tt
   joined-stops p p′ r (b ∷ r″) v e t st q = λ g.
       let d = g .derives in
       let together : ((p ++ p′) ++ b ∷ []) ++ g .tail ≡ p ++ (p′ ++ b ∷ g .tail) = simp append-assoc in
       by (g .meaning) (d .left) (d .right) (d .first) (d .second) (g .tail)
-      (meets D p (p′ ++ b ∷ g .tail) (d .left) (d .right) (within p v (e .yields refl)) (outside (d .right) (g .meaning .1) (d .second)) (sym together ∙ d .splits))
+      (meets D p (p′ ++ b ∷ g .tail) (d .left) (d .right) (within p v (e .yields refl)) (outside (d .right) (g .meaning .1) (d .second))
+      (sym together ∙ d .splits))
     where
       at-b : (z : List ℕ) → p′ ≡ [] → (c : ℕ) (y : List ℕ) → b ∷ z ≡ c ∷ y → GoesOn F (p ++ c ∷ []) → ⊥
       at-b z n c y k g =
           let whole : p′ ++ b ∷ r″ ≡ b ∷ r″ = rw n in
           first-stops p r (e .stops) c r″ (q ∙ whole ∙ ap (λ (x : ℕ). x ∷ r″) (head-eq-of-cons-eq k)) g
 
-      by : (m : A × B) (u w : List ℕ) → F u (m .0) → T w (m .1) → (z : List ℕ) → ((p ≡ u) × (p′ ++ b ∷ z ≡ w)) ⊎ Longer p (p′ ++ b ∷ z) u → ⊥
+      by : (m : A × B) (u w : List ℕ) → F u (m .0) → T w (m .1) → (z : List ℕ)
+          → ((p ≡ u) × (p′ ++ b ∷ z ≡ w)) ⊎ Longer p (p′ ++ b ∷ z) u → ⊥
       by m u w f s z (inl k) =
           let a : (p′ ++ b ∷ []) ++ z ≡ p′ ++ b ∷ z = simp append-assoc in
           st (record { tail = z; meaning = m .1; derives = rw (a, k .1) s })
@@ -100,7 +100,14 @@ module _ {A B : Type 0} (F : List ℕ → A → Type 0) (T : List ℕ → B → 
             record {
               tail = t .live .tail;
               meaning = (v, t .live .meaning);
-              derives = record { left = p; right = p′ ++ t .live .tail; splits = append-assoc p p′ (t .live .tail); first = f; second = t .live .derives };
+              derives =
+                  record {
+                    left = p;
+                    right = p′ ++ t .live .tail;
+                    splits = append-assoc p p′ (t .live .tail);
+                    first = f;
+                    second = t .live .derives;
+                  };
             };
         stops = joined-stops p p′ r r′ v e (t .live) (t .stops) q;
         yields = λ h. record { left = p; right = p′; splits = refl; first = f; second = t .yields h };
@@ -125,11 +132,19 @@ module _ {A B : Type 0} (F : List ℕ → A → Type 0) (T : List ℕ → B → 
             record {
               tail = e .live .tail ++ t .tail;
               meaning = (e .live .meaning, t .meaning);
-              derives = record { left = p ++ e .live .tail; right = t .tail; splits = sym (append-assoc p (e .live .tail) (t .tail)); first = e .live .derives; second = t .derives };
+              derives =
+                  record {
+                    left = p ++ e .live .tail;
+                    right = t .tail;
+                    splits = sym (append-assoc p (e .live .tail) (t .tail));
+                    first = e .live .derives;
+                    second = t .derives;
+                  };
             };
         stops = stops r (e .stops) f;
         yields = λ h. absurd (false≢true h);
-        only = λ n j. by n (j .left) (j .right) (j .first) (meets D p [] (j .left) (j .right) f (outside (j .right) (n .1) (j .second)) (append-nil p ∙ j .splits));
+        only = λ n j. by n (j .left) (j .right) (j .first)
+            (meets D p [] (j .left) (j .right) f (outside (j .right) (n .1) (j .second)) (append-nil p ∙ j .splits));
       }
     where
       none : (a : A) (x : List ℕ) → F x a → p ≡ x → ⊥
@@ -151,4 +166,5 @@ module _ {A B : Type 0} (F : List ℕ → A → Type 0) (T : List ℕ → B → 
           at n x w g z (inl k) = none (n .0) x g (k .0)
           at n x w g z (inr l) =
               let c : (p ++ l .byte ∷ []) ++ l .rest ≡ p ++ l .byte ∷ l .rest = simp append-assoc in
-              first-stops p (b ∷ r″) st (l .byte) r″ (ap (λ (k : ℕ). k ∷ r″) (head-eq-of-cons-eq (l .next))) (record { tail = l .rest; meaning = n .0; derives = rw (c, ← (l .longer)) g })
+              first-stops p (b ∷ r″) st (l .byte) r″ (ap (λ (k : ℕ). k ∷ r″) (head-eq-of-cons-eq (l .next)))
+              (record { tail = l .rest; meaning = n .0; derives = rw (c, ← (l .longer)) g })

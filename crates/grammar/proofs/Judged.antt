@@ -1,20 +1,20 @@
 -- From an exact reading of a whole string to the judgement on it, both ways: the general theorem on offsets.
-use Prim.Native.Nat.{ℕ, zero, suc, _+_, _<_, _≤_}
+use Prim.Native.Nat.{ℕ, suc, _+_, _<_, _≤_}
 use mathlib.Core.Path.{_≡_, refl, sym, _∙_, ap}
-use mathlib.Core.Logic.{_↔_, _⊎_, inl, inr}
+use mathlib.Core.Logic.{_↔_}
 use mathlib.Core.Bool.{Bool, true, false, cond, _&&_, false≢true}
 use mathlib.Core.List.{List, [], _∷_, _++_, append-assoc, append-nil}
 use native.Mathlib.Omega.{arith}
 use native.Mathlib.Decide.{decLe}
 use native.Mathlib.Numerals.{add-one}
 use lib.Dec.{eqb}
-use lib.ListN.{length, take, drop, getD, take-append-drop, length-take, length-drop, drop-of-length-le}
-use lib.Seq.{take-take, take-suc, take-all, take-length, drop-length, drop-cons}
-use borrow.Author.Tests.{eqb-true, eqb-false, eq-eqb}
+use lib.ListN.{length, take, drop, getD, take-append-drop}
+use lib.Seq.{take-take, take-suc, take-all, drop-cons}
+use borrow.Author.Tests.{eqb-true, eq-eqb}
 use Rattle.grammar.specs.Language.{GoesOn, Refused}
 use Rattle.grammar.specs.Reading.{Read, Judgement, means, refused, judgement}
 use Rattle.basis.proofs.Tests.{and-left, and-right}
-use Rattle.grammar.proofs.Exact.{Exact, Stops}
+use Rattle.grammar.proofs.Exact.{Stops}
 use Rattle.grammar.proofs.Reading.{ReadsAt}
 
 -- A string that begins another one that goes on goes on.

@@ -1,11 +1,10 @@
 -- The rest of a numeral, one digit at a time.
-use Prim.Native.Nat.{ℕ, zero, suc, _+_, _*_, _-_, _<_, _≤_}
+use Prim.Native.Nat.{ℕ, _+_, _*_, _-_, _<_, _≤_}
 use mathlib.Core.Path.{_≡_, refl}
 use mathlib.Core.Bool.{Bool, true, _&&_}
 use mathlib.Core.List.{List, [], _∷_}
 use native.Mathlib.Omega.{arith}
 use lib.Dec.{ltb, leb}
-use lib.ListN.{length}
 use borrow.Author.Tests.{leb-true, ltb-true, le-leb, lt-ltb}
 use Rattle.basis.proofs.Tests.{and-left, and-right}
 use Rattle.grammar.specs.Language.{GoesOn}
@@ -27,8 +26,11 @@ grows n (b ∷ w) = omega (arith, grows (n * 10 + (b - 48)) w)
 pub fits-digit : (max n b : ℕ) → fits max n b ≡ true → (48 ≤ b) × (b < 58) × (n * 10 + (b - 48) ≤ max)
 unfolding fits
 fits-digit max n b e =
-    let l = and-left (leb 48 b && ltb b 58) (leb (n * 10 + (b - 48)) max) e in
-    (leb-true 48 b (and-left (leb 48 b) (ltb b 58) l), ltb-true b 58 (and-right (leb 48 b) (ltb b 58) l), leb-true (n * 10 + (b - 48)) max (and-right (leb 48 b && ltb b 58) (leb (n * 10 + (b - 48)) max) e))
+    let l = and-left (leb 48 b && ltb b 58) (leb (n * 10 + (b - 48)) max) e in (
+      leb-true 48 b (and-left (leb 48 b) (ltb b 58) l),
+      ltb-true b 58 (and-right (leb 48 b) (ltb b 58) l),
+      leb-true (n * 10 + (b - 48)) max (and-right (leb 48 b && ltb b 58) (leb (n * 10 + (b - 48)) max) e),
+    )
 
 pub digit-fits : (max n b : ℕ) → 48 ≤ b → b < 58 → n * 10 + (b - 48) ≤ max → fits max n b ≡ true
 unfolding fits
@@ -37,8 +39,10 @@ digit-fits max n b h k l = rw (le-leb 48 b h, lt-ltb b 58 k, le-leb (n * 10 + (b
 -- The rest after one digit more, both ways, and a whole numeral as its first digit and the rest.
 pub after-from : (max : ℕ) (wanted : ℕ → Bool) (n b : ℕ) (w : List ℕ) (m : ℕ) → From max wanted n (b ∷ w) m
     → (fits max n b ≡ true) × From max wanted (n * 10 + (b - 48)) w m
-after-from max wanted n b w m f =
-    (digit-fits max n b (f .digits .0) (f .digits .1) (omega (arith, grows (n * 10 + (b - 48)) w, f .says, f .small)), record { digits = f .digits .2; says = f .says; small = f .small; meant = f .meant })
+after-from max wanted n b w m f = (
+  digit-fits max n b (f .digits .0) (f .digits .1) (omega (arith, grows (n * 10 + (b - 48)) w, f .says, f .small)),
+  record { digits = f .digits .2; says = f .says; small = f .small; meant = f .meant },
+)
 
 pub from-after : (max : ℕ) (wanted : ℕ → Bool) (n b : ℕ) → fits max n b ≡ true → (w : List ℕ) (m : ℕ)
     → From max wanted (n * 10 + (b - 48)) w m → From max wanted n (b ∷ w) m

@@ -1,18 +1,18 @@
 -- Readings put together are exact.
-use Prim.Native.Nat.{ℕ, zero, suc, _+_, _-_, _<_, _≤_}
+use Prim.Native.Nat.{ℕ, zero, suc, _+_, _-_, _≤_}
 use mathlib.Core.Path.{_≡_, refl, sym, _∙_, ap}
-use mathlib.Core.Logic.{_↔_, _⊎_, inl, inr, ⊎-elim}
+use mathlib.Core.Logic.{_↔_, inl, inr, ⊎-elim}
 use mathlib.Core.Bool.{Bool, true, false, cond, false≢true}
-use mathlib.Core.List.{List, [], _∷_, _++_, append-assoc, append-nil, nil≢cons, cons≢nil}
+use mathlib.Core.List.{List, [], _∷_, cons≢nil}
 use native.Mathlib.Omega.{arith}
 use lib.Dec.{eqb}
 use lib.ListN.{length, take, drop, take-append-drop, length-drop}
 use lib.Seq.{take-add, drop-drop}
-use borrow.Author.Tests.{eqb-true, eqb-false, eq-eqb}
-use Rattle.grammar.specs.Language.{GoesOn, Join, Behind, Optional, Mapped, cons, More, Listed, AnyMore}
-use Rattle.grammar.specs.Reading.{Read, later, behindRead, both, joinRead, mapRead, optionalRead, moreRead}
+use borrow.Author.Tests.{eqb-true, eqb-false}
+use Rattle.grammar.specs.Language.{GoesOn, Join, Behind, Optional, Mapped}
+use Rattle.grammar.specs.Reading.{Read, later, behindRead, both, mapRead, optionalRead}
 use Rattle.grammar.proofs.Exact.{Exact, Stops, After, step, alike}
-use Rattle.grammar.proofs.Join.{Within, nil, inside, Outside, joined, unjoined}
+use Rattle.grammar.proofs.Join.{Within, Outside, joined, unjoined}
 
 -- A reading of a string is exact.
 pub record ReadsAt {A : Type 0} (L : List ℕ → A → Type 0) (s : List ℕ) (x : Read A) : Type 0 where
@@ -29,17 +29,29 @@ pub record Field {A : Type 0} (L : List ℕ → A → Type 0) (f : List ℕ → 
 behind-same : {A : Type 0} (c : ℕ) (L : List ℕ → A → Type 0) (b : ℕ) → b ≡ c → (w : List ℕ) (v : A) → L w v ↔ After b (Behind c L) w v
 behind-same c L b e w v = (λ l. (e, l), λ l. l .1)
 
-behind-none : {A : Type 0} (c : ℕ) (L : List ℕ → A → Type 0) (g : GoesOn L []) (r : List ℕ) (d : A) → Stops (Behind c L) [] r → Exact (Behind c L) [] r false d
+behind-none
+    : {A : Type 0} (c : ℕ) (L : List ℕ → A → Type 0) (g : GoesOn L []) (r : List ℕ) (d : A) → Stops (Behind c L) [] r
+    → Exact (Behind c L) [] r false d
 behind-none c L g r d st =
-    record { live = record { tail = c ∷ g .tail; meaning = g .meaning; derives = (refl, g .derives) }; stops = st; yields = λ h. absurd (false≢true h); only = λ v l. absurd l }
+    record {
+      live = record { tail = c ∷ g .tail; meaning = g .meaning; derives = (refl, g .derives) };
+      stops = st;
+      yields = λ h. absurd (false≢true h);
+      only = λ v l. absurd l;
+    }
 
 pub behind-at : {A : Type 0} (c : ℕ) (L : List ℕ → A → Type 0) (f : List ℕ → Read A) → GoesOn L [] → (s : List ℕ)
     → ((b : ℕ) (bs : List ℕ) → s ≡ b ∷ bs → ReadsAt L bs (f bs)) → ReadsAt (Behind c L) s (behindRead c f s)
 behind-at c L f g [] h = record { within = omega arith; exact = behind-none c L g [] (f [] .value) tt }
 behind-at {A} c L f g (b ∷ bs) h = by (eqb b c) refl (h b bs refl)
   where
-    by : (k : Bool) → eqb b c ≡ k → ReadsAt L bs (f bs) → ReadsAt (Behind c L) (b ∷ bs) (cond k (later (f bs)) (record { count = 0; good = false; value = f [] .value }))
-    by true e r = record { within = omega (arith, r .within); exact = step (Behind c L) b (alike _ _ (behind-same c L b (eqb-true b c e)) (r .exact)) }
+    by : (k : Bool) → eqb b c ≡ k → ReadsAt L bs (f bs)
+        → ReadsAt (Behind c L) (b ∷ bs) (cond k (later (f bs)) (record { count = 0; good = false; value = f [] .value }))
+    by true e r =
+        record {
+          within = omega (arith, r .within);
+          exact = step (Behind c L) b (alike _ _ (behind-same c L b (eqb-true b c e)) (r .exact));
+        }
     by false e r =
         record { within = omega arith; exact = behind-none c L g (b ∷ bs) (f [] .value) (λ k. eqb-false b c e (k .derives .0)) }
 
@@ -47,14 +59,19 @@ behind-at {A} c L f g (b ∷ bs) h = by (eqb b c) refl (h b bs refl)
 
 module _ {A B : Type 0} (F : List ℕ → A → Type 0) (T : List ℕ → B → Type 0) (D : ℕ → Bool)
     (within : (w : List ℕ) (v : A) → F w v → Within D w) (outside : (w : List ℕ) (v : B) → T w v → Outside D w) (goes : GoesOn T []) where
-  pub join-at : (s : List ℕ) (x : Read A) (y : Read B) (d : B) → ReadsAt F s x → ReadsAt T (drop (x .count) s) y → ReadsAt (Join F T) s (both x y d)
+  pub join-at
+      : (s : List ℕ) (x : Read A) (y : Read B) (d : B) → ReadsAt F s x → ReadsAt T (drop (x .count) s) y
+      → ReadsAt (Join F T) s (both x y d)
   join-at s x y d e t = by (x .good) (e .exact)
     where
       n : length (drop (x .count) s) ≡ length s - x .count
       n = length-drop (x .count) s
 
       by : (k : Bool) → Exact F (take (x .count) s) (drop (x .count) s) k (x .value)
-          → ReadsAt (Join F T) s (cond k (record { count = x .count + y .count; good = y .good; value = (x .value, y .value) }) (record { count = x .count; good = false; value = (x .value, d) }))
+          → ReadsAt (Join F T) s
+          (cond k
+          (record { count = x .count + y .count; good = y .good; value = (x .value, y .value) })
+          (record { count = x .count; good = false; value = (x .value, d) }))
       by true f =
           record {
             within = omega (arith, n, t .within, e .within);
@@ -66,7 +83,9 @@ module _ {A B : Type 0} (F : List ℕ → A → Type 0) (T : List ℕ → B → 
 
 -- ---- another meaning; nothing or a word
 
-pub map-at : {A B : Type 0} (f : A → B) (L : List ℕ → A → Type 0) (s : List ℕ) (x : Read A) → ReadsAt L s x → ReadsAt (Mapped f L) s (mapRead f x)
+pub map-at
+    : {A B : Type 0} (f : A → B) (L : List ℕ → A → Type 0) (s : List ℕ) (x : Read A) → ReadsAt L s x
+    → ReadsAt (Mapped f L) s (mapRead f x)
 map-at {A} f L s x r =
     let e = r .exact in
     record {
@@ -96,7 +115,8 @@ module _ {A : Type 0} (d : A) (L : List ℕ → A → Type 0) (empty : (v : A) �
     where
       stops : (q : List ℕ) → Stops L (b ∷ p) q → Stops (Optional d L) (b ∷ p) q
       stops [] st = tt
-      stops (c ∷ q) st = λ g. ⊎-elim (λ k. cons≢nil (k .0)) (λ l. st (record { tail = g .tail; meaning = g .meaning; derives = l })) (g .derives)
+      stops (c ∷ q) st = λ g.
+          ⊎-elim (λ k. cons≢nil (k .0)) (λ l. st (record { tail = g .tail; meaning = g .meaning; derives = l })) (g .derives)
 
   none : (r : List ℕ) (good : Bool) (v : A) → Exact L [] r good v → Exact (Optional d L) [] r true d
   none r good v e =
@@ -109,7 +129,8 @@ module _ {A : Type 0} (d : A) (L : List ℕ → A → Type 0) (empty : (v : A) �
     where
       stops : (q : List ℕ) → Stops L [] q → Stops (Optional d L) [] q
       stops [] st = tt
-      stops (c ∷ q) st = λ g. ⊎-elim (λ k. cons≢nil (k .0)) (λ l. st (record { tail = g .tail; meaning = g .meaning; derives = l })) (g .derives)
+      stops (c ∷ q) st = λ g.
+          ⊎-elim (λ k. cons≢nil (k .0)) (λ l. st (record { tail = g .tail; meaning = g .meaning; derives = l })) (g .derives)
 
   pub optional-at : (s : List ℕ) (x : Read A) → ReadsAt L s x → ReadsAt (Optional d L) s (optionalRead d x)
   optional-at s x r = by (eqb (x .count) 0) refl
@@ -120,115 +141,8 @@ module _ {A : Type 0} (d : A) (L : List ℕ → A → Type 0) (empty : (v : A) �
           record { within = omega arith; exact = none s (x .good) (x .value) (rw z at (r .exact)) }
       by false e = record { within = r .within; exact = at s (x .count) (r .within) (eqb-false (x .count) 0 e) (r .exact) }
         where
-          at : (q : List ℕ) (n : ℕ) → n ≤ length q → (n ≡ 0 → ⊥) → Exact L (take n q) (drop n q) (x .good) (x .value) → Exact (Optional d L) (take n q) (drop n q) (x .good) (x .value)
+          at : (q : List ℕ) (n : ℕ) → n ≤ length q → (n ≡ 0 → ⊥) → Exact L (take n q) (drop n q) (x .good) (x .value)
+              → Exact (Optional d L) (take n q) (drop n q) (x .good) (x .value)
           at q zero h z f = absurd (z refl)
           at [] (suc n) h z f = absurd (omega arith)
           at (b ∷ q) (suc n) h z f = some (take n q) (drop n q) (x .good) (x .value) b f
-
--- ---- rows
-
-module _ {A : Type 0} (F : List ℕ → A → Type 0) (c : ℕ) (D : ℕ → Bool) (within : (w : List ℕ) (v : A) → F w v → Within D w) (out : D c ≡ false)
-    (goes : GoesOn F []) (f : List ℕ → Read A) (reads : (s : List ℕ) → ReadsAt F s (f s)) where
-  behind-out : {B : Type 0} (L : List ℕ → B → Type 0) (w : List ℕ) (v : B) → Behind c L w v → Outside D w
-  behind-out L [] v l = tt
-  behind-out L (b ∷ w) v l = rw (l .0) out
-
-  nil-out : (w : List ℕ) → w ≡ [] → Outside D w
-  nil-out w e = rw e tt
-
-  behind-empty : {B : Type 0} (L : List ℕ → B → Type 0) (v : B) → Behind c L [] v → ⊥
-  behind-empty L v l = l
-
-  more-out : (n : ℕ) (w : List ℕ) (vs : List A) → More F c n w vs → Outside D w
-  more-out zero w vs m = nil-out w (m .0)
-  more-out (suc n) w vs m = ⊎-elim (λ k. nil-out w (k .0)) (λ k. behind-out (Mapped cons (Join F (More F c n))) w vs k) m
-
-  more-goes : (n : ℕ) → GoesOn (More F c n) []
-  more-goes zero = record { tail = []; meaning = []; derives = (refl, refl) }
-  more-goes (suc n) = record { tail = []; meaning = []; derives = inl (refl, refl) }
-
-  list-goes : (T : List ℕ → List A → Type 0) → GoesOn T [] → GoesOn (Mapped cons (Join F T)) []
-  list-goes T t =
-      record {
-        tail = goes .tail ++ t .tail;
-        meaning = goes .meaning ∷ t .meaning;
-        derives = ((goes .meaning, t .meaning), record { left = goes .tail; right = t .tail; splits = refl; first = goes .derives; second = t .derives }, refl);
-      }
-
-  -- One more entry, and what follows it.
-  list-at : (T : List ℕ → List A → Type 0) → ((w : List ℕ) (v : List A) → T w v → Outside D w) → GoesOn T [] → (t : List ℕ → Read (List A)) (s : List ℕ)
-      → ReadsAt T (drop (f s .count) s) (t (drop (f s .count) s)) → ReadsAt (Mapped cons (Join F T)) s (mapRead cons (joinRead f t s))
-  list-at T o g t s r = map-at cons (Join F T) s (joinRead f t s) (join-at F T D within o g s (f s) (t (drop (f s .count) s)) (t [] .value) (reads s) r)
-
-  no-more : (r : List ℕ) → ReadsAt (More F c zero) r (moreRead f c zero r)
-  no-more r = record { within = omega arith; exact = record { live = more-goes zero; stops = stops r; yields = λ h. (refl, refl); only = λ v m. (refl, m .1) } }
-    where
-      stops : (q : List ℕ) → Stops (More F c zero) [] q
-      stops [] = tt
-      stops (b ∷ q) = λ g. cons≢nil (g .derives .0)
-
-  pub more-at : (n : ℕ) (s : List ℕ) → ReadsAt (More F c n) s (moreRead f c n s)
-  more-at zero s = no-more s
-  more-at (suc n) s =
-      optional-at [] (Behind c (Listed F c n)) (behind-empty (Listed F c n)) s _
-      (behind-at c (Listed F c n) (λ (r : List ℕ). mapRead cons (joinRead f (moreRead f c n) r)) (list-goes (More F c n) (more-goes n)) s
-      (λ b bs e. list-at (More F c n) (more-out n) (more-goes n) (moreRead f c n) bs (more-at n (drop (f bs .count) bs))))
-
-  pub listed-at : (n : ℕ) (s : List ℕ) → ReadsAt (Listed F c n) s (mapRead cons (joinRead f (moreRead f c n) s))
-  listed-at n s = list-at (More F c n) (more-out n) (more-goes n) (moreRead f c n) s (more-at n (drop (f s .count) s))
-
-  pub listed-goes : (n : ℕ) → GoesOn (Listed F c n) []
-  listed-goes n = list-goes (More F c n) (more-goes n)
-
-  -- Any number more: as many turns as there are bytes suffice.
-  any-out : (w : List ℕ) (vs : List A) → AnyMore F c w vs → Outside D w
-  any-out w vs m = more-out (m .0) w vs (m .1)
-
-  pub any-goes : GoesOn (AnyMore F c) []
-  any-goes = record { tail = []; meaning = []; derives = (zero, (refl, refl)) }
-
-  any-same : (w : List ℕ) (vs : List A) → Optional [] (Behind c (Mapped cons (Join F (AnyMore F c)))) w vs ↔ AnyMore F c w vs
-  any-same w vs = (λ o. to w o, λ m. from w (m .0) (m .1))
-    where
-      to : (w′ : List ℕ) → Optional [] (Behind c (Mapped cons (Join F (AnyMore F c)))) w′ vs → AnyMore F c w′ vs
-      to w′ (inl k) = (zero, k)
-      to [] (inr k) = absurd k
-      to (b ∷ w′) (inr k) =
-          let j = k .1 .1 in
-          let s = j .second in
-          (suc (s .0), inr (k .0, (k .1 .0, record { left = j .left; right = j .right; splits = j .splits; first = j .first; second = s .1 }, k .1 .2)))
-
-      from : (w′ : List ℕ) (n : ℕ) → More F c n w′ vs → Optional [] (Behind c (Mapped cons (Join F (AnyMore F c)))) w′ vs
-      from w′ zero k = inl k
-      from w′ (suc n) (inl k) = inl k
-      from [] (suc n) (inr k) = absurd k
-      from (b ∷ w′) (suc n) (inr k) =
-          let j = k .1 .1 in
-          inr (k .0, (k .1 .0, record { left = j .left; right = j .right; splits = j .splits; first = j .first; second = (n, j .second) }, k .1 .2))
-
-  any-none : (q : List ℕ) → length q ≤ 0 → ReadsAt (AnyMore F c) q (record { count = 0; good = true; value = [] })
-  any-none [] h = record { within = omega arith; exact = record { live = any-goes; stops = tt; yields = λ t. (zero, (refl, refl)); only = λ v m. (refl, value v (m .0) (m .1)) } }
-    where
-      value : (v : List A) (n : ℕ) → More F c n [] v → v ≡ []
-      value v zero m = m .1
-      value v (suc n) (inl m) = m .1
-      value v (suc n) (inr m) = absurd m
-  any-none (b ∷ q) h = absurd (omega arith)
-
-  shorter-rest : (n k : ℕ) (s : List ℕ) (b : ℕ) (bs : List ℕ) → length s ≤ suc n → s ≡ b ∷ bs → length (drop k bs) ≤ n
-  shorter-rest n k s b bs h e = omega (arith, length-drop k bs, ap length e)
-
-  pub any-at : (n : ℕ) (s : List ℕ) → length s ≤ n → ReadsAt (AnyMore F c) s (moreRead f c n s)
-  any-at zero s h = any-none s h
-  any-at (suc n) s h =
-      let o =
-      optional-at [] (Behind c (Mapped cons (Join F (AnyMore F c)))) (behind-empty (Mapped cons (Join F (AnyMore F c)))) s _
-      (behind-at c (Mapped cons (Join F (AnyMore F c))) (λ (r : List ℕ). mapRead cons (joinRead f (moreRead f c n) r)) (list-goes (AnyMore F c) any-goes) s
-      (λ b bs e. list-at (AnyMore F c) any-out any-goes (moreRead f c n) bs (any-at n (drop (f bs .count) bs) (shorter-rest n (f bs .count) s b bs h e)))) in
-      record { within = o .within; exact = alike _ _ any-same (o .exact) }
-
-  pub any-listed-at : (s : List ℕ) → ReadsAt (Mapped cons (Join F (AnyMore F c))) s (mapRead cons (joinRead f (λ (r : List ℕ). moreRead f c (length r) r) s))
-  any-listed-at s = list-at (AnyMore F c) any-out any-goes (λ (r : List ℕ). moreRead f c (length r) r) s (any-at (length (drop (f s .count) s)) (drop (f s .count) s) (omega arith))
-
-  pub any-listed-goes : GoesOn (Mapped cons (Join F (AnyMore F c))) []
-  any-listed-goes = list-goes (AnyMore F c) any-goes

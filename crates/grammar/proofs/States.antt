@@ -1,15 +1,15 @@
 -- What rows still wait for is read exactly, byte by byte: once for every table.
-use Prim.Native.Nat.{ℕ, zero, suc, _+_, _*_, _-_, _<_, _≤_}
+use Prim.Native.Nat.{ℕ, suc, _+_, _*_, _-_, _≤_}
 use mathlib.Core.Path.{_≡_, refl, sym, _∙_}
 use mathlib.Core.Logic.{_↔_, _⊎_, inl, inr, ⊎-elim}
 use mathlib.Core.Bool.{Bool, true, false, cond, false≢true}
 use mathlib.Core.List.{List, [], _∷_, _++_, cons≢nil}
 use native.Mathlib.Omega.{arith}
 use lib.Dec.{eqb}
-use lib.ListN.{length, take, drop}
+use lib.ListN.{take, drop}
 use borrow.Author.Tests.{eqb-true, eqb-false}
 use Rattle.grammar.specs.Language.{GoesOn}
-use Rattle.grammar.specs.States.{fits, Awaited, letters, digits, afterOne, after, Done, done, isNil, run, left}
+use Rattle.grammar.specs.States.{fits, Awaited, letters, digits, afterOne, after, done, isNil, run, left}
 use Rattle.grammar.specs.Table.{Tail, nothing, numeral, Said, said, TailSays, RowSays}
 use Rattle.grammar.proofs.Exact.{Exact, Stops, After, step, alike}
 use Rattle.grammar.proofs.Numerals.{From, fits-digit, after-from, from-after, numeral-from, from-numeral}

@@ -1,3 +1,4 @@
+pub mod BehindWord
 pub mod NumberLaws
 pub mod PlaceLaws
 pub mod Unique

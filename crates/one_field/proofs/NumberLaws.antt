@@ -1,5 +1,5 @@
 -- Numbers: one turn of the loop over one, its ends, and a whole numeral.
-use Prim.Native.Nat.{ℕ, zero, suc, _+_, _*_, _-_, _<_, _≤_}
+use Prim.Native.Nat.{ℕ, suc, _+_, _*_, _-_, _<_, _≤_}
 use mathlib.Core.Path.{_≡_, refl, sym, _∙_, ap}
 use mathlib.Core.Bool.{Bool, true, false, cond, not}
 use mathlib.Core.List.{List, [], _∷_}
@@ -107,7 +107,8 @@ module _ (f max : ℕ) (wanted : ℕ → Bool) where
   read-some (b ∷ s) e k q = by (fits max 0 b) refl
     where
       by : (x : Bool) → fits max 0 b ≡ x
-          → statesRead numerals (b ∷ s) ≡ record { count = span max 0 (b ∷ s); good = k; value = cond k (said f (value (b ∷ s))) (said 0 0) }
+          → statesRead numerals (b ∷ s)
+          ≡ record { count = span max 0 (b ∷ s); good = k; value = cond k (said f (value (b ∷ s))) (said 0 0) }
       by true h =
           let d = 0 * 10 + (b - 48) in
           let r = digits-run f max d wanted s in

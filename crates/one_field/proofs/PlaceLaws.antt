@@ -1,23 +1,23 @@
 -- Laws of a field's reading at a place, in the expressions that the code makes.
-use Prim.Native.Nat.{ℕ, zero, suc, _+_, _*_, _-_, _<_, _≤_}
+use Prim.Native.Nat.{ℕ, suc, _+_, _<_, _≤_}
 use mathlib.Core.Path.{_≡_, refl, sym, _∙_, ap}
-use mathlib.Core.Bool.{Bool, true, false, cond, not, false≢true}
-use mathlib.Core.List.{List, [], _∷_, _++_}
+use mathlib.Core.Bool.{Bool, true, false, cond, not}
+use mathlib.Core.List.{List, [], _∷_}
 use native.Mathlib.Omega.{arith}
 use native.Mathlib.Decide.{decLe}
 use native.Mathlib.Numerals.{add-one}
-use lib.Dec.{eqb}
 use lib.ListN.{length, drop, drop-of-length-le}
 use lib.Seq.{drop-cons}
 use borrow.Author.Tests.{not-true, not-false, lt-ltb, le-ltb, eq-eqb, ne-eqb}
 use Rattle.basis.specs.Bytes.{byteAt}
 use Rattle.grammar.specs.Reading.{Read, later}
-use Rattle.grammar.specs.States.{Awaited, letters, after, isNil, run, left, Done, done, statesRead, start}
+use Rattle.grammar.specs.States.{Awaited, letters, after, isNil, run, left, Done, done, statesRead}
 use Rattle.grammar.specs.Table.{nothing, Row, Said}
 use Rattle.signature_line.specs.Words.{bareByte, ttlForm}
 use Rattle.one_field.specs.declared.Piece.{Piece}
 use Rattle.one_field.specs.declared.Place.{Place}
-use Rattle.one_field.specs.Places.{piece, noPiece, pieceOf, stateAt, pieceAt, fieldAt, place, behindAt, noTtl, ttlPiece, ttlAt, wordAt}
+use Rattle.one_field.specs.Places.{piece, noPiece, pieceOf, stateAt, pieceAt, wordAt}
+use Rattle.one_field.specs.Places.{place, fieldAt, behindAt, noTtl, ttlPiece, ttlAt}
 
 -- ---- a reading, one byte at a time
 
@@ -77,7 +77,9 @@ module _ (s : List ℕ) (at : ℕ) where
       (later-piece at (statesRead next (drop (suc at) s)) ∙ ap (λ (k : ℕ). pieceOf k (statesRead next (drop (suc at) s))) (add-one at))
 
   -- A byte that none goes on with, and the end.
-  pub stays : (states : List Awaited) → at < length s → isNil (after (byteAt s at) states) ≡ true → stateAt states s at ≡ donePiece at (done states)
+  pub stays
+      : (states : List Awaited) → at < length s → isNil (after (byteAt s at) states) ≡ true
+      → stateAt states s at ≡ donePiece at (done states)
   unfolding stateAt
   stays states h n = rw (drop-cons s at 0 h, read-stays states (byteAt s at) (drop (suc at) s) n) (stopped at (done states))
 
@@ -90,10 +92,8 @@ module _ (s : List ℕ) (at : ℕ) where
       : (states others : List Awaited) → at < length s → after (byteAt s at) states ≡ after (byteAt s at) others → done states ≡ done others
       → stateAt states s at ≡ stateAt others s at
   unfolding stateAt
-  narrow-here states others h a d = rw (drop-cons s at 0 h) (ap (pieceOf at) (read-narrow states others (byteAt s at) (drop (suc at) s) a d))
-
-  pub narrow-end : (states others : List Awaited) → length s ≤ at → done states ≡ done others → stateAt states s at ≡ stateAt others s at
-  narrow-end states others h d = ends states h ∙ ap (donePiece at) d ∙ sym (ends others h)
+  narrow-here states others h a d =
+      rw (drop-cons s at 0 h) (ap (pieceOf at) (read-narrow states others (byteAt s at) (drop (suc at) s) a d))
 
   -- What a call gave for the bytes behind this one is what is read here.
   pub goes-on

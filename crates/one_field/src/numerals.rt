@@ -1,7 +1,6 @@
 // Numbers in decimal, held against their bound digit by digit.
 ghost use mathlib.Core.Path.{_≡_};
 ghost use Prim.Native.Nat.{_≤_};
-ghost use mathlib.Core.List.{[], _∷_};
 ghost use Rattle.grammar.specs.States.{fits};
 ghost use Rattle.signature_line.specs.Words.{unnamed};
 ghost use Rattle.one_field.specs.Places.{numberFrom, numeralAt};

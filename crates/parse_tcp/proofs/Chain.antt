@@ -1,13 +1,13 @@
 -- Fields one after the other: the answer is what the rest gives, read behind the field's separator.
-use Prim.Native.Nat.{ℕ, zero, suc, _+_, _<_, _≤_}
-use mathlib.Core.Path.{_≡_, refl, sym, _∙_, ap}
+use Prim.Native.Nat.{ℕ, _+_}
+use mathlib.Core.Path.{_≡_, refl, ap}
 use mathlib.Core.Bool.{Bool, true, false, cond, _&&_}
-use mathlib.Core.List.{List, [], _∷_}
+use mathlib.Core.List.{List}
 use native.Mathlib.Omega.{arith}
 use lib.Dec.{eqb}
 use lib.ListN.{length, drop}
 use lib.Seq.{drop-drop}
-use Rattle.grammar.specs.Reading.{Read, behindRead, thenRead}
+use Rattle.grammar.specs.Reading.{Read, thenRead}
 use Rattle.signature_line.specs.LineReader.{refusedAt}
 use Rattle.signature_line.specs.declared.SignatureRead.{SignatureRead}
 use Rattle.one_field.specs.declared.Place.{Place}

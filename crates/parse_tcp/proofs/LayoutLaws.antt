@@ -1,18 +1,17 @@
 -- The loop over the entries of a layout: its turn, its ends; and a layout from its first entry on.
 use Prim.Native.Nat.{ℕ, zero, suc, _+_, _-_, _%_, _<_, _≤_}
 use mathlib.Core.Path.{_≡_, refl, sym, _∙_, ap}
-use mathlib.Core.Logic.{inl, inr}
-use mathlib.Core.Bool.{Bool, true, false, cond, not, false≢true}
+use mathlib.Core.Bool.{Bool, true, false, cond, not}
 use mathlib.Core.List.{List, [], _∷_, _++_, append-assoc}
 use native.Mathlib.Omega.{arith}
 use lib.Dec.{eqb}
 use lib.ListN.{length, take, drop, set, replicate, length-append}
 use lib.Seq.{drop-drop, set-append-seam}
-use borrow.Author.Tests.{eq-eqb, ne-eqb, eqb-true, eqb-false, not-true, not-false}
+use borrow.Author.Tests.{ne-eqb, eqb-true, not-true, not-false}
 use Rattle.tcp.specs.declared.Layout.{Layout}
 use Rattle.grammar.specs.Reading.{Read, moreRead}
 use Rattle.grammar.specs.States.{tableRead}
-use Rattle.grammar.specs.Table.{Said, said, Choice}
+use Rattle.grammar.specs.Table.{Said}
 use Rattle.signature_line.specs.Line.{comma}
 use Rattle.signature_line.specs.LineReader.{layoutRead}
 use Rattle.signature_line.specs.Meaning.{kindSaid, byteSaid, each, padded, layoutOf}
@@ -22,7 +21,6 @@ use Rattle.signature_line.proofs.Line.{entry-field, entry-empty, layout-field}
 use Rattle.one_field.specs.declared.Piece.{Piece}
 use Rattle.one_field.specs.declared.Place.{Place}
 use Rattle.one_field.specs.Places.{pieceOf, stateAt, pieceAt}
-use Rattle.parse_tcp.specs.declared.layout.LayoutPiece.{LayoutPiece}
 use Rattle.parse_tcp.specs.Rows.{saidBy, layoutPiece, noLayout, layoutPieceOf, layoutAt, kindByte, restByte, store, entriesOf}
 use Rattle.parse_tcp.specs.Rows.{entriesAt, entriesFrom}
 use Rattle.parse_tcp.proofs.MoreLaws.{next, one-on, more-ends, more-goes-on, more-bad, no-further}
@@ -169,7 +167,9 @@ module _ (s : List ℕ) (at : ℕ) where
       let n = entry-some g in
       rw (g, ne-eqb (read s at .count + others .count) 0 (λ z. n (omega arith)))
 
-  unread : read s at .good ≡ false → (k : Bool) → eqb (read s at .count) 0 ≡ k → layoutPieceOf at (layoutRead (drop at s)) ≡ noLayout (at + read s at .count) k
+  unread
+      : read s at .good ≡ false → (k : Bool) → eqb (read s at .count) 0 ≡ k
+      → layoutPieceOf at (layoutRead (drop at s)) ≡ noLayout (at + read s at .count) k
   unfolding layoutRead layoutPieceOf layoutOf
   unread g true z = rw (g, z) (ap (λ (i : ℕ). noLayout i true) (omega (arith, eqb-true (read s at .count) 0 z)))
   unread g false z = rw (g, z)

@@ -1,7 +1,7 @@
 -- Rows with a separator between, at a place, in the expressions that the code makes.
 use Prim.Native.Nat.{ℕ, zero, suc, _+_, _<_, _≤_}
 use mathlib.Core.Path.{_≡_, refl, sym, _∙_, ap}
-use mathlib.Core.Bool.{Bool, true, false, cond, not, false≢true}
+use mathlib.Core.Bool.{Bool, true, false, cond, false≢true}
 use mathlib.Core.List.{List, [], _∷_}
 use native.Mathlib.Omega.{arith}
 use native.Mathlib.Decide.{decLe}
@@ -111,4 +111,5 @@ module _ {A : Type 0} (f : List ℕ → Read A) (c : ℕ) (s : List ℕ) (at m :
 -- A field that took nothing ends where it began.
 pub no-further : (at n : ℕ) → eqb (at + n) at ≡ eqb n 0
 no-further at zero = rw (eq-eqb (at + 0) at (omega arith))
-no-further at (suc n) = rw (ne-eqb (at + suc n) at (λ (z : at + suc n ≡ at). omega arith), ne-eqb (suc n) 0 (λ (z : suc n ≡ 0). omega arith))
+no-further at (suc n) =
+    rw (ne-eqb (at + suc n) at (λ (z : at + suc n ≡ at). omega arith), ne-eqb (suc n) 0 (λ (z : suc n ≡ 0). omega arith))

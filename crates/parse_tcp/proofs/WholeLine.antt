@@ -1,144 +1,30 @@
 -- The whole line: the answer is read off its fields.
-use Prim.Native.Nat.{ℕ, _+_, _/_, _%_, _<_, _≤_}
+use Prim.Native.Nat.{ℕ, _/_, _%_, _<_, _≤_}
 use mathlib.Core.Path.{_≡_, refl, sym, _∙_, ap}
-use mathlib.Core.Bool.{Bool, true, false, cond, not, _&&_}
-use mathlib.Core.List.{List, [], _∷_}
+use mathlib.Core.Bool.{true, false, not}
+use mathlib.Core.List.{List}
 use native.Mathlib.Omega.{arith}
-use lib.Dec.{eqb}
 use lib.ListN.{length, drop}
 use borrow.Author.Tests.{not-true, not-false}
 use Rattle.basis.specs.Bytes.{byteAt}
 use Rattle.tcp.specs.declared.Layout.{Layout}
-use Rattle.grammar.specs.Reading.{Read, thenRead, mapRead, Judgement, means, refused, judgement}
-use Rattle.grammar.specs.States.{tableRead}
-use Rattle.grammar.specs.Table.{Said, said}
-use Rattle.signature_line.specs.Line.{colon, comma, Parts, fields, longest}
-use Rattle.signature_line.specs.LineReader.{ttlRead, layoutRead, quirksRead, afterScaleRead, afterOlenRead, partsRead, fieldsRead}
-use Rattle.signature_line.specs.LineReader.{refusedAt, readOf, readAs, answered, readLine}
+use Rattle.grammar.specs.Table.{said}
+use Rattle.signature_line.specs.Line.{colon, Parts, fields, longest}
+use Rattle.signature_line.specs.LineReader.{layoutRead, quirksRead, refusedAt, readOf, readAs, readLine}
 use Rattle.signature_line.specs.Meaning.{Fields, recordOf, layoutOf, unionFrom, meaningOf}
-use Rattle.signature_line.specs.OneRecord.{WellFormedLine}
-use Rattle.signature_line.specs.Words.{version, bareByte, mss, window, scale, payload}
+use Rattle.signature_line.specs.Words.{payload}
 use Rattle.signature_line.specs.declared.LineAnswer.the-variants as answer
 use Rattle.signature_line.specs.declared.SignatureRead.{SignatureRead}
-use Rattle.signature_line.proofs.Accepted.{short, accepted}
+use Rattle.signature_line.proofs.Accepted.{accepted}
 use Rattle.signature_line.proofs.WellFormed.{well-formed}
-use Rattle.one_field.specs.declared.Place.{Place}
-use Rattle.one_field.specs.Places.{place, behindAt}
 use Rattle.parse_tcp.specs.declared.LineFields.{LineFields}
 use Rattle.parse_tcp.specs.Rows.{saidBy}
 use Rattle.parse_tcp.specs.Stages.{versionIn, ttlIn, olenIn, mssIn, windowIn, scaleIn, layoutIn, quirksIn, payloadIn, lineFields}
 use Rattle.parse_tcp.specs.Stages.{recordBytes}
-use Rattle.parse_tcp.proofs.Chain.{finish, finishAt}
-use Rattle.parse_tcp.proofs.StageLaws.{table-stage, ttl-stage, layout-stage, quirks-stage, last-bad, last-more, last-whole}
-use Rattle.parse_tcp.proofs.StageLaws.{behind-on, field-begins, layout-same, quirks-same, quirks-begin, here}
-
--- ---- from the judgement on
-
-same-test
-    : (s : List ℕ) (x : Read Parts) (i : ℕ) → i ≡ x .count
-    → answered (judgement s (mapRead fields x)) ≡ cond (x .good && eqb i (length s)) (readAs (fields (x .value))) (refusedAt i)
-same-test s x i e = rw e (by (x .good && eqb (x .count) (length s)))
-  where
-    by : (t : Bool)
-        → answered (cond t (means (fields (x .value))) (refused (x .count))) ≡ cond t (readAs (fields (x .value))) (refusedAt (x .count))
-    by true = refl
-    by false = refl
-
-abbrev ask : Parts → SignatureRead
-ask p = readAs (fields p)
-
-begins : (s : List ℕ) → length s ≤ longest → readLine s ≡ finishAt ask s (place 0 true) partsRead
-unfolding fieldsRead finishAt finish
-begins s h = short s h ∙ same-test s (partsRead s) (0 + partsRead s .count) (omega arith)
-
--- ---- the places between the fields, and what was said before each
-
-module _ (s : List ℕ) where
-  abbrev p1 : Place
-  p1 = behindAt colon s (versionIn s .at) (versionIn s .good)
-
-  abbrev p2 : Place
-  p2 = behindAt colon s (ttlIn s .at) (ttlIn s .good)
-
-  abbrev p3 : Place
-  p3 = behindAt colon s (olenIn s .at) (olenIn s .good)
-
-  abbrev p4 : Place
-  p4 = behindAt colon s (mssIn s .at) (mssIn s .good)
-
-  abbrev p5 : Place
-  p5 = behindAt comma s (windowIn s .at) (windowIn s .good)
-
-  abbrev p6 : Place
-  p6 = behindAt colon s (scaleIn s .at) (scaleIn s .good)
-
-  abbrev p7 : Place
-  p7 = behindAt colon s (layoutIn s .at) (layoutIn s .good)
-
-  abbrev p8 : Place
-  p8 = behindAt colon s (quirksIn s .at) (quirksIn s .good)
-
-  abbrev After2 : Type 0
-  After2 = Said × (Said × (Said × (Said × (List Said × (List Said × Said)))))
-
-  abbrev k1 : (Said × Said) × After2 → SignatureRead
-  k1 u = ask (saidBy (versionIn s), u)
-
-  abbrev k2 : After2 → SignatureRead
-  k2 u = k1 ((said 0 (ttlIn s .ttl), said (ttlIn s .form) (ttlIn s .distance)), u)
-
-  abbrev k3 : Said × (Said × (Said × (List Said × (List Said × Said)))) → SignatureRead
-  k3 u = k2 (saidBy (olenIn s), u)
-
-  abbrev k4 : Said × (Said × (List Said × (List Said × Said))) → SignatureRead
-  k4 u = k3 (saidBy (mssIn s), u)
-
-  abbrev k5 : Said × (List Said × (List Said × Said)) → SignatureRead
-  k5 u = k4 (saidBy (windowIn s), u)
-
-  abbrev k6 : List Said × (List Said × Said) → SignatureRead
-  k6 u = k5 (saidBy (scaleIn s), u)
-
-  abbrev k7 : List Said × Said → SignatureRead
-  k7 u = k6 (layoutRead (drop (p6 .at) s) .value, u)
-
-  abbrev k8 : Said → SignatureRead
-  k8 u = k7 (quirksRead (drop (p7 .at) s) .value, u)
-
-  step1 : finishAt ask s (place 0 true) partsRead ≡ finishAt k1 s p1 (thenRead ttlRead colon (thenRead (tableRead bareByte) colon afterOlenRead))
-  unfolding partsRead versionIn
-  step1 = table-stage colon _ s (place 0 true) version ask
-
-  step2 : finishAt k1 s p1 (thenRead ttlRead colon (thenRead (tableRead bareByte) colon afterOlenRead)) ≡ finishAt k2 s p2 (thenRead (tableRead bareByte) colon afterOlenRead)
-  unfolding ttlIn
-  step2 = ttl-stage s p1 colon _ k1
-
-  step3 : finishAt k2 s p2 (thenRead (tableRead bareByte) colon afterOlenRead) ≡ finishAt k3 s p3 afterOlenRead
-  unfolding olenIn
-  step3 = table-stage colon _ s p2 bareByte k2
-
-  step4 : finishAt k3 s p3 afterOlenRead ≡ finishAt k4 s p4 (thenRead (tableRead window) comma (thenRead (tableRead scale) colon afterScaleRead))
-  unfolding mssIn
-  step4 = table-stage colon _ s p3 mss k3
-
-  step5 : finishAt k4 s p4 (thenRead (tableRead window) comma (thenRead (tableRead scale) colon afterScaleRead)) ≡ finishAt k5 s p5 (thenRead (tableRead scale) colon afterScaleRead)
-  unfolding windowIn
-  step5 = table-stage comma _ s p4 window k4
-
-  step6 : finishAt k5 s p5 (thenRead (tableRead scale) colon afterScaleRead) ≡ finishAt k6 s p6 afterScaleRead
-  unfolding scaleIn
-  step6 = table-stage colon _ s p5 scale k5
-
-  step7 : finishAt k6 s p6 afterScaleRead ≡ finishAt k7 s p7 (thenRead quirksRead colon (tableRead payload))
-  unfolding layoutIn
-  step7 = layout-stage s p6 colon _ k6
-
-  step8 : finishAt k7 s p7 (thenRead quirksRead colon (tableRead payload)) ≡ finishAt k8 s p8 (tableRead payload)
-  unfolding quirksIn
-  step8 = quirks-stage s p7 colon _ k7
-
-  pub read-to-the-last : length s ≤ longest → readLine s ≡ finishAt k8 s p8 (tableRead payload)
-  read-to-the-last h = begins s h ∙ step1 ∙ step2 ∙ step3 ∙ step4 ∙ step5 ∙ step6 ∙ step7 ∙ step8
+use Rattle.parse_tcp.proofs.LastStage.{field-begins, last-bad, last-more, last-whole}
+use Rattle.parse_tcp.proofs.LineStages.{p6, p7, p8, k8, read-to-the-last}
+use Rattle.parse_tcp.proofs.RowStages.{layout-same, quirks-same, quirks-begin}
+use Rattle.parse_tcp.proofs.StageLaws.{behind-on}
 
 abbrev readSo : List ℕ → Layout → SignatureRead
 readSo raw layout = record { answer = answer.Read; raw = raw; layout = layout }

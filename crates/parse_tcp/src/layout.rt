@@ -1,6 +1,6 @@
 // The layout of a line: entries with commas between them, at most 40.
 ghost use mathlib.Core.Path.{_≡_};
-ghost use Rattle.parse_tcp.specs.Rows.{saidBy, noLayout, layoutAt, entriesFrom, kindByte, restByte};
+ghost use Rattle.parse_tcp.specs.Rows.{noLayout, layoutAt, entriesFrom, kindByte, restByte};
 use one_field::Piece;
 use one_field::Place;
 use one_field::behind;

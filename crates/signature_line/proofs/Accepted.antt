@@ -2,13 +2,11 @@
 use Prim.Native.Nat.{ℕ, _+_, _<_, _≤_}
 use mathlib.Core.Path.{_≡_, refl, sym, _∙_, ap, subst}
 use mathlib.Core.Logic.{_↔_}
-use mathlib.Core.Bool.{Bool, true, false, cond}
 use mathlib.Core.List.{List}
 use native.Mathlib.Omega.{arith}
 use native.Mathlib.Decide.{decLe}
-use lib.Dec.{ltb}
 use lib.ListN.{length, take}
-use borrow.Author.Tests.{ltb-true, ltb-false, lt-ltb, le-ltb}
+use borrow.Author.Tests.{lt-ltb, le-ltb}
 use Rattle.tcp.specs.declared.Layout.{Layout}
 use Rattle.grammar.specs.Language.{GoesOn, Refused}
 use Rattle.grammar.specs.Reading.{Judgement, means, refused, judgement}
@@ -62,7 +60,8 @@ same-meaning : (m n : LineMeaning) → readOf m ≡ readOf n → m ≡ n
 same-meaning m n e =
     parts (m .raw) (n .raw) (m .layout) (n .layout) (ap (λ (r : SignatureRead). r .raw) e) (ap (λ (r : SignatureRead). r .layout) e)
   where
-    parts : (a b : List ℕ) (c d : Layout) → a ≡ b → c ≡ d → _≡_ {A = LineMeaning} (record { raw = a; layout = c }) (record { raw = b; layout = d })
+    parts : (a b : List ℕ) (c d : Layout) → a ≡ b → c ≡ d
+        → _≡_ {A = LineMeaning} (record { raw = a; layout = c }) (record { raw = b; layout = d })
     parts a b c d p q = cc
 
 -- ---- accepted exactly

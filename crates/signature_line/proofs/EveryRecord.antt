@@ -14,7 +14,7 @@ use Rattle.basis.proofs.Tests.{below}
 use Rattle.sigrecord.specs.Layout.{entriesGood}
 use Rattle.sigrecord.specs.Record.{firstEntry, entryCount, signatureOf}
 use Rattle.sigrecord.specs.WellFormed.{scalarsGood}
-use Rattle.siglist.specs.List.{recordCount, layoutCount, layoutOffset, listFits, areasOf, recordStart, recordAt}
+use Rattle.siglist.specs.List.{layoutCount, layoutOffset, listFits, areasOf, recordStart, recordAt}
 use Rattle.siglist.specs.List.{entriesFrom, entriesOf, layoutLies, recordGood}
 use Rattle.siglist.proofs.List.{areas-fit}
 use Rattle.signature_line.specs.Line.{SignatureLine}

@@ -1,24 +1,24 @@
 -- The whole line is read exactly.
-use Prim.Native.Nat.{ℕ, zero, suc, _+_, _*_, _<_, _≤_}
-use mathlib.Core.Path.{_≡_, refl, sym, _∙_}
-use mathlib.Core.Logic.{inl, inr}
-use mathlib.Core.Bool.{Bool, true, false, _&&_, false≢true}
+use Prim.Native.Nat.{ℕ, zero, suc, _+_, _*_, _≤_}
+use mathlib.Core.Path.{_≡_, refl}
+use mathlib.Core.Bool.{Bool, true, _&&_}
 use mathlib.Core.List.{List, [], _∷_}
 use native.Mathlib.Omega.{arith}
 use native.Mathlib.Decide.{decLe}
 use lib.Dec.{leb, ltb}
-use borrow.Author.Tests.{ne-eqb, le-leb, lt-ltb, lt-leb}
+use borrow.Author.Tests.{ne-eqb, lt-leb}
 use Rattle.basis.specs.Tests.{allBelow}
-use Rattle.grammar.specs.Language.{GoesOn, Then, Optional, Mapped, Listed, AnyListed}
-use Rattle.grammar.specs.Reading.{Read, thenRead}
-use Rattle.grammar.specs.States.{start, done, tableRead}
-use Rattle.grammar.specs.Table.{Row, Said, Choice}
+use Rattle.grammar.specs.Language.{GoesOn, Then}
+use Rattle.grammar.specs.States.{done, tableRead}
+use Rattle.grammar.specs.Table.{Said, Choice}
 use Rattle.grammar.proofs.Fields.{isNot, Words, join-words, then-field, join-field, map-field, listed-field, any-listed-field}
 use Rattle.grammar.proofs.Fields.{listed-words, any-listed-words}
 use Rattle.grammar.proofs.Join.{Outside}
 use Rattle.grammar.proofs.Numerals.{From, any-lives}
 use Rattle.grammar.proofs.Reading.{Field}
-use Rattle.grammar.proofs.Tables.{allApart, rowsWithin, rowsOutside, table-field, table-within, table-outside, table-empty}
+use Rattle.grammar.proofs.Apart.{allApart}
+use Rattle.grammar.proofs.Tables.{table-field, table-empty}
+use Rattle.grammar.proofs.WordBytes.{rowsWithin, rowsOutside, table-within, table-outside}
 use Rattle.signature_line.specs.Line.{colon, comma, TtlText, LayoutText, QuirksText, AfterScale, AfterOlen, fields, LineSays}
 use Rattle.signature_line.specs.LineReader.{ttlRead, layoutRead, quirksRead, afterScaleRead, afterOlenRead, partsRead, fieldsRead}
 use Rattle.signature_line.specs.Words.{version, bareByte, ttlForm, mss, window, scale, unnamed, entry, quirkWord, payload}

@@ -182,6 +182,3 @@ module _ (f : Fields) (g : FieldsGood f) where
 pub well-formed : (s : List ℕ) (m : LineMeaning) → SignatureLine s m → WellFormedLine m
 unfolding SignatureLine
 well-formed s m l = rw (l .2) (fields-well-formed (l .0) (fields-good s (l .0) (l .1)))
-
-pub read-good : (s : List ℕ) (m : LineMeaning) → SignatureLine s m → checkList (listOfOne m) ≡ answer.Good
-read-good s m l = well-formed s m l .good

@@ -10,7 +10,9 @@ use Rattle.one_field.proofs.parse_ip_version.Statement.{statement}
 use Rattle.one_field.proofs.parse_ip_version.Tie as tie
 
 returns : tie.Need-returns
-returns c = let a = c .before .before .before .before .args in c .no-piece .ensures ∙ sym (field-missing version (a .s .now) (a .from) (c .before .if1 .taken))
+returns c =
+    let a = c .before .before .before .before .args in
+    c .no-piece .ensures ∙ sym (field-missing version (a .s .now) (a .from) (c .before .if1 .taken))
 
 returns-2 : tie.Need-returns-2
 unfolding version done

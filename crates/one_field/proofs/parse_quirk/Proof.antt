@@ -11,7 +11,9 @@ use Rattle.one_field.proofs.parse_quirk.Tie as tie
 
 returns : tie.Need-returns
 unfolding quirkWord done
-returns c = let a = c .before .before .before .args in c .no-piece .ensures ∙ sym (ends (a .s .now) (a .from) (start quirkWord) (c .before .if1 .taken))
+returns c =
+    let a = c .before .before .before .args in
+    c .no-piece .ensures ∙ sym (ends (a .s .now) (a .from) (start quirkWord) (c .before .if1 .taken))
 
 read-names-requires : tie.Need-read-names-requires
 read-names-requires c κs = (omega arith, omega arith, λ e. omega arith)
@@ -35,7 +37,8 @@ returns-4 : tie.Need-returns-4
 unfolding quirkWord after
 returns-4 c =
     let a = c .before .before .before .before .before .before .before .args in
-    goes-on (a .s .now) (a .from) (start quirkWord) 101 (c .read-names .ensures) (omega arith) (c .before .before .before .match .keys3) refl refl
+    goes-on (a .s .now) (a .from) (start quirkWord) 101 (c .read-names .ensures)
+    (omega arith) (c .before .before .before .match .keys3) refl refl
 
 returns-5 : tie.Need-returns-5
 unfolding quirkWord after
@@ -65,7 +68,8 @@ returns-9 : tie.Need-returns-9
 unfolding quirkWord after
 returns-9 c =
     let a = c .before .before .before .before .before .before .before .args in
-    goes-on (a .s .now) (a .from) (start quirkWord) 117 (c .read-names2 .ensures) (omega arith) (c .before .before .before .match .keys8) refl refl
+    goes-on (a .s .now) (a .from) (start quirkWord) 117 (c .read-names2 .ensures)
+    (omega arith) (c .before .before .before .match .keys8) refl refl
 
 returns-10 : tie.Need-returns-10
 unfolding quirkWord after

@@ -11,7 +11,9 @@ use Rattle.one_field.proofs.parse_tcp_option.Tie as tie
 
 returns : tie.Need-returns
 unfolding entry done
-returns c = let a = c .before .before .before .args in c .no-piece .ensures ∙ sym (ends (a .s .now) (a .from) (start entry) (c .before .if1 .taken))
+returns c =
+    let a = c .before .before .before .args in
+    c .no-piece .ensures ∙ sym (ends (a .s .now) (a .from) (start entry) (c .before .if1 .taken))
 
 read-either-requires : tie.Need-read-either-requires
 read-either-requires c κs = (omega arith, omega arith, λ e. omega arith)
@@ -38,7 +40,8 @@ returns-5 : tie.Need-returns-5
 unfolding entry after
 returns-5 c =
     let a = c .before .before .before .before .before .before .before .args in
-    goes-on (a .s .now) (a .from) (start entry) 115 (c .read-either .ensures) (omega arith) (c .before .before .before .match .keys4) refl refl
+    goes-on (a .s .now) (a .from) (start entry) 115 (c .read-either .ensures)
+    (omega arith) (c .before .before .before .match .keys4) refl refl
 
 returns-6 : tie.Need-returns-6
 unfolding entry after

@@ -3,8 +3,6 @@ use mathlib.Core.Path.{refl, sym, _∙_}
 use native.Mathlib.Omega.{arith}
 use mathlib.Core.List.{[], _∷_}
 use Rattle.basis.proofs.Rules.{cases}
-use borrow.Author.Tests.{ne-eqb}
-use Rattle.basis.specs.Bytes.{byteAt}
 use Rattle.grammar.specs.States.{letters, start, fits, after, done}
 use Rattle.signature_line.specs.Words.{word, window}
 use Rattle.one_field.proofs.PlaceLaws.{field-missing, field-here, ends, narrow-here, goes-on, one-byte}
@@ -13,7 +11,9 @@ use Rattle.one_field.proofs.parse_window_size.Statement.{statement}
 use Rattle.one_field.proofs.parse_window_size.Tie as tie
 
 returns : tie.Need-returns
-returns c = let a = c .before .before .before .before .args in c .no-piece .ensures ∙ sym (field-missing window (a .s .now) (a .from) (c .before .if1 .taken))
+returns c =
+    let a = c .before .before .before .before .args in
+    c .no-piece .ensures ∙ sym (field-missing window (a .s .now) (a .from) (c .before .if1 .taken))
 
 returns-2 : tie.Need-returns-2
 unfolding window done

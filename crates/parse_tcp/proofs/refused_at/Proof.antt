@@ -2,7 +2,6 @@
 use mathlib.Core.Path.{refl}
 use Rattle.signature_line.specs.Meaning.{layoutOf}
 use Rattle.signature_line.specs.LineReader.{refusedAt}
-use borrow.Author.Needs.{needs}
 use Rattle.parse_tcp.proofs.refused_at.Statement.{statement}
 use Rattle.parse_tcp.proofs.refused_at.Tie as tie
 

@@ -1,7 +1,6 @@
 -- `one_field::numerals::is_unnamed` meets its contract.
 use Rattle.basis.proofs.Rules.{cases}
 use Rattle.signature_line.specs.Words.{unnamed}
-use borrow.Author.Needs.{needs}
 use Rattle.one_field.proofs.numerals.is_unnamed.Statement.{statement}
 use Rattle.one_field.proofs.numerals.is_unnamed.Tie as tie
 

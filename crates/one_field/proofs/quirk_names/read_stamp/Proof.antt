@@ -5,7 +5,7 @@ use mathlib.Core.List.{[], _∷_}
 use Rattle.quirks.specs.declared.Quirk.the-variants as quirk
 use Rattle.quirks.specs.Quirks.{bitOf}
 use Rattle.grammar.specs.Table.{nothing, row}
-use Rattle.one_field.proofs.WordLaws.{behind-word, no-word}
+use Rattle.one_field.proofs.BehindWord.{behind-word, no-word}
 use borrow.Author.Needs.{needs}
 use Rattle.one_field.proofs.quirk_names.read_stamp.Statement.{statement}
 use Rattle.one_field.proofs.quirk_names.read_stamp.Tie as tie

@@ -2,7 +2,7 @@
 use mathlib.Core.Path.{refl, sym, _∙_}
 use native.Mathlib.Omega.{arith}
 use Rattle.basis.proofs.Rules.{cases}
-use Rattle.grammar.specs.States.{start, fits, after, done}
+use Rattle.grammar.specs.States.{start, after, done}
 use Rattle.signature_line.specs.Words.{ttlForm}
 use Rattle.one_field.proofs.PlaceLaws.{ends, stays, goes-on, one-byte}
 use borrow.Author.Needs.{needs}
@@ -11,7 +11,9 @@ use Rattle.one_field.proofs.words.read_ttl_form.Tie as tie
 
 returns : tie.Need-returns
 unfolding ttlForm done
-returns c = let a = c .before .before .before .args in c .whole .ensures ∙ sym (ends (a .s .now) (a .from) (start ttlForm) (c .before .if1 .taken))
+returns c =
+    let a = c .before .before .before .args in
+    c .whole .ensures ∙ sym (ends (a .s .now) (a .from) (start ttlForm) (c .before .if1 .taken))
 
 returns-2 : tie.Need-returns-2
 unfolding ttlForm after

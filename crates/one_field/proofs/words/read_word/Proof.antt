@@ -1,5 +1,5 @@
 -- `one_field::words::read_word` meets its contract.
-use Prim.Native.Nat.{_+_, _-_}
+use Prim.Native.Nat.{_-_}
 use mathlib.Core.Path.{_≡_, refl, _∙_}
 use native.Mathlib.Omega.{arith}
 use lib.ListN.{length, drop}
@@ -31,14 +31,17 @@ returns-2 c =
     let a = c .before .before .before .before .before .before .before .before .before .args in
     let l = c .before .before .before .before .before .before .loop in
     c .no-piece2 .ensures
-    ∙ word-stop (a .s .now) (l .at) (a .word .now) (l .i) (a .form) (c .before .before .before .before .before .loop-test .taken) (omega arith) (c .before .if2 .taken)
+    ∙ word-stop (a .s .now) (l .at) (a .word .now) (l .i) (a .form) (c .before .before .before .before .before .loop-test .taken)
+    (omega arith) (c .before .if2 .taken)
     ∙ l .inv
 
 loop-again : tie.Need-loop-again Inv-loop μ-loop
 loop-again c =
     let a = c .before .before .before .before .before .before .before .before .args in
     let l = c .before .before .before .before .before .loop in
-    word-turn (a .s .now) (l .at) (a .word .now) (l .i) (a .form) (c .before .before .before .before .loop-test .taken) (omega arith) (c .if2 .left) ∙ l .inv
+    word-turn (a .s .now) (l .at) (a .word .now) (l .i) (a .form) (c .before .before .before .before .loop-test .taken)
+    (omega arith) (c .if2 .left)
+    ∙ l .inv
 
 returns-3 : tie.Need-returns-3 Inv-loop μ-loop
 returns-3 c =

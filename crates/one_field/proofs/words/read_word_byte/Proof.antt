@@ -1,7 +1,7 @@
 -- `one_field::words::read_word_byte` meets its contract.
 use mathlib.Core.Path.{_∙_}
 use Rattle.signature_line.specs.Words.{byte}
-use Rattle.one_field.proofs.WordLaws.{tail-behind, no-tail}
+use Rattle.one_field.proofs.BehindWord.{tail-behind, no-tail}
 use borrow.Author.Needs.{needs}
 use Rattle.one_field.proofs.words.read_word_byte.Statement.{statement}
 use Rattle.one_field.proofs.words.read_word_byte.Tie as tie

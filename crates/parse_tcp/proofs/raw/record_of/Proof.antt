@@ -2,7 +2,6 @@
 use mathlib.Core.Path.{refl}
 use native.Mathlib.Omega.{arith}
 use Rattle.parse_tcp.specs.Stages.{recordBytes}
-use borrow.Author.Needs.{needs}
 use Rattle.parse_tcp.proofs.raw.record_of.Statement.{statement}
 use Rattle.parse_tcp.proofs.raw.record_of.Tie as tie
 
