@@ -10,7 +10,6 @@ pub mod First
 pub mod Fit
 pub mod Honesty
 pub mod Lines
-pub mod LineValues
 pub mod NotFree
 pub mod Observation
 pub mod OnPaper

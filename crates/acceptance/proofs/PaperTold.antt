@@ -16,7 +16,7 @@ use Rattle.siglist.specs.declared.Header.the-variants as header
 use Rattle.siglist.specs.declared.ListAnswer.the-variants as list
 use Rattle.siglist.specs.List.{headerVerdict, listVerdict}
 use Rattle.signature_line.specs.declared.LineAnswer.the-variants as line
-use Rattle.signature_line.specs.LineReader.{lineVerdict}
+use Rattle.signature_line.specs.Answer.{lineVerdict}
 use Rattle.search.specs.declared.SearchAnswer.the-variants as search
 use Rattle.search.specs.Search.{searchVerdict}
 use Rattle.packet_answer.specs.declared.PacketAnswer.the-variants as packet

@@ -3,7 +3,7 @@ use Rattle.signature_line.proofs.Accepted.{accepted, one-meaning, refused-exact
 use Rattle.signature_line.proofs.EveryRecord.{every-record}
 use Rattle.signature_line.proofs.WellFormed.{well-formed}
 use Rattle.acceptance.specs.TextLines.{TextLines}
-use Rattle.acceptance.proofs.LineValues.{line-values}
+use Rattle.signature_line.proofs.LineValues.{line-values}
 
 pub text-lines : TextLines
 text-lines =

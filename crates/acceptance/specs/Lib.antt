@@ -6,7 +6,6 @@ pub mod Demand3
 pub mod Honesty
 pub mod Lent
 pub mod Lines
-pub mod LineValues
 pub mod NotFree
 pub mod OnPaper
 pub mod Outcome

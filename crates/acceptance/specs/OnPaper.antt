@@ -20,7 +20,8 @@ use Rattle.siglist.specs.declared.ListAnswer.{ListAnswer}
 use Rattle.siglist.specs.List.{headerOf, checkList, headerVerdict, listVerdict}
 use Rattle.signature_line.specs.declared.LineAnswer.{LineAnswer}
 use Rattle.signature_line.specs.Line.{LineRefused}
-use Rattle.signature_line.specs.LineReader.{readLine, lineVerdict}
+use Rattle.signature_line.specs.Answer.{lineVerdict}
+use Rattle.signature_line.specs.LineReader.{readLine}
 use Rattle.search.specs.declared.SearchAnswer.{SearchAnswer}
 use Rattle.search.specs.Search.{searchList, searchVerdict}
 use Rattle.packet_answer.specs.declared.PacketAnswer.{PacketAnswer}

@@ -11,10 +11,11 @@ use Rattle.gateway.specs.Decode.{AllBytes}
 use Rattle.siglist.specs.List.{listFits, recordGood}
 use Rattle.signature_line.specs.declared.LineAnswer.the-variants as answer
 use Rattle.signature_line.specs.Line.{SignatureLine, longest, LineRefused}
-use Rattle.signature_line.specs.LineReader.{readOf, refusedAt, readLine}
+use Rattle.signature_line.specs.Answer.{readOf, refusedAt}
+use Rattle.signature_line.specs.LineReader.{readLine}
 use Rattle.signature_line.specs.Meaning.{LineMeaning}
 use Rattle.signature_line.specs.OneRecord.{WellFormedLine, HasLine}
-use Rattle.acceptance.specs.LineValues.{LineValues}
+use Rattle.signature_line.specs.LineValues.{LineValues}
 
 pub record TextLines : Type 0 where
   -- "What is accepted is exactly the written grammar": this record and layout are read exactly if the line, of at most 512 bytes, means

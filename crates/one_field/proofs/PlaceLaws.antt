@@ -15,7 +15,7 @@ use Rattle.grammar.specs.States.{Awaited, letters, after, isNil, run, left, Don
 use Rattle.grammar.specs.Table.{nothing, Row, Said}
 use Rattle.signature_line.specs.Words.{bareByte, ttlForm}
 use Rattle.one_field.specs.declared.Piece.{Piece}
-use Rattle.one_field.specs.declared.Place.{Place}
+use Rattle.one_field.specs.declared.LinePlace.{LinePlace}
 use Rattle.one_field.specs.Places.{piece, noPiece, pieceOf, stateAt, pieceAt, wordAt}
 use Rattle.one_field.specs.Places.{place, fieldAt, behindAt, noTtl, ttlPiece, ttlAt}
 
@@ -119,7 +119,7 @@ one-byte s at states b form h q a =
 
 -- ---- a field, where the line goes on or does not
 
-module _ (rows : List Row) (s : List ℕ) (from : Place) where
+module _ (rows : List Row) (s : List ℕ) (from : LinePlace) where
   pub field-here : not (from .good) ≡ false → fieldAt rows s from ≡ pieceAt rows s (from .at)
   unfolding fieldAt
   field-here h = rw (not-false (from .good) h)
@@ -149,7 +149,7 @@ module _ (byte : ℕ) (s : List ℕ) (at : ℕ) (good : Bool) where
 
 -- ---- a TTL, over what the calls gave
 
-module _ (s : List ℕ) (from : Place) (ttl : Piece) (e : ttl ≡ fieldAt bareByte s from) where
+module _ (s : List ℕ) (from : LinePlace) (ttl : Piece) (e : ttl ≡ fieldAt bareByte s from) where
   pub ttl-missing : not (ttl .good) ≡ true → noTtl (ttl .at) ≡ ttlAt s from
   unfolding ttlAt
   ttl-missing h = rw (← e, not-true (ttl .good) h)

@@ -12,9 +12,9 @@ use Rattle.grammar.specs.Numeral.{any, decimalValue}
 use Rattle.grammar.specs.Reading.{Read}
 use Rattle.grammar.specs.States.{Awaited, letters, start, span, statesRead}
 use Rattle.grammar.specs.Table.{nothing, numeral, Row, row, Said}
-use Rattle.signature_line.specs.Words.{byte, bareByte, ttlForm}
+use Rattle.signature_line.specs.Words.{upTo255, bareByte, ttlForm}
 use Rattle.one_field.specs.declared.Piece.{Piece}
-use Rattle.one_field.specs.declared.Place.{Place}
+use Rattle.one_field.specs.declared.LinePlace.{LinePlace}
 use Rattle.one_field.specs.declared.TtlPiece.{TtlPiece}
 use Rattle.one_field.specs.declared.numerals.Taken.{Taken}
 
@@ -40,7 +40,7 @@ abbrev pub pieceAt : List Row → List ℕ → ℕ → Piece
 pieceAt rows = stateAt (start rows)
 
 -- A field, where the line goes on.
-unfoldable pub fieldAt : List Row → List ℕ → Place → Piece
+unfoldable pub fieldAt : List Row → List ℕ → LinePlace → Piece
 fieldAt rows s from = cond (from .good) (pieceAt rows s (from .at)) (noPiece (from .at))
 
 -- `*`, or a number up to a bound.
@@ -48,10 +48,10 @@ abbrev pub starred : ℕ → List Row
 starred max = row (ascii "*") 0 nothing ∷ row (ascii "") 1 (numeral max any) ∷ []
 
 -- The place behind a byte.
-abbrev pub place : ℕ → Bool → Place
+abbrev pub place : ℕ → Bool → LinePlace
 place at good = record { at = at; good = good }
 
-unfoldable pub behindAt : ℕ → List ℕ → ℕ → Bool → Place
+unfoldable pub behindAt : ℕ → List ℕ → ℕ → Bool → LinePlace
 behindAt byte s at good = cond (good && ltb at (length s) && eqb (byteAt s at) byte) (place (at + 1) true) (place at false)
 
 abbrev pub noTtl : ℕ → TtlPiece
@@ -61,7 +61,7 @@ abbrev pub ttlPiece : Piece → Piece → TtlPiece
 ttlPiece ttl form =
     record { at = form .at; good = form .good; ttl = ttl .number; form = form .form; distance = form .number }
 
-unfoldable pub ttlAt : List ℕ → Place → TtlPiece
+unfoldable pub ttlAt : List ℕ → LinePlace → TtlPiece
 ttlAt s from =
     let ttl = fieldAt bareByte s from in
     cond (ttl .good) (ttlPiece ttl (pieceAt ttlForm s (ttl .at))) (noTtl (ttl .at))
@@ -80,18 +80,18 @@ abbrev pub wordAt : List ℕ → ℕ → List ℕ → ℕ → Piece
 wordAt word form = stateAt (letters word form nothing ∷ [])
 
 abbrev pub wordByteAt : List ℕ → ℕ → List ℕ → ℕ → Piece
-wordByteAt word form = stateAt (letters word form byte ∷ [])
+wordByteAt word form = stateAt (letters word form upTo255 ∷ [])
 
 abbrev pub eitherAt : List ℕ → ℕ → List ℕ → ℕ → List ℕ → ℕ → Piece
 eitherAt one form other other-form = stateAt (letters one form nothing ∷ letters other other-form nothing ∷ [])
 
 -- Behind the `+` of a TTL.
 abbrev pub plusAt : List ℕ → ℕ → Piece
-plusAt = stateAt (letters [] 1 byte ∷ letters (ascii "?") 2 nothing ∷ [])
+plusAt = stateAt (letters [] 1 upTo255 ∷ letters (ascii "?") 2 nothing ∷ [])
 
 -- Behind the `m` of a multiple.
 abbrev pub multipleAt : List ℕ → ℕ → Piece
-multipleAt = stateAt (letters (ascii "ss*") 3 byte ∷ letters (ascii "tu*") 4 byte ∷ [])
+multipleAt = stateAt (letters (ascii "ss*") 3 upTo255 ∷ letters (ascii "tu*") 4 upTo255 ∷ [])
 
 -- A word, then `+` or `-`.
 abbrev pub signedAt : List ℕ → ℕ → ℕ → List ℕ → ℕ → Piece

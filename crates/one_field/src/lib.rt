@@ -22,7 +22,7 @@ mod quirk_names;
 mod words;
 
 // Where a line was read up to, and whether it goes on from there.
-pub struct Place {
+pub struct LinePlace {
     pub at: usize,
     pub good: bool,
 }
@@ -70,35 +70,35 @@ pub(crate) fn whole(at: usize, form: u32) -> Piece
 }
 
 // The place behind a byte that must stand after a field.
-pub fn behind(s: &[u8], at: usize, good: bool, byte: u8) -> Place
+pub fn behind(s: &[u8], at: usize, good: bool, byte: u8) -> LinePlace
     ensures { λ r. ⌜ r ≡ behindAt byte (now (s .entry)) at good ⌝ }
 {
     if !good {
-        return Place {
+        return LinePlace {
             at: at,
             good: false,
         };
     }
     if s.len() <= at {
-        return Place {
+        return LinePlace {
             at: at,
             good: false,
         };
     }
     if s[at] != byte {
-        return Place {
+        return LinePlace {
             at: at,
             good: false,
         };
     }
-    Place {
+    LinePlace {
         at: at + 1,
         good: true,
     }
 }
 
 // `4`, `6` or `*`.
-pub fn parse_ip_version(s: &[u8], from: Place) -> Piece
+pub fn parse_ip_version(s: &[u8], from: LinePlace) -> Piece
     ensures { λ r. ⌜ r ≡ fieldAt version (now (s .entry)) from ⌝ }
 {
     let at = from.at;
@@ -118,7 +118,7 @@ pub fn parse_ip_version(s: &[u8], from: Place) -> Piece
 }
 
 // A number up to 255.
-pub fn parse_olen(s: &[u8], from: Place) -> Piece
+pub fn parse_olen(s: &[u8], from: LinePlace) -> Piece
     ensures { λ r. ⌜ r ≡ fieldAt bareByte (now (s .entry)) from ⌝ }
 {
     if !from.good {
@@ -128,7 +128,7 @@ pub fn parse_olen(s: &[u8], from: Place) -> Piece
 }
 
 // A number up to 255, then nothing, `+` and a distance, `+?` or `-`.
-pub fn parse_ttl(s: &[u8], from: Place) -> TtlPiece
+pub fn parse_ttl(s: &[u8], from: LinePlace) -> TtlPiece
     ensures { λ r. ⌜ r ≡ ttlAt (now (s .entry)) from ⌝ }
 {
     let ttl = parse_olen(s, from);
@@ -152,7 +152,7 @@ pub fn parse_ttl(s: &[u8], from: Place) -> TtlPiece
 }
 
 // `*`, or a number up to a bound.
-fn read_starred(s: &[u8], from: Place, max: u32) -> Piece
+fn read_starred(s: &[u8], from: LinePlace, max: u32) -> Piece
     requires { ⌜ max ≤ 65535 ⌝ }
     ensures { λ r. ⌜ r ≡ fieldAt (starred max) (now (s .entry)) from ⌝ }
 {
@@ -170,21 +170,21 @@ fn read_starred(s: &[u8], from: Place, max: u32) -> Piece
 }
 
 // `*`, or a number up to 65535.
-pub fn parse_mss(s: &[u8], from: Place) -> Piece
+pub fn parse_mss(s: &[u8], from: LinePlace) -> Piece
     ensures { λ r. ⌜ r ≡ fieldAt mss (now (s .entry)) from ⌝ }
 {
     read_starred(s, from, 65535)
 }
 
 // `*`, or a number up to 255.
-pub fn parse_wscale(s: &[u8], from: Place) -> Piece
+pub fn parse_wscale(s: &[u8], from: LinePlace) -> Piece
     ensures { λ r. ⌜ r ≡ fieldAt scale (now (s .entry)) from ⌝ }
 {
     read_starred(s, from, 255)
 }
 
 // `*`, a number up to 65535, `%` and one, `mss*` or `mtu*` and a number up to 255.
-pub fn parse_window_size(s: &[u8], from: Place) -> Piece
+pub fn parse_window_size(s: &[u8], from: LinePlace) -> Piece
     ensures { λ r. ⌜ r ≡ fieldAt window (now (s .entry)) from ⌝ }
 {
     let at = from.at;
@@ -258,7 +258,7 @@ pub fn parse_quirk(s: &[u8], from: usize) -> Piece
 }
 
 // `0`, `+` or `*`.
-pub fn parse_payload_size(s: &[u8], from: Place) -> Piece
+pub fn parse_payload_size(s: &[u8], from: LinePlace) -> Piece
     ensures { λ r. ⌜ r ≡ fieldAt payload (now (s .entry)) from ⌝ }
 {
     let at = from.at;

@@ -8,9 +8,9 @@ use lib.Dec.{eqb}
 use lib.ListN.{length, drop}
 use lib.Seq.{drop-drop}
 use Rattle.grammar.specs.Reading.{Read, thenRead}
-use Rattle.signature_line.specs.LineReader.{refusedAt}
+use Rattle.signature_line.specs.Answer.{refusedAt}
 use Rattle.signature_line.specs.declared.SignatureRead.{SignatureRead}
-use Rattle.one_field.specs.declared.Place.{Place}
+use Rattle.one_field.specs.declared.LinePlace.{LinePlace}
 use Rattle.one_field.specs.Places.{place, behindAt}
 use Rattle.parse_tcp.proofs.MoreLaws.{next, one-on, stays-put, behind-read, behind-unread}
 
@@ -18,7 +18,7 @@ use Rattle.parse_tcp.proofs.MoreLaws.{next, one-on, stays-put, behind-r
 unfoldable pub finish : {A : Type 0} → (A → SignatureRead) → List ℕ → ℕ → Read A → SignatureRead
 finish k s at x = cond (x .good && eqb (at + x .count) (length s)) (k (x .value)) (refusedAt (at + x .count))
 
-unfoldable pub finishAt : {A : Type 0} → (A → SignatureRead) → List ℕ → Place → (List ℕ → Read A) → SignatureRead
+unfoldable pub finishAt : {A : Type 0} → (A → SignatureRead) → List ℕ → LinePlace → (List ℕ → Read A) → SignatureRead
 finishAt k s p h = cond (p .good) (finish k s (p .at) (h (drop (p .at) s))) (refusedAt (p .at))
 
 not-behind : (c : ℕ) (s : List ℕ) (at : ℕ) → behindAt c s at false ≡ place at false
@@ -32,14 +32,14 @@ same-finish k s i j good v e = rw e
 
 module _ {A B : Type 0} (f : List ℕ → Read A) (c : ℕ) (g : List ℕ → Read B) (k : A × B → SignatureRead) (s : List ℕ) where
   -- What the rest gives, with the field's value.
-  abbrev rest : A → Place → SignatureRead
+  abbrev rest : A → LinePlace → SignatureRead
   rest v p = finishAt (λ (u : B). k (v, u)) s p g
 
   module _ (at : ℕ) where
     abbrev x : Read A
     x = f (drop at s)
 
-    abbrev p : Place
+    abbrev p : LinePlace
     p = next c s (at + x .count)
 
     bad : x .good ≡ false → finish k s at (thenRead f c g (drop at s)) ≡ rest (x .value) (behindAt c s (at + x .count) (x .good))

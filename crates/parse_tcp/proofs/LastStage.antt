@@ -8,16 +8,16 @@ use lib.ListN.{length}
 use borrow.Author.Tests.{eq-eqb, ne-eqb}
 use Rattle.grammar.specs.States.{tableRead}
 use Rattle.grammar.specs.Table.{Row, Said}
-use Rattle.signature_line.specs.LineReader.{refusedAt}
+use Rattle.signature_line.specs.Answer.{refusedAt}
 use Rattle.signature_line.specs.declared.SignatureRead.{SignatureRead}
 use Rattle.one_field.specs.declared.Piece.{Piece}
-use Rattle.one_field.specs.declared.Place.{Place}
+use Rattle.one_field.specs.declared.LinePlace.{LinePlace}
 use Rattle.one_field.specs.Places.{noPiece, pieceOf, stateAt, fieldAt}
-use Rattle.parse_tcp.specs.Rows.{saidBy}
+use Rattle.parse_tcp.specs.RowPieces.{saidBy}
 use Rattle.parse_tcp.proofs.Chain.{finish, finishAt}
 use Rattle.parse_tcp.proofs.StageLaws.{nowhere}
 
-module _ (rows : List Row) (k : Said → SignatureRead) (s : List ℕ) (p : Place) where
+module _ (rows : List Row) (k : Said → SignatureRead) (s : List ℕ) (p : LinePlace) where
   field-off : p .good ≡ false → fieldAt rows s p ≡ noPiece (p .at)
   unfolding fieldAt
   field-off e = rw e

@@ -19,10 +19,10 @@ use Rattle.signature_line.specs.Words.{entry}
 use Rattle.signature_line.proofs.FieldsGood.{EntryGood, entry-good, layout-good}
 use Rattle.signature_line.proofs.Line.{entry-field, entry-empty, layout-field}
 use Rattle.one_field.specs.declared.Piece.{Piece}
-use Rattle.one_field.specs.declared.Place.{Place}
+use Rattle.one_field.specs.declared.LinePlace.{LinePlace}
 use Rattle.one_field.specs.Places.{pieceOf, stateAt, pieceAt}
-use Rattle.parse_tcp.specs.Rows.{saidBy, layoutPiece, noLayout, layoutPieceOf, layoutAt, kindByte, restByte, store, entriesOf}
-use Rattle.parse_tcp.specs.Rows.{entriesAt, entriesFrom}
+use Rattle.parse_tcp.specs.RowPieces.{saidBy, layoutPiece, noLayout, layoutPieceOf, layoutAt, kindByte, restByte, store, keptOf}
+use Rattle.parse_tcp.specs.RowPieces.{keptAt, keptFrom}
 use Rattle.parse_tcp.proofs.MoreLaws.{next, one-on, more-ends, more-goes-on, more-bad, no-further}
 
 -- ---- an entry in its two bytes
@@ -61,9 +61,9 @@ same-stored a b m n kinds bytes p q = rw (p, q)
 
 one-entry
     : (n : ℕ) (kinds bytes : List ℕ) (at k c : ℕ) (v : Said) (g : Bool) (vs : List Said)
-    → entriesOf n kinds bytes at (record { count = suc (k + c); good = g; value = v ∷ vs })
-    ≡ entriesOf (n + 1) (set kinds n (kindSaid v)) (set bytes n (byteSaid v)) (at + 1 + k) (record { count = c; good = g; value = vs })
-unfolding entriesOf store
+    → keptOf n kinds bytes at (record { count = suc (k + c); good = g; value = v ∷ vs })
+    ≡ keptOf (n + 1) (set kinds n (kindSaid v)) (set bytes n (byteSaid v)) (at + 1 + k) (record { count = c; good = g; value = vs })
+unfolding keptOf store
 one-entry n kinds bytes at k c v true vs =
     same-stored _ _ _ _ (store kindSaid (set kinds n (kindSaid v)) (n + 1) vs) (store byteSaid (set bytes n (byteSaid v)) (n + 1) vs)
     (omega arith) (omega arith)
@@ -75,8 +75,8 @@ one-more n h = omega arith
 turned
     : (n : ℕ) (kinds bytes s : List ℕ) (at : ℕ) → n < 40 → next comma s at .good ≡ true → pieceAt entry s (at + 1) .good ≡ true
     → (let v = read s (at + 1) .value in
-    entriesAt (n + 1) (set kinds n (kindSaid v)) (set bytes n (byteSaid v)) s (pieceAt entry s (at + 1) .at) ≡ entriesAt n kinds bytes s at)
-unfolding entriesAt stateAt pieceOf
+    keptAt (n + 1) (set kinds n (kindSaid v)) (set bytes n (byteSaid v)) s (pieceAt entry s (at + 1) .at) ≡ keptAt n kinds bytes s at)
+unfolding keptAt stateAt pieceOf
 turned n kinds bytes s at below q g =
     let x = read s (at + 1) in
     sym
@@ -84,13 +84,13 @@ turned n kinds bytes s at below q g =
     (one-entry n kinds bytes at (x .count) _ (x .value) _ _))
 
 module _ (n : ℕ) (kinds bytes s : List ℕ) (at : ℕ) where
-  pub entries-full : n ≡ 40 → layoutPiece at true (stored n kinds bytes) ≡ entriesAt n kinds bytes s at
-  unfolding entriesAt entriesOf store
+  pub entries-full : n ≡ 40 → layoutPiece at true (stored n kinds bytes) ≡ keptAt n kinds bytes s at
+  unfolding keptAt keptOf store
   entries-full e = rw e (same-stored _ _ _ _ kinds bytes (omega arith) (omega arith))
 
-  module _ (below : n < 40) (p : Place) (ep : p ≡ next comma s at) where
-    pub entries-end : not (p .good) ≡ true → layoutPiece at true (stored n kinds bytes) ≡ entriesAt n kinds bytes s at
-    unfolding entriesAt entriesOf store
+  module _ (below : n < 40) (p : LinePlace) (ep : p ≡ next comma s at) where
+    pub entries-end : not (p .good) ≡ true → layoutPiece at true (stored n kinds bytes) ≡ keptAt n kinds bytes s at
+    unfolding keptAt keptOf store
     entries-end h =
         let q : next comma s at .good ≡ false = rw ep at (not-true (p .good) h) in
         rw (one-more n below, more-ends (tableRead entry) comma s at (40 - (n + 1)) q)
@@ -106,8 +106,8 @@ module _ (n : ℕ) (kinds bytes s : List ℕ) (at : ℕ) where
       e-at : e ≡ pieceAt entry s (at + 1)
       e-at = rw on at ee
 
-      pub entries-bad : not (e .good) ≡ true → noLayout (e .at) false ≡ entriesAt n kinds bytes s at
-      unfolding entriesAt entriesOf stateAt pieceOf
+      pub entries-bad : not (e .good) ≡ true → noLayout (e .at) false ≡ keptAt n kinds bytes s at
+      unfolding keptAt keptOf stateAt pieceOf
       entries-bad h =
           let g : read s (at + 1) .good ≡ false = rw e-at at (not-true (e .good) h) in
           rw (e-at, one-more n below, more-bad (tableRead entry) comma s at (40 - (n + 1)) q g)
@@ -115,7 +115,7 @@ module _ (n : ℕ) (kinds bytes s : List ℕ) (at : ℕ) where
 
       pub entries-turn
           : not (e .good) ≡ false
-          → entriesAt (n + 1) (set kinds n (kindByte e)) (set bytes n (restByte e)) s (e .at) ≡ entriesAt n kinds bytes s at
+          → keptAt (n + 1) (set kinds n (kindByte e)) (set bytes n (restByte e)) s (e .at) ≡ keptAt n kinds bytes s at
       entries-turn h =
           let b : pieceAt entry s (at + 1) .good ≡ true = rw e-at at (not-false (e .good) h) in
           rw (e-at, kind-fits s (at + 1) b, byte-fits s (at + 1) b) (turned n kinds bytes s at below q b)
@@ -182,9 +182,9 @@ same-layout a b m n kinds bytes kinds′ bytes′ p q r w = rw (p, q, r, w)
 
 first-stored
     : (at k : ℕ) (v : Said) (y : Read (List Said)) → (y .good ≡ true → length (v ∷ y .value) ≤ 40)
-    → entriesOf 1 (set (replicate 40 0) 0 (kindSaid v)) (set (replicate 40 0) 0 (byteSaid v)) (at + k) y
+    → keptOf 1 (set (replicate 40 0) 0 (kindSaid v)) (set (replicate 40 0) 0 (byteSaid v)) (at + k) y
     ≡ layoutPieceOf at (record { count = k + y .count; good = y .good; value = v ∷ y .value })
-unfolding entriesOf layoutPieceOf layoutOf store
+unfolding keptOf layoutPieceOf layoutOf store
 first-stored at k v y h = by (y .good) refl
   where
     kept : Layout
@@ -206,16 +206,16 @@ few-entries q g = layout-good (take (layoutRead q .count) q) (layoutRead q .valu
 from-first
     : (s : List ℕ) (at : ℕ) → pieceAt entry s at .good ≡ true
     → (let v = read s at .value in
-    entriesAt 1 (set (replicate 40 0) 0 (kindSaid v)) (set (replicate 40 0) 0 (byteSaid v)) s (pieceAt entry s at .at)
+    keptAt 1 (set (replicate 40 0) 0 (kindSaid v)) (set (replicate 40 0) 0 (byteSaid v)) s (pieceAt entry s at .at)
     ≡ layoutPieceOf at (layoutRead (drop at s)))
-unfolding entriesAt stateAt pieceOf
+unfolding keptAt stateAt pieceOf
 from-first s at g =
     let q = layout-read s at g in
     rw (← drop-drop (read s at .count) at s)
     (first-stored at (read s at .count) (read s at .value) (others s at) (λ h. rw q at (few-entries (drop at s) (rw q h)))
     ∙ ap (layoutPieceOf at) (sym q))
 
-module _ (s : List ℕ) (from : Place) where
+module _ (s : List ℕ) (from : LinePlace) where
   pub layout-missing : not (from .good) ≡ true → noLayout (from .at) false ≡ layoutAt s from
   unfolding layoutAt
   layout-missing h = rw (not-true (from .good) h)
@@ -231,7 +231,7 @@ module _ (s : List ℕ) (from : Place) where
         let k = read s (from .at) .count in
         rw (e, no-further (from .at) k) (sym (unread s (from .at) (rw e at g) (eqb k 0) refl)) ∙ here
 
-    pub layout-some : first .good ≡ true → entriesFrom s first ≡ layoutAt s from
+    pub layout-some : first .good ≡ true → keptFrom s first ≡ layoutAt s from
     layout-some g =
         let b : pieceAt entry s (from .at) .good ≡ true = rw e at g in
         rw (e, kind-fits s (from .at) b, byte-fits s (from .at) b) (from-first s (from .at) b) ∙ here
@@ -239,11 +239,11 @@ module _ (s : List ℕ) (from : Place) where
 -- The first entry's two bytes, as the calls gave them.
 pub begun
     : (s : List ℕ) (at kind kind′ byte byte′ : ℕ) → kind ≡ kind′ → byte ≡ byte′
-    → entriesAt 1 (set (replicate 40 0) 0 kind) (set (replicate 40 0) 0 byte) s at
-    ≡ entriesAt 1 (set (replicate 40 0) 0 kind′) (set (replicate 40 0) 0 byte′) s at
+    → keptAt 1 (set (replicate 40 0) 0 kind) (set (replicate 40 0) 0 byte) s at
+    ≡ keptAt 1 (set (replicate 40 0) 0 kind′) (set (replicate 40 0) 0 byte′) s at
 begun s at kind kind′ byte byte′ p q = rw (p, q)
 
 pub stored-as
     : (n : ℕ) (kinds bytes s : List ℕ) (at kind kind′ byte byte′ : ℕ) → kind ≡ kind′ → byte ≡ byte′
-    → entriesAt (n + 1) (set kinds n kind) (set bytes n byte) s at ≡ entriesAt (n + 1) (set kinds n kind′) (set bytes n byte′) s at
+    → keptAt (n + 1) (set kinds n kind) (set bytes n byte) s at ≡ keptAt (n + 1) (set kinds n kind′) (set bytes n byte′) s at
 stored-as n kinds bytes s at kind kind′ byte byte′ p q = rw (p, q)

@@ -11,14 +11,15 @@ use Rattle.grammar.specs.States.{tableRead}
 use Rattle.grammar.specs.Table.{Said, said}
 use Rattle.signature_line.specs.Line.{colon, comma, Parts, fields, longest}
 use Rattle.signature_line.specs.LineReader.{ttlRead, layoutRead, quirksRead, afterScaleRead, afterOlenRead, partsRead, fieldsRead}
-use Rattle.signature_line.specs.LineReader.{refusedAt, readAs, answered, readLine}
+use Rattle.signature_line.specs.Answer.{refusedAt}
+use Rattle.signature_line.specs.LineReader.{readAs, answered, readLine}
 use Rattle.signature_line.specs.Words.{version, bareByte, mss, window, scale, payload}
 use Rattle.signature_line.specs.declared.SignatureRead.{SignatureRead}
 use Rattle.signature_line.proofs.Accepted.{short}
-use Rattle.one_field.specs.declared.Place.{Place}
+use Rattle.one_field.specs.declared.LinePlace.{LinePlace}
 use Rattle.one_field.specs.Places.{place, behindAt}
-use Rattle.parse_tcp.specs.Rows.{saidBy}
-use Rattle.parse_tcp.specs.Stages.{versionIn, ttlIn, olenIn, mssIn, windowIn, scaleIn, layoutIn, quirksIn}
+use Rattle.parse_tcp.specs.RowPieces.{saidBy}
+use Rattle.parse_tcp.specs.LineParts.{versionIn, ttlIn, olenIn, mssIn, windowIn, scaleIn, layoutIn, quirksIn}
 use Rattle.parse_tcp.proofs.Chain.{finish, finishAt}
 use Rattle.parse_tcp.proofs.RowStages.{layout-stage, quirks-stage}
 use Rattle.parse_tcp.proofs.StageLaws.{table-stage}
@@ -63,28 +64,28 @@ afterMssRead = thenRead (tableRead window) comma afterWindowRead
 -- ---- the places between the fields, and what was said before each
 
 module _ (s : List ℕ) where
-  abbrev p1 : Place
+  abbrev p1 : LinePlace
   p1 = behindAt colon s (versionIn s .at) (versionIn s .good)
 
-  abbrev p2 : Place
+  abbrev p2 : LinePlace
   p2 = behindAt colon s (ttlIn s .at) (ttlIn s .good)
 
-  abbrev p3 : Place
+  abbrev p3 : LinePlace
   p3 = behindAt colon s (olenIn s .at) (olenIn s .good)
 
-  abbrev p4 : Place
+  abbrev p4 : LinePlace
   p4 = behindAt colon s (mssIn s .at) (mssIn s .good)
 
-  abbrev p5 : Place
+  abbrev p5 : LinePlace
   p5 = behindAt comma s (windowIn s .at) (windowIn s .good)
 
-  abbrev pub p6 : Place
+  abbrev pub p6 : LinePlace
   p6 = behindAt colon s (scaleIn s .at) (scaleIn s .good)
 
-  abbrev pub p7 : Place
+  abbrev pub p7 : LinePlace
   p7 = behindAt colon s (layoutIn s .at) (layoutIn s .good)
 
-  abbrev pub p8 : Place
+  abbrev pub p8 : LinePlace
   p8 = behindAt colon s (quirksIn s .at) (quirksIn s .good)
 
   abbrev k1 : (Said × Said) × After2 → SignatureRead

@@ -13,15 +13,15 @@ use borrow.Author.Tests.{lt-ltb, le-ltb, eq-eqb, ne-eqb}
 use Rattle.basis.specs.Bytes.{byteAt}
 use Rattle.grammar.specs.Language.{cons}
 use Rattle.grammar.specs.Reading.{Read, later, behindRead, joinRead, mapRead, moreRead}
-use Rattle.one_field.specs.declared.Place.{Place}
+use Rattle.one_field.specs.declared.LinePlace.{LinePlace}
 use Rattle.one_field.specs.Places.{place, behindAt}
 
 -- What the byte behind tells: it stands there, or the line has ended, or another does.
 module _ (c : ℕ) (s : List ℕ) (at : ℕ) where
-  abbrev pub next : Place
+  abbrev pub next : LinePlace
   next = behindAt c s at true
 
-  abbrev chosen : Bool → Place
+  abbrev chosen : Bool → LinePlace
   chosen k = cond k (place (at + 1) true) (place at false)
 
   here : at < length s → next ≡ chosen (eqb (byteAt s at) c)
@@ -37,25 +37,25 @@ module _ (c : ℕ) (s : List ℕ) (at : ℕ) where
     where
       by : Dec (suc at ≤ length s) → at < length s
       by (yes h) = h
-      by (no h) = absurd (false≢true (sym (ap (λ (p : Place). p .good) (past (omega arith))) ∙ g))
+      by (no h) = absurd (false≢true (sym (ap (λ (p : LinePlace). p .good) (past (omega arith))) ∙ g))
 
   pub one-on : next .good ≡ true → next .at ≡ at + 1
   one-on g = by (eqb (byteAt s at) c) (here (inside g))
     where
       by : (k : Bool) → next ≡ chosen k → next .at ≡ at + 1
-      by true e = ap (λ (p : Place). p .at) e
-      by false e = absurd (false≢true (sym (ap (λ (p : Place). p .good) e) ∙ g))
+      by true e = ap (λ (p : LinePlace). p .at) e
+      by false e = absurd (false≢true (sym (ap (λ (p : LinePlace). p .good) e) ∙ g))
 
   pub stays-put : next .good ≡ false → next .at ≡ at
   stays-put g = by-length (decLe (suc at) (length s))
     where
       by : (k : Bool) → next ≡ chosen k → next .at ≡ at
-      by true e = absurd (false≢true (sym g ∙ ap (λ (p : Place). p .good) e))
-      by false e = ap (λ (p : Place). p .at) e
+      by true e = absurd (false≢true (sym g ∙ ap (λ (p : LinePlace). p .good) e))
+      by false e = ap (λ (p : LinePlace). p .at) e
 
       by-length : Dec (suc at ≤ length s) → next .at ≡ at
       by-length (yes h) = by (eqb (byteAt s at) c) (here h)
-      by-length (no h) = ap (λ (p : Place). p .at) (past (omega arith))
+      by-length (no h) = ap (λ (p : LinePlace). p .at) (past (omega arith))
 
   module _ {A : Type 0} (g : List ℕ → Read A) where
     abbrev unread : Read A
@@ -66,13 +66,13 @@ module _ (c : ℕ) (s : List ℕ) (at : ℕ) where
       where
         by : (k : Bool) → next ≡ chosen k → cond k (later (g (drop (suc at) s))) unread ≡ later (g (drop (suc at) s))
         by true e = refl
-        by false e = absurd (false≢true (sym (ap (λ (p : Place). p .good) e) ∙ q))
+        by false e = absurd (false≢true (sym (ap (λ (p : LinePlace). p .good) e) ∙ q))
 
     pub behind-unread : next .good ≡ false → behindRead c g (drop at s) ≡ unread
     behind-unread q = by-length (decLe (suc at) (length s))
       where
         by : (k : Bool) → next ≡ chosen k → cond k (later (g (drop (suc at) s))) unread ≡ unread
-        by true e = absurd (false≢true (sym q ∙ ap (λ (p : Place). p .good) e))
+        by true e = absurd (false≢true (sym q ∙ ap (λ (p : LinePlace). p .good) e))
         by false e = refl
 
         by-length : Dec (suc at ≤ length s) → behindRead c g (drop at s) ≡ unread

@@ -18,10 +18,10 @@ use Rattle.signature_line.specs.Meaning.{unionFrom}
 use Rattle.signature_line.specs.Words.{quirkWord}
 use Rattle.signature_line.proofs.Line.{quirk-field, quirk-empty}
 use Rattle.one_field.specs.declared.Piece.{Piece}
-use Rattle.one_field.specs.declared.Place.{Place}
+use Rattle.one_field.specs.declared.LinePlace.{LinePlace}
 use Rattle.one_field.specs.Places.{pieceOf, stateAt, pieceAt}
 use Rattle.parse_tcp.specs.declared.quirk_set.QuirksPiece.{QuirksPiece}
-use Rattle.parse_tcp.specs.Rows.{quirksPiece, quirksOf, quirksAt, namesAt, namesFrom}
+use Rattle.parse_tcp.specs.RowPieces.{quirksPiece, quirksOf, quirksAt, namesAt, namesFrom}
 use Rattle.parse_tcp.proofs.MoreLaws.{next, inside, one-on, more-ends, more-goes-on, more-bad, no-further}
 
 abbrev read : List ℕ → ℕ → Read Said
@@ -84,7 +84,7 @@ module _ (bits : ℕ) (s : List ℕ) (at : ℕ) where
             ∙ e;
       }
 
-  module _ (whole : QuirksPiece) (left : NamesLeft bits s at whole) (p : Place) (ep : p ≡ next comma s at) where
+  module _ (whole : QuirksPiece) (left : NamesLeft bits s at whole) (p : LinePlace) (ep : p ≡ next comma s at) where
     pub names-end : not (p .good) ≡ true → quirksPiece at true bits ≡ whole
     names-end h = ends (left .turns) (rw ep at (not-true (p .good) h)) ∙ left .same
 
@@ -149,7 +149,7 @@ module _ (s : List ℕ) (at : ℕ) where
       rw (← drop-drop (read s at .count) at s, quirks-read g)
       (sym (first-named at (read s at .count) (others .count) (read s at .value) (others .good) (others .value)))
 
-module _ (s : List ℕ) (from : Place) where
+module _ (s : List ℕ) (from : LinePlace) where
   pub quirks-missing : not (from .good) ≡ true → quirksPiece (from .at) false 0 ≡ quirksAt s from
   unfolding quirksAt
   quirks-missing h = rw (not-true (from .good) h)

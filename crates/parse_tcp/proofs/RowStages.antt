@@ -9,9 +9,9 @@ use Rattle.grammar.specs.Table.{Said}
 use Rattle.signature_line.specs.LineReader.{layoutRead, quirksRead}
 use Rattle.signature_line.specs.Meaning.{layoutOf, unionFrom}
 use Rattle.signature_line.specs.declared.SignatureRead.{SignatureRead}
-use Rattle.one_field.specs.declared.Place.{Place}
+use Rattle.one_field.specs.declared.LinePlace.{LinePlace}
 use Rattle.one_field.specs.Places.{behindAt}
-use Rattle.parse_tcp.specs.Rows.{layoutPieceOf, layoutAt, quirksOf, quirksAt}
+use Rattle.parse_tcp.specs.RowPieces.{layoutPieceOf, layoutAt, quirksOf, quirksAt}
 use Rattle.parse_tcp.proofs.Chain.{finishAt}
 use Rattle.parse_tcp.proofs.StageLaws.{any-stage}
 
@@ -43,7 +43,7 @@ unfolding quirksOf
 quirks-kept at n true v e = refl
 quirks-kept at n false v e = absurd (false≢true e)
 
-module _ (s : List ℕ) (p : Place) where
+module _ (s : List ℕ) (p : LinePlace) where
   abbrev layout : Read (List Said)
   layout = layoutRead (drop (p .at) s)
 

@@ -7,29 +7,29 @@ use lib.ListN.{drop}
 use Rattle.grammar.specs.Reading.{Read, thenRead}
 use Rattle.grammar.specs.States.{tableRead}
 use Rattle.grammar.specs.Table.{Row, Said}
-use Rattle.signature_line.specs.LineReader.{refusedAt}
+use Rattle.signature_line.specs.Answer.{refusedAt}
 use Rattle.signature_line.specs.declared.SignatureRead.{SignatureRead}
 use Rattle.one_field.specs.declared.Piece.{Piece}
-use Rattle.one_field.specs.declared.Place.{Place}
+use Rattle.one_field.specs.declared.LinePlace.{LinePlace}
 use Rattle.one_field.specs.Places.{noPiece, pieceOf, stateAt, fieldAt, behindAt}
-use Rattle.parse_tcp.specs.Rows.{saidBy}
+use Rattle.parse_tcp.specs.RowPieces.{saidBy}
 use Rattle.parse_tcp.proofs.Chain.{finish, finishAt, then-finish}
 
 -- ---- where the line goes on, and where it does not
 
-pub here : {A : Type 0} (k : A → SignatureRead) (s : List ℕ) (p : Place) (h : List ℕ → Read A) → p .good ≡ true
+pub here : {A : Type 0} (k : A → SignatureRead) (s : List ℕ) (p : LinePlace) (h : List ℕ → Read A) → p .good ≡ true
     → finishAt k s p h ≡ finish k s (p .at) (h (drop (p .at) s))
 unfolding finishAt
 here k s p h e = rw e
 
-pub nowhere : {A : Type 0} (k : A → SignatureRead) (s : List ℕ) (p : Place) (h : List ℕ → Read A) → p .good ≡ false
+pub nowhere : {A : Type 0} (k : A → SignatureRead) (s : List ℕ) (p : LinePlace) (h : List ℕ → Read A) → p .good ≡ false
     → finishAt k s p h ≡ refusedAt (p .at)
 unfolding finishAt
 nowhere k s p h e = rw e
 
 -- A field that was not read: nothing behind it is.
 unread
-    : {A B : Type 0} (k : A → SignatureRead) (l : B → SignatureRead) (c : ℕ) (s : List ℕ) (p : Place)
+    : {A B : Type 0} (k : A → SignatureRead) (l : B → SignatureRead) (c : ℕ) (s : List ℕ) (p : LinePlace)
     (f : List ℕ → Read A) (g : List ℕ → Read B) (at : ℕ) (good : Bool) → p .good ≡ false → at ≡ p .at → good ≡ false
     → finishAt k s p f ≡ finishAt l s (behindAt c s at good) g
 unfolding finishAt behindAt
@@ -45,7 +45,7 @@ behind-on c s at false e = absurd (false≢true (sym (behind-off c s at false re
 
 -- ---- a stage
 
-module _ {B : Type 0} (c : ℕ) (g : List ℕ → Read B) (s : List ℕ) (p : Place) where
+module _ {B : Type 0} (c : ℕ) (g : List ℕ → Read B) (s : List ℕ) (p : LinePlace) where
   -- A table.
   module _ (rows : List Row) (k : Said × B → SignatureRead) where
     abbrev tableNext : SignatureRead
@@ -88,5 +88,5 @@ module _ {B : Type 0} (c : ℕ) (g : List ℕ → Read B) (s : List ℕ) (p : Pl
         by true e =
             let q = on e in
             here k s p (thenRead f c g) e ∙ then-finish f c g k s (p .at)
-            ∙ ap (λ (r : Place). finishAt (λ (u : B). k (x .value, u)) s r g) (rw (q .0, q .1))
+            ∙ ap (λ (r : LinePlace). finishAt (λ (u : B). k (x .value, u)) s r g) (rw (q .0, q .1))
         by false e = let q = off e in unread k _ c s p (thenRead f c g) g at good e (q .0) (q .1)

@@ -14,7 +14,7 @@ use Rattle.signature_line.specs.LineReader.{ttlRead}
 use Rattle.signature_line.specs.Words.{bareByte, ttlForm}
 use Rattle.signature_line.specs.declared.SignatureRead.{SignatureRead}
 use Rattle.signature_line.proofs.Line.{byte-field}
-use Rattle.one_field.specs.declared.Place.{Place}
+use Rattle.one_field.specs.declared.LinePlace.{LinePlace}
 use Rattle.one_field.specs.declared.TtlPiece.{TtlPiece}
 use Rattle.one_field.specs.Places.{pieceOf, stateAt, fieldAt, behindAt, noTtl, ttlAt}
 use Rattle.parse_tcp.proofs.Chain.{finishAt}
@@ -26,7 +26,7 @@ bare-form q g =
     table-holds (λ f n. f ≡ 0) bareByte (λ n h w. refl, tt) (take (tableRead bareByte q .count) q) (tableRead bareByte q .value)
     (byte-field .reads q .exact .yields g)
 
-module _ (s : List ℕ) (p : Place) where
+module _ (s : List ℕ) (p : LinePlace) where
   abbrev ttlSaid : Said × Said
   ttlSaid = (said 0 (ttlAt s p .ttl), said (ttlAt s p .form) (ttlAt s p .distance))
 
@@ -87,7 +87,7 @@ module _ (s : List ℕ) (p : Place) where
   ttl-stage {B} c g k =
       any-stage c g s p ttlRead k (ttlAt s p .at) (ttlAt s p .good) ttl-on ttl-off ∙ by (ttlAt s p .good) refl
     where
-      next : Place
+      next : LinePlace
       next = behindAt c s (ttlAt s p .at) (ttlAt s p .good)
 
       by : (b : Bool) → ttlAt s p .good ≡ b

@@ -10,17 +10,18 @@ use Rattle.basis.specs.Bytes.{byteAt}
 use Rattle.tcp.specs.declared.Layout.{Layout}
 use Rattle.grammar.specs.Table.{said}
 use Rattle.signature_line.specs.Line.{colon, Parts, fields, longest}
-use Rattle.signature_line.specs.LineReader.{layoutRead, quirksRead, refusedAt, readOf, readAs, readLine}
-use Rattle.signature_line.specs.Meaning.{Fields, recordOf, layoutOf, unionFrom, meaningOf}
+use Rattle.signature_line.specs.Answer.{refusedAt, readOf}
+use Rattle.signature_line.specs.LineReader.{layoutRead, quirksRead, readAs, readLine}
+use Rattle.signature_line.specs.Meaning.{Fields, rawOf, layoutOf, unionFrom, meaningOf}
 use Rattle.signature_line.specs.Words.{payload}
 use Rattle.signature_line.specs.declared.LineAnswer.the-variants as answer
 use Rattle.signature_line.specs.declared.SignatureRead.{SignatureRead}
 use Rattle.signature_line.proofs.Accepted.{accepted}
 use Rattle.signature_line.proofs.WellFormed.{well-formed}
 use Rattle.parse_tcp.specs.declared.LineFields.{LineFields}
-use Rattle.parse_tcp.specs.Rows.{saidBy}
-use Rattle.parse_tcp.specs.Stages.{versionIn, ttlIn, olenIn, mssIn, windowIn, scaleIn, layoutIn, quirksIn, payloadIn, lineFields}
-use Rattle.parse_tcp.specs.Stages.{recordBytes}
+use Rattle.parse_tcp.specs.RowPieces.{saidBy}
+use Rattle.parse_tcp.specs.LineParts.{versionIn, ttlIn, olenIn, mssIn, windowIn, scaleIn, layoutIn, quirksIn, payloadIn, lineFields}
+use Rattle.parse_tcp.specs.LineParts.{recordBytes}
 use Rattle.parse_tcp.proofs.LastStage.{field-begins, last-bad, last-more, last-whole}
 use Rattle.parse_tcp.proofs.LineStages.{p6, p7, p8, k8, read-to-the-last}
 use Rattle.parse_tcp.proofs.RowStages.{layout-same, quirks-same, quirks-begin}
@@ -104,11 +105,11 @@ module _ (s : List ℕ) where
       unfolding readAs
       read-as = refl
 
-      raw-bytes : (i : ℕ) → byteAt (recordOf fieldsIn) i < 256
+      raw-bytes : (i : ℕ) → byteAt (rawOf fieldsIn) i < 256
       raw-bytes = well-formed s (meaningOf fieldsIn) (accepted s (meaningOf fieldsIn) .0 (read-whole ∙ read-as) .1) .rawBytes
 
-      bytes-are : recordBytes (lineFields s) ≡ recordOf fieldsIn
-      unfolding recordBytes lineFields recordOf
+      bytes-are : recordBytes (lineFields s) ≡ rawOf fieldsIn
+      unfolding recordBytes lineFields rawOf
       bytes-are =
           let raw = raw-bytes in
           rw (

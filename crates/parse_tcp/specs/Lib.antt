@@ -1,2 +1,2 @@
-pub mod Rows
-pub mod Stages
+pub mod LineParts
+pub mod RowPieces

@@ -1,8 +1,8 @@
 // The layout of a line: entries with commas between them, at most 40.
 ghost use mathlib.Core.Path.{_≡_};
-ghost use Rattle.parse_tcp.specs.Rows.{noLayout, layoutAt, entriesFrom, kindByte, restByte};
+ghost use Rattle.parse_tcp.specs.RowPieces.{noLayout, layoutAt, keptFrom, kindByte, restByte};
+use one_field::LinePlace;
 use one_field::Piece;
-use one_field::Place;
 use one_field::behind;
 use one_field::parse_tcp_option;
 use tcp::Layout;
@@ -52,7 +52,7 @@ fn entry_byte(entry: Piece) -> u8
 
 // The entries after the first, each behind a comma.
 fn more_entries(s: &[u8], first: Piece) -> LayoutPiece
-    ensures { λ r. ⌜ r ≡ entriesFrom (now (s .entry)) first ⌝ }
+    ensures { λ r. ⌜ r ≡ keptFrom (now (s .entry)) first ⌝ }
 {
     let mut kinds = [0u8; 40];
     let mut bytes = [0u8; 40];
@@ -94,7 +94,7 @@ fn more_entries(s: &[u8], first: Piece) -> LayoutPiece
 }
 
 // Nothing, or entries.
-pub(crate) fn parse_olayout(s: &[u8], from: Place) -> LayoutPiece
+pub(crate) fn parse_olayout(s: &[u8], from: LinePlace) -> LayoutPiece
     ensures { λ r. ⌜ r ≡ layoutAt (now (s .entry)) from ⌝ }
 {
     let at = from.at;

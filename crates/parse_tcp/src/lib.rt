@@ -1,11 +1,12 @@
 // parse/tcp.rs: a signature line, as p0f writes it, read into a record of the signature list with its layout (document 02, Wish 1).
 ghost use mathlib.Core.Path.{_≡_};
-ghost use Rattle.signature_line.specs.LineReader.{refusedAt, readLine};
-ghost use Rattle.parse_tcp.specs.Stages.{lineFields};
+ghost use Rattle.signature_line.specs.Answer.{refusedAt};
+ghost use Rattle.signature_line.specs.LineReader.{readLine};
+ghost use Rattle.parse_tcp.specs.LineParts.{lineFields};
 use layout::LayoutPiece;
 use layout::parse_olayout;
+use one_field::LinePlace;
 use one_field::Piece;
-use one_field::Place;
 use one_field::TtlPiece;
 use one_field::behind;
 use one_field::parse_ip_version;
@@ -45,7 +46,7 @@ pub struct LineFields {
 fn read_fields(line: &[u8]) -> LineFields
     ensures { λ r. ⌜ r ≡ lineFields (now (line .entry)) ⌝ }
 {
-    let start = Place { at: 0, good: true };
+    let start = LinePlace { at: 0, good: true };
     let version = parse_ip_version(line, start);
     let ittl = parse_ttl(line, behind(line, version.at, version.good, b':'));
     let olen = parse_olen(line, behind(line, ittl.at, ittl.good, b':'));

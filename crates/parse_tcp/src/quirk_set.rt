@@ -1,8 +1,8 @@
 // The quirks of a line: names with commas between them, a set.
 ghost use mathlib.Core.Path.{_≡_};
-ghost use Rattle.parse_tcp.specs.Rows.{quirksPiece, quirksAt, namesFrom};
+ghost use Rattle.parse_tcp.specs.RowPieces.{quirksPiece, quirksAt, namesFrom};
+use one_field::LinePlace;
 use one_field::Piece;
-use one_field::Place;
 use one_field::behind;
 use one_field::parse_quirk;
 
@@ -44,7 +44,7 @@ fn more_names(s: &[u8], first: Piece) -> QuirksPiece
 }
 
 // Nothing, or names.
-pub(crate) fn parse_quirks(s: &[u8], from: Place) -> QuirksPiece
+pub(crate) fn parse_quirks(s: &[u8], from: LinePlace) -> QuirksPiece
     ensures { λ r. ⌜ r ≡ quirksAt (now (s .entry)) from ⌝ }
 {
     let at = from.at;

@@ -1,6 +1,6 @@
 // The 24 bytes of a record.
 ghost use mathlib.Core.Path.{_≡_};
-ghost use Rattle.parse_tcp.specs.Stages.{recordBytes};
+ghost use Rattle.parse_tcp.specs.LineParts.{recordBytes};
 use crate::LineFields;
 
 // Numbers of two and four bytes have their high byte first; first entry, byte 21 and label are 0.

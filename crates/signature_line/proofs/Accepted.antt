@@ -14,7 +14,8 @@ use Rattle.grammar.proofs.Judged.{Holds, judged}
 use Rattle.signature_line.specs.declared.LineAnswer.the-variants as answer
 use Rattle.signature_line.specs.declared.SignatureRead.{SignatureRead}
 use Rattle.signature_line.specs.Line.{LineSays, SignatureLine, longest, LineRefused, too-long, goes-on-no-more}
-use Rattle.signature_line.specs.LineReader.{fieldsRead, refusedAt, readAs, readOf, answered, readLine}
+use Rattle.signature_line.specs.Answer.{refusedAt, readOf}
+use Rattle.signature_line.specs.LineReader.{fieldsRead, readAs, answered, readLine}
 use Rattle.signature_line.specs.Meaning.{Fields, LineMeaning, meaningOf}
 use Rattle.signature_line.proofs.Line.{line-field}
 

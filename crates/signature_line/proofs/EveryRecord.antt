@@ -18,7 +18,7 @@ use Rattle.siglist.specs.List.{layoutCount, layoutOffset, listFits, areasOf, re
 use Rattle.siglist.specs.List.{entriesFrom, entriesOf, layoutLies, recordGood}
 use Rattle.siglist.proofs.List.{areas-fit}
 use Rattle.signature_line.specs.Line.{SignatureLine}
-use Rattle.signature_line.specs.Meaning.{recordOf, meaningOf}
+use Rattle.signature_line.specs.Meaning.{rawOf, meaningOf}
 use Rattle.signature_line.specs.OneRecord.{HasLine}
 use Rattle.signature_line.proofs.LayoutRow.{Entries, entries-of}
 use Rattle.signature_line.proofs.RecordLine.{AllBytes, both, scalars-of, told}
@@ -107,6 +107,6 @@ every-record l i all fits good =
       says = (t .fields, t .line .says, refl);
       same = t .same;
       sameCount = t .count;
-      signature = same-signature (recordOf (t .fields)) r (t .same);
+      signature = same-signature (rawOf (t .fields)) r (t .same);
       entries = t .entries;
     }

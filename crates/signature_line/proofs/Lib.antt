@@ -4,6 +4,7 @@ pub mod EveryRecord
 pub mod FieldsGood
 pub mod FieldWords
 pub mod LayoutRow
+pub mod LineValues
 pub mod Line
 pub mod QuirkRow
 pub mod RecordLine

@@ -11,7 +11,7 @@ use Rattle.sigrecord.specs.Record.{entryCount}
 use Rattle.sigrecord.specs.WellFormed.{versionGood, ttlGood, presenceGood, windowGood, payloadGood, quirksGood, scalarsGood}
 use Rattle.grammar.specs.Table.{said, Choice}
 use Rattle.signature_line.specs.Line.{colon, comma, LineSays, longest}
-use Rattle.signature_line.specs.Meaning.{Fields, unionFrom, layoutOf, recordOf}
+use Rattle.signature_line.specs.Meaning.{Fields, unionFrom, layoutOf, rawOf}
 use Rattle.signature_line.specs.OneRecord.{entriesIn}
 use Rattle.signature_line.specs.Words.{entry, quirkWord}
 use Rattle.signature_line.proofs.Arrays.{entries-in}
@@ -75,8 +75,8 @@ scalars-of r g =
 pub record Told (r e : List ℕ) : Type 0 where
   pub fields : Fields
   pub line : Spelled LineSays fields longest
-  pub same : (k : ℕ) → k < 18 → byteAt (recordOf fields) k ≡ byteAt r k
-  pub count : byteAt (recordOf fields) 20 ≡ byteAt r 20
+  pub same : (k : ℕ) → k < 18 → byteAt (rawOf fields) k ≡ byteAt r k
+  pub count : byteAt (rawOf fields) 20 ≡ byteAt r 20
   pub entries : entriesIn (layoutOf (fields .layout)) ≡ e
 
 module _ (r e : List ℕ) (all : AllBytes r) (s : Scalars r) (few : entryCount r ≤ 40) (y : Entries e (entryCount r)) where
@@ -132,8 +132,8 @@ module _ (r e : List ℕ) (all : AllBytes r) (s : Scalars r) (few : entryCount r
         short = omega (arith, line .short, y .counted, chosen-count (be32 r 14) displayOrder);
       }
 
-  same-bytes : EachBelow (λ (k : ℕ). byteAt (recordOf fields-of) k ≡ byteAt r k) 18
-  unfolding recordOf fields-of be16 be32
+  same-bytes : EachBelow (λ (k : ℕ). byteAt (rawOf fields-of) k ≡ byteAt r k) 18
+  unfolding rawOf fields-of be16 be32
   same-bytes =
       refl
       then refl
@@ -155,8 +155,8 @@ module _ (r e : List ℕ) (all : AllBytes r) (s : Scalars r) (few : entryCount r
       then omega (arith, all-quirks, all 15, all 16, all 17)
       then tt
 
-  same-count : byteAt (recordOf fields-of) 20 ≡ entryCount r
-  unfolding recordOf fields-of
+  same-count : byteAt (rawOf fields-of) 20 ≡ entryCount r
+  unfolding rawOf fields-of
   same-count = y .counted
 
   pub told : Told r e

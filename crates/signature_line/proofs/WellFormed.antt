@@ -18,7 +18,7 @@ use Rattle.siglist.specs.List.{recordCount, recordsOffset, layoutCount, layoutO
 use Rattle.siglist.specs.List.{recordAt, entriesFrom, layoutLies, recordGood}
 use Rattle.siglist.specs.List.{recordsFrom, checkList}
 use Rattle.signature_line.specs.Line.{SignatureLine}
-use Rattle.signature_line.specs.Meaning.{Fields, LineMeaning, kindSaid, byteSaid, unionFrom, layoutOf, recordOf, meaningOf}
+use Rattle.signature_line.specs.Meaning.{Fields, LineMeaning, kindSaid, byteSaid, unionFrom, layoutOf, rawOf, meaningOf}
 use Rattle.signature_line.specs.OneRecord.{entriesIn, listOfOne, WellFormedLine}
 use Rattle.signature_line.proofs.Arrays.{Bytes, bytes-at, padded-whole, padded-past, padded-bytes}
 use Rattle.signature_line.proofs.Arrays.{inTurn, entries-in, length-in-turn, good-at}
@@ -40,8 +40,8 @@ module _ (f : Fields) (g : FieldsGood f) where
   abbrev l : List ℕ
   l = listOfOne m
 
-  raw-bytes : Bytes (recordOf f)
-  unfolding recordOf
+  raw-bytes : Bytes (rawOf f)
+  unfolding rawOf
   raw-bytes =
       g .versionSmall
       then g .ttlForm .small
@@ -69,8 +69,8 @@ module _ (f : Fields) (g : FieldsGood f) where
       then lit< tt
       then tt
 
-  scalars : scalarsGood (recordOf f) ≡ true
-  unfolding recordOf scalarsGood be16 be32
+  scalars : scalarsGood (rawOf f) ≡ true
+  unfolding rawOf scalarsGood be16 be32
   scalars =
       rw (
         two (f .mss .number),
@@ -112,7 +112,7 @@ module _ (f : Fields) (g : FieldsGood f) where
   entries-whole = rw (entries-in (f .layout)) (length-in-turn (f .layout))
 
   list-length : length l ≡ 32 + 2 * length (f .layout)
-  unfolding listOfOne recordOf
+  unfolding listOfOne rawOf
   list-length = omega (arith, entries-whole)
 
   fits : listFits l ≡ true
@@ -125,12 +125,12 @@ module _ (f : Fields) (g : FieldsGood f) where
       )
 
   -- The record and its entries, where the header says that they are.
-  record-there : recordAt l 0 ≡ recordOf f
-  unfolding listOfOne recordOf be16
+  record-there : recordAt l 0 ≡ rawOf f
+  unfolding listOfOne rawOf be16
   record-there = refl
 
   entries-there : entriesFrom l 0 (length (f .layout)) ≡ inTurn (f .layout)
-  unfolding listOfOne recordOf be16
+  unfolding listOfOne rawOf be16
   entries-there =
       let n = length (f .layout) in
       take-all (32 + 2 * 0 + 2 * n - (32 + 2 * 0)) (entriesIn (m .layout)) (omega (arith, entries-whole)) ∙ entries-in (f .layout)
@@ -145,8 +145,8 @@ module _ (f : Fields) (g : FieldsGood f) where
       )
       (all-below _ (length (f .layout)) (good-at (f .layout) (g .layout)))
 
-  lies-there : layoutLies l (firstEntry (recordOf f)) (entryCount (recordOf f)) ≡ true
-  unfolding recordOf be16
+  lies-there : layoutLies l (firstEntry (rawOf f)) (entryCount (rawOf f)) ≡ true
+  unfolding rawOf be16
   lies-there = lies
 
   record-good : recordGood l 0 ≡ true
@@ -158,7 +158,7 @@ module _ (f : Fields) (g : FieldsGood f) where
   list-good = rw (fits, one-record, record-good)
 
   fields-well-formed : WellFormedLine m
-  unfolding recordOf layoutOf
+  unfolding rawOf layoutOf
   fields-well-formed =
       record {
         good = list-good;
@@ -174,7 +174,7 @@ module _ (f : Fields) (g : FieldsGood f) where
         bytesWhole = padded-whole byteSaid (f .layout) (g .layoutCount);
         kindsPast = padded-past kindSaid (f .layout);
         bytesPast = padded-past byteSaid (f .layout);
-        rawBytes = bytes-at (recordOf f) raw-bytes;
+        rawBytes = bytes-at (rawOf f) raw-bytes;
         kindsBytes = padded-bytes kindSaid (f .layout) (each-of (λ e h. h .kind) (f .layout) (g .layout));
         bytesBytes = padded-bytes byteSaid (f .layout) (each-of (λ e h. h .byte) (f .layout) (g .layout));
       }

@@ -2,19 +2,16 @@
 -- grammar, and refuses exactly where no line goes on, is proved (proofs/Accepted.antt).
 use Prim.Native.Nat.{ℕ}
 use mathlib.Core.Bool.{cond}
-use mathlib.Core.List.{List, []}
+use mathlib.Core.List.{List}
 use lib.Dec.{ltb}
-use lib.ListN.{length, replicate}
-use Rattle.refusals.specs.declared.Refusal.the-variants as refusal
-use Rattle.refusals.specs.Refusals.{Verdict}
+use lib.ListN.{length}
 use Rattle.grammar.specs.Reading.{Read, joinRead, thenRead, mapRead, listedRead, anyListedRead, Judgement, means, refused, judgement}
 use Rattle.grammar.specs.States.{tableRead}
 use Rattle.grammar.specs.Table.{Said}
-use Rattle.signature_line.specs.declared.LineAnswer.{LineAnswer}
-use Rattle.signature_line.specs.declared.LineAnswer.the-variants as answer
 use Rattle.signature_line.specs.declared.SignatureRead.{SignatureRead}
+use Rattle.signature_line.specs.Answer.{readOf, refusedAt}
 use Rattle.signature_line.specs.Line.{colon, comma, Parts, fields, longest}
-use Rattle.signature_line.specs.Meaning.{Fields, layoutOf, LineMeaning, meaningOf}
+use Rattle.signature_line.specs.Meaning.{Fields, meaningOf}
 use Rattle.signature_line.specs.Words.{version, bareByte, ttlForm, mss, window, scale, entry, quirkWord, payload}
 
 unfoldable pub ttlRead : List ℕ → Read (Said × Said)
@@ -43,14 +40,6 @@ fieldsRead s = mapRead fields (partsRead s)
 
 -- ---- the answer
 
--- Beside a refusal the record and the layout are empty.
-unfoldable pub refusedAt : ℕ → SignatureRead
-refusedAt at = record { answer = answer.Refused at; raw = replicate 24 0; layout = layoutOf [] }
-
--- A record and a layout that were read.
-abbrev pub readOf : LineMeaning → SignatureRead
-readOf m = record { answer = answer.Read; raw = m .raw; layout = m .layout }
-
 unfoldable pub readAs : Fields → SignatureRead
 readAs f = readOf (meaningOf f)
 
@@ -61,8 +50,3 @@ answered (refused at) = refusedAt at
 -- "a line over 512 bytes first, with 512"
 unfoldable pub readLine : List ℕ → SignatureRead
 readLine s = cond (ltb longest (length s)) (refusedAt longest) (answered (judgement s (fieldsRead s)))
-
--- Which refusal of the table an answer is, if any.
-abbrev pub lineVerdict : LineAnswer → Verdict
-lineVerdict answer.Read = Verdict.accepted
-lineVerdict (answer.Refused at) = Verdict.refused (refusal.BadLine at)

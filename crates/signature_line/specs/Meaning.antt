@@ -47,8 +47,8 @@ unionFrom bits [] = bits
 unionFrom bits (q ∷ rest) = unionFrom (bitOr bits (q .form)) rest
 
 -- The record's 24 bytes; numbers of two and four bytes have their high byte first.
-unfoldable pub recordOf : Fields → List ℕ
-recordOf f =
+unfoldable pub rawOf : Fields → List ℕ
+rawOf f =
     let quirks = unionFrom 0 (f .quirks) in
     f .version .form
     ∷ f .ttlForm .form
@@ -82,4 +82,4 @@ pub record LineMeaning : Type 0 where
   pub layout : Layout
 
 abbrev pub meaningOf : Fields → LineMeaning
-meaningOf f = record { raw = recordOf f; layout = layoutOf (f .layout) }
+meaningOf f = record { raw = rawOf f; layout = layoutOf (f .layout) }

@@ -10,11 +10,11 @@ use Rattle.quirks.specs.Quirks.{bitOf}
 use Rattle.grammar.specs.Numeral.{any}
 use Rattle.grammar.specs.Table.{Tail, nothing, numeral, Row, row}
 
-abbrev pub byte : Tail
-byte = numeral 255 any
+abbrev pub upTo255 : Tail
+upTo255 = numeral 255 any
 
-abbrev pub word : Tail
-word = numeral 65535 any
+abbrev pub upTo65535 : Tail
+upTo65535 = numeral 65535 any
 
 -- ver: byte 0 of a record.
 unfoldable pub version : List Row
@@ -22,27 +22,27 @@ version = row (ascii "4") 4 nothing ∷ row (ascii "6") 6 nothing ∷ row (ascii
 
 -- olen, and the number that a TTL begins with.
 unfoldable pub bareByte : List Row
-bareByte = row (ascii "") 0 byte ∷ []
+bareByte = row (ascii "") 0 upTo255 ∷ []
 
 -- What follows the number of a TTL: byte 1 of a record, its form, and the distance.
 unfoldable pub ttlForm : List Row
-ttlForm = row (ascii "") 0 nothing ∷ row (ascii "+") 1 byte ∷ row (ascii "+?") 2 nothing ∷ row (ascii "-") 3 nothing ∷ []
+ttlForm = row (ascii "") 0 nothing ∷ row (ascii "+") 1 upTo255 ∷ row (ascii "+?") 2 nothing ∷ row (ascii "-") 3 nothing ∷ []
 
 -- mss and scale: bytes 5 and 11 of a record, whether the number is present.
 unfoldable pub mss : List Row
-mss = row (ascii "*") 0 nothing ∷ row (ascii "") 1 word ∷ []
+mss = row (ascii "*") 0 nothing ∷ row (ascii "") 1 upTo65535 ∷ []
 
 unfoldable pub scale : List Row
-scale = row (ascii "*") 0 nothing ∷ row (ascii "") 1 byte ∷ []
+scale = row (ascii "*") 0 nothing ∷ row (ascii "") 1 upTo255 ∷ []
 
 -- wsize: byte 8 of a record.
 unfoldable pub window : List Row
 window =
     row (ascii "*") 0 nothing
-    ∷ row (ascii "") 1 word
-    ∷ row (ascii "%") 2 word
-    ∷ row (ascii "mss*") 3 byte
-    ∷ row (ascii "mtu*") 4 byte
+    ∷ row (ascii "") 1 upTo65535
+    ∷ row (ascii "%") 2 upTo65535
+    ∷ row (ascii "mss*") 3 upTo255
+    ∷ row (ascii "mtu*") 4 upTo255
     ∷ []
 
 -- A kind without a name: 6, 7, 9 to 255.
@@ -53,7 +53,7 @@ unnamed kind = not (leb kind 5 || eqb kind 8)
 -- all of these; the number is then the kind.
 unfoldable pub entry : List Row
 entry =
-    row (ascii "eol+") 0 byte
+    row (ascii "eol+") 0 upTo255
     ∷ row (ascii "nop") 1 nothing
     ∷ row (ascii "mss") 2 nothing
     ∷ row (ascii "ws") 3 nothing

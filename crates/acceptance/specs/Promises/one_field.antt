@@ -6,7 +6,7 @@ use Prim.Native.Nat.{ℕ}
 use contract.Lifetimes.{Lfts}
 use denote.Ref.{RefT, now}
 use Rattle.signature_line.specs.Words.{bareByte, entry, mss, payload, quirkWord, scale, version, window}
-use Rattle.one_field.specs.declared.Place.{Place}
+use Rattle.one_field.specs.declared.LinePlace.{LinePlace}
 use Rattle.one_field.specs.Places.{behindAt, fieldAt, pieceAt, ttlAt}
 use Rattle.one_field.proofs.behind as behind'
 use Rattle.one_field.proofs.parse_ip_version as parse-ip-version'
@@ -26,25 +26,25 @@ pub record Promises : Type 0 where
       → Answers behind'.signature κs (behind'.Reads.Pre κs) (behind'.Reads.Post κs)
       (s, (at, (good, (byte, tt)))) (behindAt byte (now s) at good)
   pub parse-ip-version-one
-      : (κs : Lfts 1) (s : RefT (List ℕ)) (from : Place)
+      : (κs : Lfts 1) (s : RefT (List ℕ)) (from : LinePlace)
       → Answers parse-ip-version'.signature κs (parse-ip-version'.Reads.Pre κs) (parse-ip-version'.Reads.Post κs)
       (s, (from, tt)) (fieldAt version (now s) from)
   pub parse-olen-one
-      : (κs : Lfts 1) (s : RefT (List ℕ)) (from : Place)
+      : (κs : Lfts 1) (s : RefT (List ℕ)) (from : LinePlace)
       → Answers parse-olen'.signature κs (parse-olen'.Reads.Pre κs) (parse-olen'.Reads.Post κs)
       (s, (from, tt)) (fieldAt bareByte (now s) from)
   pub parse-ttl-one
-      : (κs : Lfts 1) (s : RefT (List ℕ)) (from : Place)
+      : (κs : Lfts 1) (s : RefT (List ℕ)) (from : LinePlace)
       → Answers parse-ttl'.signature κs (parse-ttl'.Reads.Pre κs) (parse-ttl'.Reads.Post κs) (s, (from, tt)) (ttlAt (now s) from)
   pub parse-mss-one
-      : (κs : Lfts 1) (s : RefT (List ℕ)) (from : Place)
+      : (κs : Lfts 1) (s : RefT (List ℕ)) (from : LinePlace)
       → Answers parse-mss'.signature κs (parse-mss'.Reads.Pre κs) (parse-mss'.Reads.Post κs) (s, (from, tt)) (fieldAt mss (now s) from)
   pub parse-wscale-one
-      : (κs : Lfts 1) (s : RefT (List ℕ)) (from : Place)
+      : (κs : Lfts 1) (s : RefT (List ℕ)) (from : LinePlace)
       → Answers parse-wscale'.signature κs (parse-wscale'.Reads.Pre κs) (parse-wscale'.Reads.Post κs)
       (s, (from, tt)) (fieldAt scale (now s) from)
   pub parse-window-size-one
-      : (κs : Lfts 1) (s : RefT (List ℕ)) (from : Place)
+      : (κs : Lfts 1) (s : RefT (List ℕ)) (from : LinePlace)
       → Answers parse-window-size'.signature κs (parse-window-size'.Reads.Pre κs) (parse-window-size'.Reads.Post κs)
       (s, (from, tt)) (fieldAt window (now s) from)
   pub parse-tcp-option-one
@@ -56,6 +56,6 @@ pub record Promises : Type 0 where
       → Answers parse-quirk'.signature κs (parse-quirk'.Reads.Pre κs) (parse-quirk'.Reads.Post κs)
       (s, (from, tt)) (pieceAt quirkWord (now s) from)
   pub parse-payload-size-one
-      : (κs : Lfts 1) (s : RefT (List ℕ)) (from : Place)
+      : (κs : Lfts 1) (s : RefT (List ℕ)) (from : LinePlace)
       → Answers parse-payload-size'.signature κs (parse-payload-size'.Reads.Pre κs) (parse-payload-size'.Reads.Post κs)
       (s, (from, tt)) (fieldAt payload (now s) from)

@@ -4,7 +4,7 @@ use native.Mathlib.Omega.{arith}
 use mathlib.Core.List.{[], _∷_}
 use Rattle.basis.proofs.Rules.{cases}
 use Rattle.grammar.specs.States.{letters, start, fits, after, done}
-use Rattle.signature_line.specs.Words.{word, window}
+use Rattle.signature_line.specs.Words.{upTo65535, window}
 use Rattle.one_field.proofs.PlaceLaws.{field-missing, field-here, ends, narrow-here, goes-on, one-byte}
 use borrow.Author.Needs.{needs}
 use Rattle.one_field.proofs.parse_window_size.Statement.{statement}
@@ -49,7 +49,7 @@ unfolding window after done
 returns-6 c =
     let a = c .before .before .before .before .before .before .before .args in
     c .read-numeral2 .ensures
-    ∙ sym (narrow-here (a .s .now) (a .from .at) (start window) (letters [] 1 word ∷ []) (omega arith) (search cases) refl)
+    ∙ sym (narrow-here (a .s .now) (a .from .at) (start window) (letters [] 1 upTo65535 ∷ []) (omega arith) (search cases) refl)
     ∙ sym (field-here window (a .s .now) (a .from) (c .before .before .before .before .if1 .left))
 
 pub parse-window-size-spec : {M : Type 1} → statement M

@@ -1,7 +1,7 @@
 -- `parse_tcp::refused_at` meets its contract.
 use mathlib.Core.Path.{refl}
 use Rattle.signature_line.specs.Meaning.{layoutOf}
-use Rattle.signature_line.specs.LineReader.{refusedAt}
+use Rattle.signature_line.specs.Answer.{refusedAt}
 use Rattle.parse_tcp.proofs.refused_at.Statement.{statement}
 use Rattle.parse_tcp.proofs.refused_at.Tie as tie
 

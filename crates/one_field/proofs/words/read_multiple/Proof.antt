@@ -5,14 +5,14 @@ use mathlib.Core.List.{List, [], _∷_}
 use Rattle.basis.proofs.Rules.{cases}
 use Rattle.basis.specs.Ascii.{ascii}
 use Rattle.grammar.specs.States.{Awaited, letters, after, done}
-use Rattle.signature_line.specs.Words.{byte}
+use Rattle.signature_line.specs.Words.{upTo255}
 use Rattle.one_field.proofs.PlaceLaws.{ends, stays, goes-on}
 use borrow.Author.Needs.{needs}
 use Rattle.one_field.proofs.words.read_multiple.Statement.{statement}
 use Rattle.one_field.proofs.words.read_multiple.Tie as tie
 
 abbrev multiples : List Awaited
-multiples = letters (ascii "ss*") 3 byte ∷ letters (ascii "tu*") 4 byte ∷ []
+multiples = letters (ascii "ss*") 3 upTo255 ∷ letters (ascii "tu*") 4 upTo255 ∷ []
 
 returns : tie.Need-returns
 unfolding done

@@ -7,14 +7,14 @@ use Rattle.basis.specs.Ascii.{ascii}
 use Rattle.basis.specs.Bytes.{byteAt}
 use Rattle.grammar.specs.Table.{nothing}
 use Rattle.grammar.specs.States.{Awaited, letters, fits, after, done}
-use Rattle.signature_line.specs.Words.{byte}
+use Rattle.signature_line.specs.Words.{upTo255}
 use Rattle.one_field.proofs.PlaceLaws.{ends, narrow-here, one-byte}
 use borrow.Author.Needs.{needs}
 use Rattle.one_field.proofs.words.read_plus.Statement.{statement}
 use Rattle.one_field.proofs.words.read_plus.Tie as tie
 
 abbrev forms : List Awaited
-forms = letters [] 1 byte ∷ letters (ascii "?") 2 nothing ∷ []
+forms = letters [] 1 upTo255 ∷ letters (ascii "?") 2 nothing ∷ []
 
 returns : tie.Need-returns
 unfolding done
@@ -34,7 +34,7 @@ unfolding after done
 returns-3 c =
     let a = c .before .before .before .before .before .args in
     c .read-numeral .ensures
-    ∙ sym (narrow-here (a .s .now) (a .from) forms (letters [] 1 byte ∷ []) (omega arith)
+    ∙ sym (narrow-here (a .s .now) (a .from) forms (letters [] 1 upTo255 ∷ []) (omega arith)
     (rw (ne-eqb (byteAt (a .s .now) (a .from)) 63 (c .before .if2 .left))) refl)
 
 pub read-plus-spec : {M : Type 1} → statement M

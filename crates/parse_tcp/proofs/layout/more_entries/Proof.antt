@@ -2,7 +2,7 @@
 use Prim.Native.Nat.{_-_, _≤_}
 use mathlib.Core.Path.{_≡_, refl, _∙_}
 use native.Mathlib.Omega.{arith}
-use Rattle.parse_tcp.specs.Rows.{entriesAt}
+use Rattle.parse_tcp.specs.RowPieces.{keptAt}
 use Rattle.parse_tcp.proofs.LayoutLaws.{entries-full, entries-end, entries-bad, entries-turn, begun, stored-as}
 use borrow.Author.Needs.{needs}
 use Rattle.parse_tcp.proofs.layout.more_entries.Statement.{statement}
@@ -10,7 +10,7 @@ use Rattle.parse_tcp.proofs.layout.more_entries.Tie as tie
 
 abbrev Inv-loop : tie.InvT-loop
 Inv-loop s kinds₀ bytes₀ at₀ count₀ kinds bytes at count =
-    (count ≤ 40) × (entriesAt count kinds bytes s at ≡ entriesAt 1 kinds₀ bytes₀ s at₀)
+    (count ≤ 40) × (keptAt count kinds bytes s at ≡ keptAt 1 kinds₀ bytes₀ s at₀)
 
 abbrev μ-loop : tie.MeasureT-loop
 μ-loop s kinds₀ bytes₀ at₀ count₀ kinds bytes at count = 40 - count

@@ -2,7 +2,7 @@
 use Prim.Native.Nat.{_-_}
 use mathlib.Core.Path.{_∙_}
 use lib.ListN.{length}
-use Rattle.parse_tcp.specs.Rows.{namesAt}
+use Rattle.parse_tcp.specs.RowPieces.{namesAt}
 use Rattle.parse_tcp.proofs.QuirkLaws.{NamesLeft, names-begin, names-end, names-bad, names-turn, names-less}
 use borrow.Author.Needs.{needs}
 use Rattle.parse_tcp.proofs.quirk_set.more_names.Statement.{statement}

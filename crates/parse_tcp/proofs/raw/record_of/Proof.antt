@@ -1,7 +1,7 @@
 -- `parse_tcp::raw::record_of` meets its contract.
 use mathlib.Core.Path.{refl}
 use native.Mathlib.Omega.{arith}
-use Rattle.parse_tcp.specs.Stages.{recordBytes}
+use Rattle.parse_tcp.specs.LineParts.{recordBytes}
 use Rattle.parse_tcp.proofs.raw.record_of.Statement.{statement}
 use Rattle.parse_tcp.proofs.raw.record_of.Tie as tie
 

@@ -10,7 +10,7 @@ use Rattle.one_field.specs.Places.{place, behindAt, fieldAt, ttlAt}
 use Rattle.parse_tcp.specs.declared.layout.LayoutPiece.{LayoutPiece}
 use Rattle.parse_tcp.specs.declared.quirk_set.QuirksPiece.{QuirksPiece}
 use Rattle.parse_tcp.specs.declared.LineFields.{LineFields}
-use Rattle.parse_tcp.specs.Rows.{layoutAt, quirksAt}
+use Rattle.parse_tcp.specs.RowPieces.{layoutAt, quirksAt}
 
 unfoldable pub versionIn : List ℕ → Piece
 versionIn s = fieldAt version s (place 0 true)

@@ -12,7 +12,7 @@ use Rattle.signature_line.specs.LineReader.{layoutRead, quirksRead}
 use Rattle.signature_line.specs.Meaning.{kindSaid, byteSaid, layoutOf, unionFrom}
 use Rattle.signature_line.specs.Words.{entry, quirkWord}
 use Rattle.one_field.specs.declared.Piece.{Piece}
-use Rattle.one_field.specs.declared.Place.{Place}
+use Rattle.one_field.specs.declared.LinePlace.{LinePlace}
 use Rattle.parse_tcp.specs.declared.layout.LayoutPiece.{LayoutPiece}
 use Rattle.parse_tcp.specs.declared.quirk_set.QuirksPiece.{QuirksPiece}
 
@@ -30,7 +30,7 @@ noLayout at good = layoutPiece at good (record { kinds = replicate 40 0; bytes =
 unfoldable pub layoutPieceOf : ℕ → Read (List Said) → LayoutPiece
 layoutPieceOf at x = cond (x .good) (layoutPiece (at + x .count) true (layoutOf (x .value))) (noLayout (at + x .count) false)
 
-unfoldable pub layoutAt : List ℕ → Place → LayoutPiece
+unfoldable pub layoutAt : List ℕ → LinePlace → LayoutPiece
 layoutAt s from = cond (from .good) (layoutPieceOf (from .at) (layoutRead (drop (from .at) s))) (noLayout (from .at) false)
 
 -- An entry in its two bytes.
@@ -46,19 +46,19 @@ store f row n [] = row
 store f row n (e ∷ rest) = store f (set row n (f e)) (n + 1) rest
 
 -- Entries that are read after those that are stored; at most 40 in all.
-unfoldable pub entriesOf : ℕ → List ℕ → List ℕ → ℕ → Read (List Said) → LayoutPiece
-entriesOf n kinds bytes at x =
+unfoldable pub keptOf : ℕ → List ℕ → List ℕ → ℕ → Read (List Said) → LayoutPiece
+keptOf n kinds bytes at x =
     cond (x .good)
     (layoutPiece (at + x .count) true
     (record { kinds = store kindSaid kinds n (x .value); bytes = store byteSaid bytes n (x .value); count = n + length (x .value) }))
     (noLayout (at + x .count) false)
 
-unfoldable pub entriesAt : ℕ → List ℕ → List ℕ → List ℕ → ℕ → LayoutPiece
-entriesAt n kinds bytes s at = entriesOf n kinds bytes at (moreRead (tableRead entry) comma (40 - n) (drop at s))
+unfoldable pub keptAt : ℕ → List ℕ → List ℕ → List ℕ → ℕ → LayoutPiece
+keptAt n kinds bytes s at = keptOf n kinds bytes at (moreRead (tableRead entry) comma (40 - n) (drop at s))
 
-abbrev pub entriesFrom : List ℕ → Piece → LayoutPiece
-entriesFrom s first =
-    entriesAt 1 (set (replicate 40 0) 0 (kindByte first)) (set (replicate 40 0) 0 (restByte first)) s (first .at)
+abbrev pub keptFrom : List ℕ → Piece → LayoutPiece
+keptFrom s first =
+    keptAt 1 (set (replicate 40 0) 0 (kindByte first)) (set (replicate 40 0) 0 (restByte first)) s (first .at)
 
 -- ---- quirks
 
@@ -69,7 +69,7 @@ quirksPiece at good bits = record { at = at; good = good; bits = bits }
 unfoldable pub quirksOf : ℕ → ℕ → Read (List Said) → QuirksPiece
 quirksOf bits at x = cond (x .good) (quirksPiece (at + x .count) true (unionFrom bits (x .value))) (quirksPiece (at + x .count) false 0)
 
-unfoldable pub quirksAt : List ℕ → Place → QuirksPiece
+unfoldable pub quirksAt : List ℕ → LinePlace → QuirksPiece
 quirksAt s from = cond (from .good) (quirksOf 0 (from .at) (quirksRead (drop (from .at) s))) (quirksPiece (from .at) false 0)
 
 unfoldable pub namesAt : ℕ → List ℕ → ℕ → QuirksPiece
