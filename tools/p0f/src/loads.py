@@ -38,6 +38,7 @@ SMALLEST = (
     Question("multiple over 255", "*:1:0:*:mss*256,*:::0", True, None, 14),
     Question("comma at the end", "*:1:0:*:*,*:ts,::0", True, None, 15),
     Question("no digits", "*:1::*:*,*:::0", True, None, 4),
+    Question("byte behind a bad ttl", "*:1-:1:*:*,*:::0", True, "*:1-:0:*:*,*:::0", None),
     Question("byte behind a bad ttl", "*:1-:x:*:*,*:::0", True, None, 5),
     Question("minus for a colon", "*:1-0:*:*,*:::0", True, None, 4),
     Question("over 512 bytes", f"*:1:{'0' * 499}:*:*,*:::0", True, None, 512),
