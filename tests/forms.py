@@ -213,7 +213,7 @@ def line():
     yield whole, read()
     yield "".join(f"\\x{ord(c):02X}" for c in whole), read()
     # The line that docs/FORMATS.md takes apart.
-    yield "*:64:0:*:mss*20,10:mss,sok,ts,nop,ws:df,id+:0", "ok 0000400000000000030014010a0000000006000005000000 02000400080001000300"
+    yield "*:64:0:1460:mss*20,7:mss,sok,ts,nop,ws:df,id+:0", "ok 00004000000105b403001401070000000006000005000000 02000400080001000300"
     yield from ttl_texts()
     yield from field_texts()
     yield from list_texts()

@@ -44,7 +44,8 @@ module _ (s : List ℕ) where
   mss-read x p r = behind-piece (fieldAt mss s) colon s x (olenIn s) p r
 
   pub window-read
-      : (x : Piece) (p : LinePlace) (r : Piece) → x ≡ mssIn s → p ≡ behindAt colon s (x .at) (x .good) → r ≡ fieldAt window s p → r ≡ windowIn s
+      : (x : Piece) (p : LinePlace) (r : Piece) → x ≡ mssIn s → p ≡ behindAt colon s (x .at) (x .good)
+      → r ≡ fieldAt window s p → r ≡ windowIn s
   unfolding windowIn
   window-read x p r = behind-piece (fieldAt window s) colon s x (mssIn s) p r
 

@@ -20,13 +20,13 @@ abbrev fortyLine : List ℕ
 fortyLine = ascii "*:64:0:*:*,*:nop" ++ nops 39 ++ ascii "::0"
 
 forty : readLine fortyLine ≡ readOf fortyNops
-unfolding readLine refusedAt fieldsRead partsRead ttlRead layoutRead quirksRead readAs rawOf layoutOf kindSaid byteSaid unionFrom version bareByte
-    ttlForm mss window scale unnamed entry quirkWord payload any fits after done run left statesRead bitOf placeOf
+unfolding readLine refusedAt fieldsRead partsRead ttlRead layoutRead quirksRead readAs rawOf layoutOf kindSaid byteSaid unionFrom version
+    bareByte ttlForm mss window scale unnamed entry quirkWord payload any fits after done run left statesRead bitOf placeOf
 forty = refl
 
 lines-read : LinesRead
-unfolding readLine refusedAt fieldsRead partsRead ttlRead layoutRead quirksRead readAs rawOf layoutOf kindSaid byteSaid unionFrom version bareByte
-    ttlForm mss window scale unnamed entry quirkWord payload any fits after done run left statesRead bitOf placeOf
+unfolding readLine refusedAt fieldsRead partsRead ttlRead layoutRead quirksRead readAs rawOf layoutOf kindSaid byteSaid unionFrom version
+    bareByte ttlForm mss window scale unnamed entry quirkWord payload any fits after done run left statesRead bitOf placeOf
 lines-read =
     record {
       ours = refl;
@@ -51,8 +51,8 @@ lines-read =
     }
 
 quirk-names : QuirkNames
-unfolding readLine refusedAt fieldsRead partsRead ttlRead layoutRead quirksRead readAs rawOf layoutOf kindSaid byteSaid unionFrom version bareByte
-    ttlForm mss window scale unnamed entry quirkWord payload any fits after done run left statesRead bitOf placeOf
+unfolding readLine refusedAt fieldsRead partsRead ttlRead layoutRead quirksRead readAs rawOf layoutOf kindSaid byteSaid unionFrom version
+    bareByte ttlForm mss window scale unnamed entry quirkWord payload any fits after done run left statesRead bitOf placeOf
 quirk-names =
     record {
       df = refl;
@@ -75,8 +75,8 @@ quirk-names =
     }
 
 lines-refused : LinesRefused
-unfolding readLine refusedAt fieldsRead partsRead ttlRead layoutRead quirksRead readAs rawOf layoutOf kindSaid byteSaid unionFrom version bareByte
-    ttlForm mss window scale unnamed entry quirkWord payload any fits after done run left statesRead bitOf placeOf
+unfolding readLine refusedAt fieldsRead partsRead ttlRead layoutRead quirksRead readAs rawOf layoutOf kindSaid byteSaid unionFrom version
+    bareByte ttlForm mss window scale unnamed entry quirkWord payload any fits after done run left statesRead bitOf placeOf
 lines-refused =
     record {
       no-byte = refl;

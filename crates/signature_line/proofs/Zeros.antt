@@ -16,7 +16,8 @@ use Rattle.signature_line.specs.Line.{colon, longest}
 use Rattle.signature_line.specs.LineValues.{zerosLine, zeroRecord}
 use Rattle.signature_line.specs.Meaning.{layoutOf, unionFrom, rawOf}
 use Rattle.signature_line.specs.Answer.{readOf, refusedAt}
-use Rattle.signature_line.specs.LineReader.{ttlRead, layoutRead, quirksRead, afterOlenRead, partsRead, fieldsRead, readAs, answered, readLine}
+use Rattle.signature_line.specs.LineReader.{ttlRead, layoutRead, quirksRead, afterOlenRead, partsRead, fieldsRead}
+use Rattle.signature_line.specs.LineReader.{readAs, answered, readLine}
 use Rattle.signature_line.specs.Words.{version, bareByte, ttlForm, mss, window, scale, entry, quirkWord, payload}
 use Rattle.signature_line.proofs.Accepted.{short}
 
@@ -128,7 +129,9 @@ module _ (n : ℕ) where
       ≡ record { count = suc n + 0 + suc 11; good = true; value = ((said 0 0, said 0 0), restSays) }
   after-version = rw (ttl-then rest n, behind-zeros rest (suc n) (suc n + 0) (omega arith), rest-read)
 
-  parts-read : partsRead line ≡ record { count = 1 + suc (suc n + 0 + suc 11); good = true; value = (said 0 0, ((said 0 0, said 0 0), restSays)) }
+  parts-read
+      : partsRead line
+      ≡ record { count = 1 + suc (suc n + 0 + suc 11); good = true; value = (said 0 0, ((said 0 0, said 0 0), restSays)) }
   unfolding partsRead version statesRead run left after done
   parts-read = rw after-version
 
