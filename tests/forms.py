@@ -149,4 +149,89 @@ def batch():
         yield bad, BAD
 
 
-LINES = {"observe": observe, "options": options, "search": search_lines, "batch": batch}
+def read(layout="0200", **fields):
+    """What is said of a line that is read: the record of the whole example, but for what is given, with label 0."""
+    entries = bytes.fromhex(layout)
+    return f"ok {record(label=0, count=len(entries) // 2, **fields).hex()} {layout or '-'}"
+
+
+def ttl_texts():
+    for text, ttl in (("0", (0, 0, 0)), ("255", (0, 255, 0)), ("054+010", (1, 54, 10)), ("64+0", (1, 64, 0)), ("200+100", (1, 200, 100)),
+                      ("64+?", (2, 64, 0)), ("64-", (3, 64, 0)), ("0-", (3, 0, 0))):
+        yield f"*:{text}:0:*:mss*4,*:mss:df:0", read(ttl=ttl)
+    for text, place in (("256", 2), ("2550", 3), ("0256", 3), ("", 0), ("-", 0), ("+", 0), ("64+", 3), ("64+256", 5), ("64++", 3),
+                        ("64+?1", 4), ("64-1", 3), ("64 ", 2), ("*", 0)):
+        yield f"*:{text}:0:*:mss*4,*:mss:df:0", f"refused 13 {2 + place}"
+
+
+def field_texts():
+    for text, number in (("0", 0), ("255", 255), ("000255", 255)):
+        yield f"*:64:{text}:*:mss*4,*:mss:df:0", read(olen=number)
+        yield f"*:64:0:*:mss*4,{text}:mss:df:0", read(scale=(1, number))
+        yield f"*:64:0:*:mss*{text},*:mss:df:0", read(window=(3, number))
+        yield f"*:64:0:*:mtu*{text},*:mss:df:0", read(window=(4, number))
+        yield f"*:64:0:*:mss*4,*:eol+{text}:df:0", read(layout=f"00{number:02x}")
+    for text, number in (("0", 0), ("256", 256), ("65535", 65535), ("0065535", 65535)):
+        yield f"*:64:0:{text}:mss*4,*:mss:df:0", read(mss=(1, number))
+        yield f"*:64:0:*:{text},*:mss:df:0", read(window=(1, number))
+        yield f"*:64:0:*:%{text},*:mss:df:0", read(window=(2, number))
+    yield "*:64:0:*:*,*:mss:df:0", read(window=(0, 0))
+    for version in (4, 6):
+        yield f"{version}:64:0:*:mss*4,*:mss:df:0", read(version=version)
+    for payload, code in (("0", 0), ("+", 1), ("*", 2)):
+        yield f"*:64:0:*:mss*4,*:mss:df:{payload}", read(payload=code)
+
+
+def list_texts():
+    """Layouts and quirks."""
+    bits = {"ecn": 0, "df": 1, "id+": 2, "id-": 3, "0+": 4, "flow": 5, "seq-": 12, "ack+": 13, "ack-": 14, "uptr+": 15, "urgf+": 16,
+            "pushf+": 17, "ts1-": 24, "ts2+": 25, "opt+": 26, "exws": 27, "bad": 28}
+    for name, bit in bits.items():
+        yield f"*:64:0:*:mss*4,*:mss:{name}:0", read(quirks=1 << bit)
+    yield f"*:64:0:*:mss*4,*:mss:{','.join(bits)}:0", read(quirks=0x1F03F03F)
+    yield f"6:64:0:*:mss*4,*:mss:{','.join([*bits][::-1] * 2)}:0", read(version=6, quirks=0x1F03F03F)
+    yield "*:64:0:*:mss*4,*:mss::0", read(quirks=0)
+    yield "*:64:0:*:mss*4,*::df:0", read(layout="")
+    yield "*:64:0:*:mss*4,*:nop,mss,ws,sok,sack,ts,?6,?007,?9,?255,eol+0,nop:df:0", read(layout="01000200030004000500080006000700"
+                                                                                     "0900ff0000000100")
+    yield f"*:64:0:*:mss*4,*:{','.join(['ts'] * 40)}:df:0", read(layout="0800" * 40)
+    yield f"*:64:0:*:mss*4,*:{','.join(['ts'] * 41)}:df:0", f"refused 13 {17 + 3 * 40 - 1}"
+    for kind in (0, 1, 2, 3, 4, 5, 8):
+        yield f"*:64:0:*:mss*4,*:?{kind}:df:0", "refused 13 19"
+        yield f"*:64:0:*:mss*4,*:?{kind},mss:df:0", "refused 13 19"
+        yield f"*:64:0:*:mss*4,*:?00{kind}:df:0", "refused 13 21"
+    for text, place in (("?256", 3), ("?", 1), ("eol", 3), ("eol+", 4), ("eol+256", 6), ("mss,", 4), (",mss", 0), ("MSS", 0), ("mssx", 3),
+                        ("so", 2), ("sox", 2), (" mss", 0), ("?-1", 1)):
+        yield f"*:64:0:*:mss*4,*:{text}:df:0", f"refused 13 {17 + place}"
+    for text, place in (("df,", 3), (",df", 0), ("dfx", 2), ("d", 1), ("id", 2), ("ts1+", 3), ("ack", 3), ("DF", 0), ("df df", 2),
+                        ("0", 1)):
+        yield f"*:64:0:*:mss*4,*:mss:{text}:0", f"refused 13 {21 + place}"
+
+
+def line():
+    whole = "*:64:0:*:mss*4,*:mss:df:0"
+    yield whole, read()
+    yield "".join(f"\\x{ord(c):02X}" for c in whole), read()
+    # The line that docs/FORMATS.md takes apart.
+    yield "*:64:0:1460:mss*20,7:mss,sok,ts,nop,ws:df,id+:0", "ok 00004000000105b403001401070000000006000005000000 02000400080001000300"
+    yield from ttl_texts()
+    yield from field_texts()
+    yield from list_texts()
+    for at in range(len(whole)):
+        yield whole[:at], f"refused 13 {at}"
+    for end in ("\\x0a", "\\x0d", "\\x00", "\\xff", "\\x5c", " ", "0", ":", "*"):
+        yield whole + end, f"refused 13 {len(whole)}"
+        yield whole[:5] + end + whole[5:], "refused 13 5" if end != "0" else read()
+    zeros = "0" * (512 - len(whole))
+    yield whole.replace("64", zeros + "64"), read()
+    yield whole.replace("64", zeros + "064"), "refused 13 512"
+    yield whole.replace("64", zeros[1:] + "64") + ":", "refused 13 511"
+    yield "x" * 512, "refused 13 0"
+    yield "x" * 513, "refused 13 512"
+    yield "\\xff" * 513, "refused 13 512"
+    yield "*:" + "0" * 510, "refused 13 512"
+    for bad in ("\\", "\\x", "\\x0", "\\x0g", "\\n", "\\X0a", "*:64\t", "*:64\r", "*:64\0", "\u00e9", "\x7f", whole + "\\"):
+        yield bad, BAD
+
+
+LINES = {"observe": observe, "options": options, "search": search_lines, "batch": batch, "line": line}

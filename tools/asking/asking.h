@@ -32,6 +32,7 @@ int scan_absent_or(Line *line, uint32_t most, uint8_t *present, uint32_t *number
 int scan_quirks(Line *line, uint32_t *quirks);
 int scan_bytes(Line *line, Bytes *bytes);
 int scan_last_bytes(Line *line, Bytes *bytes);
+int scan_escaped(Line *line, Bytes *bytes);
 int scan_observation(Line *line, witness_observation *observation);
 
 void write_absent_or(const char *name, int present, uint32_t number);

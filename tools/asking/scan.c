@@ -96,3 +96,20 @@ int scan_last_bytes(Line *line, Bytes *bytes) {
     if (line->at < line->end && !scan_text(line, " ")) return 0;
     return scan_bytes(line, bytes) && line->at == line->end;
 }
+
+/* Text up to the end of the line: the bytes 32 to 126 as they are but for '\', any byte as \xNN. */
+int scan_escaped(Line *line, Bytes *bytes) {
+    uint8_t *room = room_for((size_t)(line->end - line->at));
+    size_t length = 0;
+    for (; line->at < line->end; length++) {
+        if (scan_text(line, "\\x")) {
+            if (!scan_byte(line, room + length)) return 0;
+        } else {
+            if (*line->at < 32 || *line->at > 126 || *line->at == '\\') return 0;
+            room[length] = (uint8_t)*line->at++;
+        }
+    }
+    bytes->at = room;
+    bytes->length = length;
+    return 1;
+}

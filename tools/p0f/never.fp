@@ -13,6 +13,7 @@ sig   = *:64:0:*:5840,*:mss:df,id+,ts1-:0
 sig   = *:64:0:*:5840,*:mss:df,id+,ts2+:0
 sig   = *:64:0:*:5840,*:mss,nop,nop,sok:df,id+,opt+:0
 sig   = *:64:0:*:5840,*:mss,nop,nop,nop,eol+0:df,id+,opt+:0
+sig   = *:64:0:*:5840,*:mss,eol+3,mss:df,id+:0
 sig   = *:64:0:*:5840,*:mss:df,id+,uptr+,urgf+:0
 sig   = *:64:0:*:5840,*:mss:df,id+,ack-:0
 sig   = 4:64:0:*:5840,*:mss:df,id+,flow:0

@@ -64,9 +64,20 @@ typedef struct {
     uint8_t hops;        /* the hop distance then */
 } witness_search_read;
 
+/* What is read of a signature line. */
+typedef struct {
+    uint64_t count;   /* entries of the layout */
+    uint64_t offset;  /* of refusal 13: the first byte at which no line goes on, else 0 */
+    uint8_t refusal;  /* 13, else 0 */
+    uint8_t raw[24];  /* the record, as in a signature list; with its layout empty beside a refusal */
+    uint8_t kinds[40];
+    uint8_t bytes[40];
+} witness_line_read;
+
 /* As many bytes as the source's structs have, by C's layout on x86-64. */
 typedef char witness_structs_have_their_sizes[sizeof(witness_observation) == 120 && sizeof(witness_packet_read) == 128 &&
-                                              sizeof(witness_options_read) == 96 && sizeof(witness_search_read) == 20 ? 1 : -1];
+                                              sizeof(witness_options_read) == 96 && sizeof(witness_search_read) == 20 &&
+                                              sizeof(witness_line_read) == 128 ? 1 : -1];
 
 /* The reading of a packet; a peer's MSS of 0 is an absent one. */
 witness_packet_read witness_packet(const uint8_t *packet, size_t length, uint16_t peer_mss);
@@ -78,6 +89,9 @@ witness_search_read witness_search(witness_observation observation, const uint8_
 
 /* The hop distance that is reported for two TTLs of three bytes each (form, TTL, distance): an observed one, then a signature's. */
 uint8_t witness_hops(const uint8_t *ttls, size_t length);
+
+/* The reading of a line of p0f's text form, without its line end. */
+witness_line_read witness_line(const uint8_t *line, size_t length);
 
 /* How far the output of a bundle is: the bytes of the page, and the packets that are left, by their number and the place of the first. */
 typedef struct {

@@ -8,6 +8,7 @@ use Rattle.acceptance.proofs.Lines.{lines}
 use Rattle.acceptance.proofs.OnPaper.{on-paper}
 use Rattle.acceptance.proofs.Refusals.{refusals}
 use Rattle.acceptance.proofs.Stages.{stages}
+use Rattle.acceptance.proofs.TextLines.{text-lines}
 use Rattle.acceptance.proofs.Unchecked.{unchecked}
 
 pub acceptance : Acceptance
@@ -22,4 +23,5 @@ acceptance =
       demand2 = demand2;
       demand3 = demand3;
       stages = stages;
+      textLines = text-lines;
     }

@@ -20,6 +20,10 @@ use Rattle.syn_options.specs.Walk.{parseOptionsRaw, optionsRefusal}
 use Rattle.siglist.specs.declared.ListAnswer.{ListAnswer}
 use Rattle.siglist.specs.declared.ListAnswer.the-variants as list
 use Rattle.siglist.specs.List.{checkList, listRefusal}
+use Rattle.signature_line.specs.declared.LineAnswer.{LineAnswer}
+use Rattle.signature_line.specs.declared.LineAnswer.the-variants as line
+use Rattle.signature_line.specs.LineReader.{readLine}
+use Rattle.signature_line.proofs.Accepted.{refused-exactly}
 use Rattle.search.specs.declared.SearchAnswer.{SearchAnswer}
 use Rattle.search.specs.declared.SearchAnswer.the-variants as search
 use Rattle.search.specs.Search.{searchList, searchRefusal}
@@ -30,7 +34,7 @@ use Rattle.bundle.specs.Bundle.{listOf, checkBundle, bundleRefusal}
 use Rattle.gateway.specs.Parts.{afterList, gatewayAnswer}
 use Rattle.acceptance.specs.Refusals.{First, PacketRow, packetOrder, Refused, Gives, Answered, ListRow}
 use Rattle.acceptance.specs.OnPaper.{alone, paperOf, answerPaper, packetPaper, optionsPaper, listPaper, searchPaper, bundlePaper}
-use Rattle.acceptance.specs.OnPaper.{gatewayPaper, Also, IsRow, GatewayRow, Rows, TheTable}
+use Rattle.acceptance.specs.OnPaper.{gatewayPaper, Also, IsRow, linePaper, LinePaper, GatewayRow, Rows, TheTable}
 use Rattle.acceptance.proofs.Refusals.{refusals}
 use Rattle.acceptance.proofs.PaperStages.{others, under-7, ip-row, header-row}
 
@@ -207,6 +211,16 @@ module _ (p l : List ℕ) where
 pub the-table : TheTable
 the-table value = refl
 
+-- ---- a signature line
+
+line-row : (s : List ℕ) → LinePaper s (linePaper (readLine s .answer))
+line-row s = by (readLine s .answer) refl
+  where
+    by : (a : LineAnswer) → readLine s .answer ≡ a → LinePaper s (linePaper a)
+    by line.Read e =
+        LinePaper.of-0 (λ at r. let q = refused-exactly s at .1 r in let z : _≡_ {A = ℕ} 0 1 = cc in omega arith)
+    by (line.Refused at) e = LinePaper.of-13 (refused-exactly s at .0 e)
+
 pub rows : Rows
 rows =
     record {
@@ -222,6 +236,7 @@ rows =
           λ o l.
           let a = searchList o l in
           record { first = refusals .search o l _ .0 (search-same a); also = search-also [] l o a refl };
+      line = line-row;
       bundle = λ b. record { first = refusals .bundle b _ .0 (bundle-same (checkBundle b)); also = bundle-also b (checkBundle b) refl };
       packet-answer = λ p peer l. packet-answer-row p l peer;
       gateway = λ p peer l. gateway-row p l peer;

@@ -4,7 +4,7 @@ use Rattle.refusals.specs.declared.PacketRefusal.{PacketRefusal}
 use Rattle.refusals.specs.declared.PacketRefusal.the-variants as refusal
 use Rattle.refusals.specs.declared.ListRefusal.{ListRefusal}
 use Rattle.refusals.specs.declared.Refusal.{Refusal}
-use Rattle.refusals.specs.Refusals.{byKind, Verdict}
+use Rattle.refusals.specs.Refusals.{byKind, valueOf, returned, Verdict}
 use Rattle.refusals.proofs.Back.{IfRefused, told-apart}
 use Rattle.ip.specs.declared.IpRead.the-variants as ip
 use Rattle.ip.specs.Ip.{ipVerdict}
@@ -15,6 +15,8 @@ use Rattle.syn_options.specs.Walk.{optionsVerdict}
 use Rattle.siglist.specs.declared.Header.the-variants as header
 use Rattle.siglist.specs.declared.ListAnswer.the-variants as list
 use Rattle.siglist.specs.List.{headerVerdict, listVerdict}
+use Rattle.signature_line.specs.declared.LineAnswer.the-variants as line
+use Rattle.signature_line.specs.Answer.{lineVerdict}
 use Rattle.search.specs.declared.SearchAnswer.the-variants as search
 use Rattle.search.specs.Search.{searchVerdict}
 use Rattle.packet_answer.specs.declared.PacketAnswer.the-variants as packet
@@ -61,6 +63,10 @@ header-again : Again (λ r. header.DoesNotFit) headerVerdict
 header-again (header.Fits areas) = tt
 header-again header.DoesNotFit = refl
 
+line-again : Again (λ r. line.Refused (valueOf (returned r))) lineVerdict
+line-again line.Read = tt
+line-again (line.Refused at) = refl
+
 -- One whose refusals are a list's, and one more or none.
 abbrev ofList : {A : Type 0} → (ListRefusal → A) → A → Refusal → A
 ofList refused other r = byKind (λ why. other) refused other r
@@ -95,6 +101,7 @@ told =
       options = by-again (λ r. options.Refused) optionsVerdict options-again;
       header = by-again (λ r. header.DoesNotFit) headerVerdict header-again;
       list = by-again (ofList list.Refused list.Good) listVerdict list-again;
+      line = by-again (λ r. line.Refused (valueOf (returned r))) lineVerdict line-again;
       search = by-again (ofList search.List search.LayoutTooLong) searchVerdict search-again;
       bundle = by-again (ofList bundle.List bundle.DoesNotFit) bundleVerdict bundle-again;
       packet-answer = by-again (ofPacket packet.Refused) packetVerdict packet-again;

@@ -19,6 +19,8 @@ use Rattle.acceptance.proofs.Promises.matching as matching'
 use Rattle.acceptance.proofs.Promises.siglist as siglist'
 use Rattle.acceptance.proofs.Promises.found as found'
 use Rattle.acceptance.proofs.Promises.search as search'
+use Rattle.acceptance.proofs.Promises.one_field as one-field'
+use Rattle.acceptance.proofs.Promises.parse_tcp as parse-tcp'
 use Rattle.acceptance.proofs.Promises.packet_answer as packet-answer'
 use Rattle.acceptance.proofs.Promises.bundle as bundle'
 use Rattle.acceptance.proofs.Promises.report as report'
@@ -41,6 +43,8 @@ pub mod matching
 pub mod siglist
 pub mod found
 pub mod search
+pub mod one_field
+pub mod parse_tcp
 pub mod packet_answer
 pub mod bundle
 pub mod report
@@ -67,6 +71,8 @@ each-crate =
       siglist = siglist'.promises;
       found = found'.promises;
       search = search'.promises;
+      one-field = one-field'.promises;
+      parse-tcp = parse-tcp'.promises;
       packet-answer = packet-answer'.promises;
       bundle = bundle'.promises;
       report = report'.promises;

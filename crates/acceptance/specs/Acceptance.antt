@@ -8,6 +8,7 @@ use Rattle.acceptance.specs.Lines.{Lines}
 use Rattle.acceptance.specs.OnPaper.{OnPaper}
 use Rattle.acceptance.specs.Refusals.{Refusals}
 use Rattle.acceptance.specs.Stages.{Stages}
+use Rattle.acceptance.specs.TextLines.{TextLines}
 use Rattle.acceptance.specs.Unchecked.{Unchecked}
 
 pub record Acceptance : Type 1 where
@@ -26,3 +27,5 @@ pub record Acceptance : Type 1 where
   pub demand3 : Demand3
   -- and so does every reader of two stages that each keep to it
   pub stages : Stages
+  -- D1: signatures read from p0f's text form (document 02, Wish 1).
+  pub textLines : TextLines

@@ -14,5 +14,6 @@ pub mod Promised
 pub mod Promises
 pub mod Refusals
 pub mod Stages
+pub mod TextLines
 pub mod Unchecked
 pub mod Values

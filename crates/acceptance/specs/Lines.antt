@@ -4,8 +4,7 @@ use mathlib.Core.Path.{_≡_}
 use mathlib.Core.List.{List, [], _∷_}
 use mathlib.Core.Logic.{_↔_}
 use Prim.Native.Nat.{ℕ, _<_}
-use Prim.Native.Char.{Char, code}
-use Prim.Native.String.{String, [] as end, _∷_ as _then_}
+use Rattle.basis.specs.Ascii.{ascii}
 use Rattle.tcp.specs.declared.Mss.{Mss}
 use Rattle.refusals.specs.declared.PacketRefusal.the-variants as refusal
 use Rattle.refusals.specs.Refusals.{packetNumber}
@@ -62,11 +61,6 @@ LabelFits packet.Nothing = Unit {0}
 LabelFits (packet.Refused r) = Unit {0}
 
 -- ---- the words
-
--- A text of ASCII characters, as bytes.
-abbrev pub ascii : String → List ℕ
-ascii end = []
-ascii (c then rest) = code c ∷ ascii rest
 
 -- Record n of a list, with this label.
 abbrev pub labelled : ℕ → ℕ → Hit

@@ -18,6 +18,10 @@ use Rattle.syn_options.specs.Walk.{parseOptionsRaw, optionsVerdict}
 use Rattle.siglist.specs.declared.Header.{Header}
 use Rattle.siglist.specs.declared.ListAnswer.{ListAnswer}
 use Rattle.siglist.specs.List.{headerOf, checkList, headerVerdict, listVerdict}
+use Rattle.signature_line.specs.declared.LineAnswer.{LineAnswer}
+use Rattle.signature_line.specs.Line.{LineRefused}
+use Rattle.signature_line.specs.Answer.{lineVerdict}
+use Rattle.signature_line.specs.LineReader.{readLine}
 use Rattle.search.specs.declared.SearchAnswer.{SearchAnswer}
 use Rattle.search.specs.Search.{searchList, searchVerdict}
 use Rattle.packet_answer.specs.declared.PacketAnswer.{PacketAnswer}
@@ -69,6 +73,10 @@ headerPaper a = paperOf (headerVerdict a)
 abbrev pub listPaper : ListAnswer → Paper
 listPaper a = paperOf (listVerdict a)
 
+-- `parse_tcp_signature`'s answer.
+abbrev pub linePaper : LineAnswer → Paper
+linePaper a = paperOf (lineVerdict a)
+
 abbrev pub searchPaper : SearchAnswer → Paper
 searchPaper a = paperOf (searchVerdict a)
 
@@ -91,6 +99,11 @@ pub data Also (p l : List ℕ) : Paper → Type 0 where
 pub record IsRow (Row : ℕ → Type 0) (order p l : List ℕ) (x : Paper) : Type 0 where
   pub first : First Row order (x .number)
   pub also : Also p l x
+
+-- A signature line is read, or meets 13, which returns the offset.
+pub data LinePaper (s : List ℕ) : Paper → Type 0 where
+  of-0 : ((at : ℕ) → LineRefused s at → ⊥) → LinePaper s (alone 0)
+  of-13 : {at : ℕ} → LineRefused s at → LinePaper s (record { number = 13; also = Returned.offset at })
 
 -- A gateway's list is refused before its packet is read, as a bundle's is.
 pub data GatewayRow (p l : List ℕ) : ℕ → Type 0 where
@@ -115,6 +128,7 @@ pub record Rows : Type 0 where
   pub header : (l : List ℕ) → IsRow (ListRow l) (9 ∷ []) [] l (headerPaper (headerOf l))
   pub list : (l : List ℕ) → IsRow (ListRow l) (9 ∷ 10 ∷ []) [] l (listPaper (checkList l))
   pub search : (o : TcpObservation) (l : List ℕ) → IsRow (SearchRow o l) (11 ∷ 9 ∷ 10 ∷ []) [] l (searchPaper (searchList o l))
+  pub line : (s : List ℕ) → LinePaper s (linePaper (readLine s .answer))
   pub bundle : (b : List ℕ) → IsRow (BundleRow b) (12 ∷ 9 ∷ 10 ∷ []) [] (listOf b) (bundlePaper (checkBundle b))
   pub packet-answer : (p : List ℕ) (peer : Mss) (l : List ℕ) → IsRow (PacketRow p) packetOrder p l (packetPaper (answerOf p peer l))
   pub gateway
@@ -184,6 +198,7 @@ pub record Told : Type 0 where
   pub options : ToldApart optionsPaper
   pub header : ToldApart headerPaper
   pub list : ToldApart listPaper
+  pub line : ToldApart linePaper
   pub search : ToldApart searchPaper
   pub bundle : ToldApart bundlePaper
   pub packet-answer : ToldApart packetPaper

@@ -18,6 +18,8 @@ use Rattle.acceptance.specs.Promises.matching as matching'
 use Rattle.acceptance.specs.Promises.siglist as siglist'
 use Rattle.acceptance.specs.Promises.found as found'
 use Rattle.acceptance.specs.Promises.search as search'
+use Rattle.acceptance.specs.Promises.one_field as one-field'
+use Rattle.acceptance.specs.Promises.parse_tcp as parse-tcp'
 use Rattle.acceptance.specs.Promises.packet_answer as packet-answer'
 use Rattle.acceptance.specs.Promises.bundle as bundle'
 use Rattle.acceptance.specs.Promises.report as report'
@@ -40,6 +42,8 @@ pub mod matching
 pub mod siglist
 pub mod found
 pub mod search
+pub mod one_field
+pub mod parse_tcp
 pub mod packet_answer
 pub mod bundle
 pub mod report
@@ -64,6 +68,8 @@ pub record EachCrate : Type 0 where
   pub siglist : siglist'.Promises
   pub found : found'.Promises
   pub search : search'.Promises
+  pub one-field : one-field'.Promises
+  pub parse-tcp : parse-tcp'.Promises
   pub packet-answer : packet-answer'.Promises
   pub bundle : bundle'.Promises
   pub report : report'.Promises

@@ -1,3 +1,4 @@
+pub mod Ascii
 pub mod Bytes
 pub mod Digits
 pub mod Tests

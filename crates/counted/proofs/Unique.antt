@@ -6,9 +6,12 @@ use contract.Lifetimes.{Lfts}
 use denote.Ref.{RefT, now}
 use Rattle.basis.specs.Unique.{ExactlyOne}
 use Rattle.basis.proofs.Unique.{equation}
+use Rattle.witness.specs.declared.PlainLine.{PlainLine}
 use Rattle.witness.specs.declared.PlainPacket.{PlainPacket}
+use Rattle.witness.specs.Lined.{lineRead}
 use Rattle.counted.specs.Counted.{countedAnswer, countedReading}
 use Rattle.counted.proofs.counted_answer.Reads as counted-answer'
+use Rattle.counted.proofs.counted_line.Reads as counted-line'
 use Rattle.counted.proofs.counted_observe.Reads as counted-observe'
 
 pub counted-observe-one
@@ -20,3 +23,8 @@ pub counted-answer-one
     : (κs : Lfts 2) (packet : RefT (List ℕ)) (peer : ℕ) (list : RefT (List ℕ))
     → ExactlyOne ℕ (λ (r : ℕ). counted-answer'.Post κs (packet, (peer, (list, tt))) r (packet, (peer, (list, tt))))
 counted-answer-one κs packet peer list = equation (countedAnswer (now packet) peer (now list))
+
+pub counted-line-one
+    : (κs : Lfts 1) (line : RefT (List ℕ))
+    → ExactlyOne PlainLine (λ (r : PlainLine). counted-line'.Post κs (line, tt) r (line, tt))
+counted-line-one κs line = equation (lineRead (now line))

@@ -1,10 +1,13 @@
 // What tools/benchmark counts, in an archive of its own; not part of the product.
 ghost use mathlib.Core.Path.{_≡_};
 ghost use Rattle.counted.specs.Counted.{countedReading, foundCode, countedAnswer};
+ghost use Rattle.witness.specs.Lined.{lineRead};
 use found::Found;
 use packet_answer::peer_of;
 use window_size::Multiplier;
+use witness::PlainLine;
 use witness::PlainPacket;
+use witness::witness_line;
 use witness::written::plain_packet;
 
 // The reading of a packet, whole, as a struct that C can read; the window's multiplier, which a search computes, is left out.
@@ -33,4 +36,12 @@ pub extern "C" fn counted_answer(packet: &[u8], peer: u16, list: &[u8]) -> u64
     let reading = flow::read_packet(packet, peer_of(peer));
     let observation = reading.observation;
     found_code(search::search_checked(observation, list))
+}
+
+// The reading of a signature line, whole, as a struct that C can read.
+#[no_mangle]
+pub extern "C" fn counted_line(line: &[u8]) -> PlainLine
+    ensures { λ r. ⌜ r ≡ lineRead (now (line .entry)) ⌝ }
+{
+    witness_line(line)
 }

@@ -9,15 +9,18 @@ use Rattle.basis.proofs.Unique.{both, equation}
 use Rattle.text.specs.Written.{left-with}
 use Rattle.window_size.specs.declared.Multiplier.{Multiplier}
 use Rattle.flow.specs.declared.Reading.{Reading}
+use Rattle.witness.specs.declared.PlainLine.{PlainLine}
 use Rattle.witness.specs.declared.PlainObservation.{PlainObservation}
 use Rattle.witness.specs.declared.PlainOptions.{PlainOptions}
 use Rattle.witness.specs.declared.PlainPacket.{PlainPacket}
 use Rattle.witness.specs.declared.PlainProgress.{PlainProgress}
 use Rattle.witness.specs.declared.PlainSearch.{PlainSearch}
+use Rattle.witness.specs.Lined.{lineRead}
 use Rattle.witness.specs.Taken.{hopsRead, searchRead}
 use Rattle.witness.specs.Written.{optionsRead, packetRead, plainPacket}
 use Rattle.witness.proofs.witness_first_page.Reads as witness-first-page'
 use Rattle.witness.proofs.witness_hops.Reads as witness-hops'
+use Rattle.witness.proofs.witness_line.Reads as witness-line'
 use Rattle.witness.proofs.witness_next_page.Reads as witness-next-page'
 use Rattle.witness.proofs.witness_options.Reads as witness-options'
 use Rattle.witness.proofs.witness_packet.Reads as witness-packet'
@@ -33,6 +36,11 @@ pub witness-options-one
     : (κs : Lfts 1) (options : RefT (List ℕ))
     → ExactlyOne PlainOptions (λ (r : PlainOptions). witness-options'.Post κs (options, tt) r (options, tt))
 witness-options-one κs options = equation (optionsRead (now options))
+
+pub witness-line-one
+    : (κs : Lfts 1) (line : RefT (List ℕ))
+    → ExactlyOne PlainLine (λ (r : PlainLine). witness-line'.Post κs (line, tt) r (line, tt))
+witness-line-one κs line = equation (lineRead (now line))
 
 pub witness-search-one
     : (κs : Lfts 1) (observation : PlainObservation) (list : RefT (List ℕ))

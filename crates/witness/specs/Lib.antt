@@ -1,2 +1,3 @@
+pub mod Lined
 pub mod Taken
 pub mod Written

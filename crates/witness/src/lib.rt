@@ -2,6 +2,8 @@
 ghost use mathlib.Core.Path.{_≡_};
 ghost use Rattle.witness.specs.Written.{packetRead, optionsRead, plainProgress, firstOf, nextOf, Paged};
 ghost use Rattle.witness.specs.Taken.{searchRead, hopsRead};
+ghost use Rattle.witness.specs.Lined.{lineRead};
+use lined::plain_line;
 use packet_answer::peer_of;
 use report::PAGE;
 use searched::plain_search;
@@ -10,6 +12,7 @@ use taken::ttl_of;
 use written::plain_options;
 use written::plain_packet;
 
+mod lined;
 mod searched;
 mod taken;
 pub mod written;
@@ -62,6 +65,16 @@ pub struct PlainOptions {
 }
 
 #[repr(C)]
+pub struct PlainLine {
+    pub count: usize,
+    pub offset: usize,
+    pub refusal: u8,
+    pub raw: [u8; 24],
+    pub kinds: [u8; 40],
+    pub bytes: [u8; 40],
+}
+
+#[repr(C)]
 pub struct PlainSearch {
     pub added: u32,
     pub missing: u32,
@@ -96,6 +109,14 @@ pub extern "C" fn witness_options(options: &[u8]) -> PlainOptions
     ensures { λ r. ⌜ r ≡ optionsRead (now (options .entry)) ⌝ }
 {
     plain_options(syn_options::parse_options_raw(options))
+}
+
+// The reading of a line of p0f's text form.
+#[no_mangle]
+pub extern "C" fn witness_line(line: &[u8]) -> PlainLine
+    ensures { λ r. ⌜ r ≡ lineRead (now (line .entry)) ⌝ }
+{
+    plain_line(parse_tcp::parse_tcp_signature(line))
 }
 
 #[no_mangle]

@@ -5,6 +5,7 @@
 //!     driver DATABASE bundle N FILE    a bundle of N packets for the program termread
 
 mod bundle;
+mod lines;
 mod lists;
 mod original;
 mod packets;
@@ -22,7 +23,10 @@ fn main() {
         lines = made_up.iter().map(String::as_str).collect();
     }
     match &arguments[1..] {
-        [] => rows::all(&lines),
+        [] => {
+            rows::all(&lines);
+            lines::all(&[&lines[..], &lists::section(&text, "tcp:response")].concat());
+        }
         [word, count, file] if word == "bundle" => {
             let bytes = bundle::of(&lines, count.parse().expect("a number"));
             std::fs::write(file, bytes).expect("the bundle is written");

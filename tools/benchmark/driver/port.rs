@@ -35,7 +35,19 @@ pub struct Reading {
     pub flags: u8,
 }
 
+/// `witness::PlainLine`: what is read of a signature line.
+#[repr(C)]
+pub struct Line {
+    pub count: u64,
+    pub offset: u64,
+    pub refusal: u8,
+    pub raw: [u8; 24],
+    pub kinds: [u8; 40],
+    pub bytes: [u8; 40],
+}
+
 unsafe extern "C" {
+    fn counted_line(line: *const u8, size: usize) -> Line;
     fn counted_observe(packet: *const u8, size: usize, peer: u16) -> Reading;
     fn counted_answer(packet: *const u8, size: usize, peer: u16, list: *const u8, length: usize) -> u64;
 }
@@ -49,4 +61,9 @@ pub fn observe(packet: &[u8], peer: u16) -> Reading {
 #[inline(always)]
 pub fn answer(packet: &[u8], peer: u16, list: &[u8]) -> u64 {
     unsafe { counted_answer(packet.as_ptr(), packet.len(), peer, list.as_ptr(), list.len()) }
+}
+
+#[inline(always)]
+pub fn line(text: &[u8]) -> Line {
+    unsafe { counted_line(text.as_ptr(), text.len()) }
 }

@@ -5,10 +5,15 @@ use std::hint::black_box;
 pub const CALLS: usize = 64;
 
 /// Two windows, N and 2 N calls, announced by a line: what is added to or taken from which side of which row.
-pub fn measure(row: &str, side: &str, sign: char, mut call: impl FnMut()) {
-    println!("{sign}\t{side}\t{row}\t{CALLS}");
-    window(CALLS, &mut call);
-    window(2 * CALLS, &mut call);
+pub fn measure(row: &str, side: &str, sign: char, call: impl FnMut()) {
+    measure_calls(row, side, sign, CALLS, call);
+}
+
+/// The same with another N.
+pub fn measure_calls(row: &str, side: &str, sign: char, calls: usize, mut call: impl FnMut()) {
+    println!("{sign}\t{side}\t{row}\t{calls}");
+    window(calls, &mut call);
+    window(2 * calls, &mut call);
 }
 
 #[inline(never)]

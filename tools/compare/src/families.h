@@ -9,6 +9,11 @@ void packet_families(unsigned share);
 void option_families(unsigned share);
 void search_families(unsigned share);
 void pair_families(unsigned share);
+void line_families(unsigned share);
+
+/* Base lines, from which single bytes and lengths are changed. */
+enum { LINES = 10 };
+size_t base_line(int i, uint8_t *s);
 
 /* Base packets and base option strings, from which single bytes and lengths are changed. */
 enum { BASES = 12, BASE_MOST = 128, STRINGS = 6 };

@@ -33,4 +33,14 @@ void make_observation(Random *r, uint8_t *o);
 size_t make_list(Random *r, const uint8_t *o, unsigned records, unsigned changes, uint8_t *list);
 size_t damage_list(Random *r, uint8_t *list, size_t size);
 
+/* A signature line of all forms, at most LINE_MOST bytes, good but for a number or a count that is over its bound now and then. */
+size_t make_line(Random *r, uint8_t *s);
+
+/* A line after one change: a byte put in, taken out or replaced, two exchanged, the end cut off or lengthened. */
+size_t damage_line(Random *r, uint8_t *s, size_t size);
+
+/* Words of the grammar in any order, or bytes of its alphabet, behind a line's beginning or none. */
+size_t make_words(Random *r, uint8_t *s);
+size_t make_letters(Random *r, uint8_t *s);
+
 #endif

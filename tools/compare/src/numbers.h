@@ -5,6 +5,7 @@
    options  0 answer (1 parsed, 8 refused)   1 malformed   2 MSS   3 scale   20 to 30 layout
    search   0 answer (65536 none, 131072 + label exact, 196608 + label fuzzy, or the refusal)
             1 index of refusal 10   2 hops   3 added   4 missing   5 the number of the record, from 0
+   line     0 answer (1 read, 13 refused)   1 offset   2 to 4 the record   20 to 30 layout
    hops     0 the hop distance that is reported for two TTLs of three bytes */
 #ifndef NUMBERS_H
 #define NUMBERS_H
@@ -23,6 +24,7 @@ void port_options(const uint8_t *s, size_t size, Numbers *out);
 void port_search(const uint8_t *observation, const uint8_t *list, size_t size, Numbers *out);
 
 void port_hops(const uint8_t ttls[6], Numbers *out);
+void port_line(const uint8_t *s, size_t size, Numbers *out);
 
 /* present: whether the original is told of a peer at all; with 0 that makes no difference.
    Of a SYN or SYN+ACK the observation goes to observation, if that is not null. */

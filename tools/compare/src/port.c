@@ -78,3 +78,13 @@ void port_hops(const uint8_t ttls[6], Numbers *out) {
     memset(out, 0, sizeof *out);
     out->n[0] = witness_hops(ttls, 6);
 }
+
+void port_line(const uint8_t *s, size_t size, Numbers *out) {
+    witness_line_read read = witness_line(s, size);
+    int i;
+    memset(out, 0, sizeof *out);
+    out->n[0] = read.refusal ? read.refusal : 1;
+    out->n[1] = read.offset;
+    for (i = 0; i < 3; i++) out->n[2 + i] = word_at(read.raw + 8 * i);
+    layout_numbers(read.count, read.kinds, read.bytes, out);
+}

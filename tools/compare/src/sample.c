@@ -5,6 +5,7 @@
 #include "families.h"
 #include "make.h"
 #include "original.h"
+#include "storedlines.h"
 
 #include <inttypes.h>
 #include <stdio.h>
@@ -175,10 +176,11 @@ static void searches(void) {
 }
 
 int main(void) {
+    unsigned lines = stored_lines();
     packets();
     options();
     searches();
-    fprintf(stderr, "packets %u, options %u, searches %u\n", written[0], written[1], written[2]);
+    fprintf(stderr, "lines %u, packets %u, options %u, searches %u\n", lines, written[0], written[1], written[2]);
     cover_report();
     return fflush(stdout) != 0 || ferror(stdout);
 }

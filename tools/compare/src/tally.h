@@ -4,7 +4,7 @@
 
 #include "numbers.h"
 
-typedef enum { PACKET, OPTIONS, SEARCH, PAIR, HOPS } Kind;
+typedef enum { PACKET, OPTIONS, SEARCH, PAIR, HOPS, LINE } Kind;
 
 void family(const char *name, Kind kind);
 
@@ -14,6 +14,9 @@ void try_options(const uint8_t *s, size_t size);
 Numbers try_search(const uint8_t *observation, const uint8_t *list, size_t size);
 
 void try_hops(const uint8_t ttls[6]);
+
+/* The port's answer to a line beside what the grammar says, and the original's: where that differs, it must be of a named class. */
+void try_line(const uint8_t *s, size_t size);
 
 /* Two answers of the port that should be one; p is the input that is shown if they are not. */
 void try_pair(const Numbers *a, const Numbers *b, const uint8_t *p, size_t size);

@@ -53,4 +53,9 @@ int original_option_length(const uint8_t *packet, size_t length);
    hold it (over 40 entries, or an unknown kind that has a name); then record and entries are zero. */
 int original_parse_signature(const uint8_t *line, size_t length, uint8_t record[24], uint8_t entries[80]);
 
+/* A line in p0f's text form, whatever it says. Gives 0, 1 if the original refuses it, or 2 if it is not UTF-8 and cannot be asked.
+   count: the entries of its layout, any number (in the record modulo 256). rows: kinds, bytes, and 1 for an unknown kind that has a
+   name, three rows of room bytes, of as many entries as there is room for. Where it is not read all is zero. */
+int original_line(const uint8_t *line, size_t length, uint8_t record[24], uint8_t *rows, size_t room, size_t *count);
+
 #endif

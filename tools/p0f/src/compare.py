@@ -1,4 +1,4 @@
-"""p0f beside the port: compare.py P0F LIST PORT PARSER OWN NEVER FOLDER. Ends with 1 if a difference has no explanation."""
+"""p0f beside the port: compare.py P0F LIST PORT READER PARSER OWN NEVER FOLDER. Ends with 1 if a difference has no explanation."""
 
 import os
 import sys
@@ -6,6 +6,7 @@ from collections import Counter
 
 import examples
 import flows
+import loads
 import never
 import parsed
 import probes
@@ -119,7 +120,7 @@ def same_names(run, p0f, named):
 
 
 def main():
-    p0f, database, port, parser, own, unfit, folder = sys.argv[1:]
+    p0f, database, port, reader, parser, own, unfit, folder = sys.argv[1:]
     lines, owned = read_lines(database), read_lines(own)
     table.print_versions(p0f, database)
     shipped = Run("p0f.fp", lines, [c for line in lines for c in cases_for(line)] + probes.random_cases(lines, 20000))
@@ -140,7 +141,10 @@ def main():
     wrong.append(never.print_never(port, folder, "p0f.fp, repaired", mended.lines, shipped.numbered))
     wrong.append(never.print_unfit(port, folder, read_lines(unfit)))
     wrong.append(flows.print_flows(p0f, folder))
-    wrong.append(parsed.print_parsed(parser, lines + owned))
+    for who, program in (("the port", reader), ("the original", parser)):
+        for name, each in (("p0f.fp", lines), ("own.fp and never.fp", owned + read_lines(unfit))):
+            wrong.append(parsed.print_parsed(who, program, name, each))
+    wrong.append(loads.print_loads(p0f, reader, folder))
     print("\ndifferences without an explanation:", "yes" if any(wrong) or idle else "none")
     sys.exit(1 if any(wrong) or idle else 0)
 

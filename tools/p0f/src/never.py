@@ -45,6 +45,7 @@ def option_reasons(line, has):
         "exws without ws in the layout": has("exws") and 3 not in kinds,
         "ts1- or ts2+ without ts in the layout": (has("ts1-") or has("ts2+")) and 8 not in kinds,
         "opt+ with nothing after an end of options": has("opt+") and not left,
+        "an end of options that is not last": 0 in kinds[:-1],
         "a multiple without an MSS of at least 100": multiple and (2 not in kinds or (line.mss is not None and line.mss < 100)),
         "a multiple whose windows all exceed 65,535": multiple and line.request and line.window * least_divisor(line) > 65535,
         "a multiple or modulus of 0": (multiple or line.window_form == MODULUS) and line.window == 0,

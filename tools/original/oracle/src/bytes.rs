@@ -219,14 +219,9 @@ pub fn signature_of(record: &[u8], entries: &[u8]) -> Option<Signature> {
     })
 }
 
-/// The list record of a signature (label and first entry 0) and its layout entries.
-/// None if a record cannot hold it: over 40 entries, or an unknown kind that has a name.
-pub fn put_signature(record: &mut [u8], entries: &mut [u8], s: &Signature) -> Option<()> {
+/// The record of a signature but for its layout: label, first entry and count are 0.
+fn put_fields(record: &mut [u8], s: &Signature) {
     record[..RECORD].fill(0);
-    entries[..2 * ENTRIES].fill(0);
-    if s.olayout.len() > ENTRIES {
-        return None;
-    }
     record[0] = match s.version {
         IpVersion::Any => 0,
         IpVersion::V4 => 4,
@@ -251,14 +246,43 @@ pub fn put_signature(record: &mut [u8], entries: &mut [u8], s: &Signature) -> Op
         PayloadSize::Any => 2,
     };
     put_u32(&mut record[14..], s.quirks.bits());
+}
+
+/// An unknown option whose kind has a name: a layout entry cannot hold it.
+pub fn is_named_unknown(option: TcpOption) -> bool {
+    let (kind, byte) = entry_of(option);
+    option_of(kind, byte) != option
+}
+
+/// The list record of a signature (label and first entry 0) and its layout entries.
+/// None if a record cannot hold it: over 40 entries, or an unknown kind that has a name.
+pub fn put_signature(record: &mut [u8], entries: &mut [u8], s: &Signature) -> Option<()> {
+    record[..RECORD].fill(0);
+    entries[..2 * ENTRIES].fill(0);
+    if s.olayout.len() > ENTRIES || s.olayout.iter().any(|option| is_named_unknown(*option)) {
+        return None;
+    }
+    put_fields(record, s);
     record[20] = s.olayout.len() as u8;
     for (i, option) in s.olayout.iter().enumerate() {
         let (kind, byte) = entry_of(*option);
-        if option_of(kind, byte) != *option {
-            return None;
-        }
         entries[2 * i] = kind;
         entries[2 * i + 1] = byte;
     }
     Some(())
+}
+
+/// The same of any signature: three rows of as many entries as there is room for (kinds, bytes, whether the kind is an unknown one
+/// that has a name). Gives the number of entries; in the record it stands modulo 256.
+pub fn put_line(record: &mut [u8], rows: &mut [u8], room: usize, s: &Signature) -> usize {
+    put_fields(record, s);
+    record[20] = s.olayout.len() as u8;
+    rows[..3 * room].fill(0);
+    for (i, option) in s.olayout.iter().take(room).enumerate() {
+        let (kind, byte) = entry_of(*option);
+        rows[i] = kind;
+        rows[room + i] = byte;
+        rows[2 * room + i] = is_named_unknown(*option) as u8;
+    }
+    s.olayout.len()
 }

@@ -129,3 +129,24 @@ pub unsafe extern "C" fn original_parse_signature(
     }
     0
 }
+
+#[unsafe(no_mangle)]
+pub unsafe extern "C" fn original_line(
+    line: *const u8,
+    length: usize,
+    record: *mut u8,
+    rows: *mut u8,
+    room: usize,
+    count: *mut usize,
+) -> i32 {
+    let (record, rows) = unsafe { (write(record, RECORD), write(rows, 3 * room)) };
+    record.fill(0);
+    rows.fill(0);
+    let (answer, entries) = match read_line(unsafe { read(line, length) }) {
+        LineRead::NotText => (2, 0),
+        LineRead::Refused => (1, 0),
+        LineRead::Read(signature) => (0, put_line(record, rows, room, &signature)),
+    };
+    unsafe { *count = entries };
+    answer
+}

@@ -140,3 +140,19 @@ pub fn option_length(packet: &[u8]) -> Option<u8> {
 pub fn parse_signature(line: &str) -> Option<Signature> {
     line.parse().ok()
 }
+
+#[derive(Debug, Clone, PartialEq)]
+pub enum LineRead {
+    /// The original's parser takes text: other bytes cannot be asked.
+    NotText,
+    Refused,
+    Read(Signature),
+}
+
+/// A line as the original's `from_str` reads it.
+pub fn read_line(line: &[u8]) -> LineRead {
+    match std::str::from_utf8(line) {
+        Err(_) => LineRead::NotText,
+        Ok(text) => parse_signature(text).map_or(LineRead::Refused, LineRead::Read),
+    }
+}

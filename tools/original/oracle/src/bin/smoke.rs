@@ -42,5 +42,11 @@ fn main() {
         parse_signature("*:64:0:*:mss*4,*:mss:df:0").expect("the example's record as a line");
     bytes::put_signature(&mut record, &mut [0; 80], &text).expect("a record holds it");
     assert_eq!(record[..22], RECORD[..22]);
+    assert_eq!(read_line(b"*:64:0:*:*,*::df:0"), LineRead::Refused);
+    assert_eq!(read_line(b"*:64:0:*:*,*:\xff:df:0"), LineRead::NotText);
+    let LineRead::Read(named) = read_line(b"*:64:0:*:*,*:?2,?256::0") else {
+        panic!("the original reads it")
+    };
+    assert_eq!(named.olayout, [TcpOption::Unknown(2), TcpOption::Unknown(0)]);
     println!("SYN+ACK with peer MSS 12: synack {answer}");
 }

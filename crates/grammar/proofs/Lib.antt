@@ -1,0 +1,11 @@
+pub mod Apart
+pub mod Exact
+pub mod Fields
+pub mod Join
+pub mod Judged
+pub mod Listed
+pub mod Numerals
+pub mod Reading
+pub mod States
+pub mod Tables
+pub mod WordBytes

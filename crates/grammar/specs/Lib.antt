@@ -1,0 +1,5 @@
+pub mod Language
+pub mod Numeral
+pub mod Reading
+pub mod States
+pub mod Table

@@ -1,0 +1,5 @@
+pub mod BehindWord
+pub mod NumberLaws
+pub mod PlaceLaws
+pub mod Unique
+pub mod WordLaws

@@ -1,0 +1,102 @@
+-- What the fields' functions give: the readings of `signature_line`, from a place of the line on, with the place where they end.
+use Prim.Native.Nat.{ℕ, _+_}
+use mathlib.Core.Bool.{Bool, true, false, cond, _&&_}
+use mathlib.Core.List.{List, [], _∷_, _++_}
+use lib.Dec.{eqb, ltb}
+use lib.ListN.{length, take, drop}
+use Rattle.basis.specs.Ascii.{ascii}
+use Rattle.basis.specs.Bytes.{byteAt}
+use Rattle.quirks.specs.declared.Quirk.the-variants as quirk
+use Rattle.quirks.specs.Quirks.{bitOf}
+use Rattle.grammar.specs.Numeral.{any, decimalValue}
+use Rattle.grammar.specs.Reading.{Read}
+use Rattle.grammar.specs.States.{Awaited, letters, start, span, statesRead}
+use Rattle.grammar.specs.Table.{nothing, numeral, Row, row, Said}
+use Rattle.signature_line.specs.Words.{upTo255, bareByte, ttlForm}
+use Rattle.one_field.specs.declared.Piece.{Piece}
+use Rattle.one_field.specs.declared.LinePlace.{LinePlace}
+use Rattle.one_field.specs.declared.TtlPiece.{TtlPiece}
+use Rattle.one_field.specs.declared.numerals.Taken.{Taken}
+
+-- ---- a field
+
+abbrev pub piece : ℕ → Bool → ℕ → ℕ → Piece
+piece at good form number = record { at = at; good = good; form = form; number = number }
+
+abbrev pub noPiece : ℕ → Piece
+noPiece at = piece at false 0 0
+
+abbrev pub wholePiece : ℕ → ℕ → Piece
+wholePiece at form = piece at true form 0
+
+unfoldable pub pieceOf : ℕ → Read Said → Piece
+pieceOf at x = piece (at + x .count) (x .good) (x .value .form) (x .value .number)
+
+-- What is awaited at a place, and a table.
+unfoldable pub stateAt : List Awaited → List ℕ → ℕ → Piece
+stateAt states s at = pieceOf at (statesRead states (drop at s))
+
+abbrev pub pieceAt : List Row → List ℕ → ℕ → Piece
+pieceAt rows = stateAt (start rows)
+
+-- A field, where the line goes on.
+unfoldable pub fieldAt : List Row → List ℕ → LinePlace → Piece
+fieldAt rows s from = cond (from .good) (pieceAt rows s (from .at)) (noPiece (from .at))
+
+-- `*`, or a number up to a bound.
+abbrev pub starred : ℕ → List Row
+starred max = row (ascii "*") 0 nothing ∷ row (ascii "") 1 (numeral max any) ∷ []
+
+-- The place behind a byte.
+abbrev pub place : ℕ → Bool → LinePlace
+place at good = record { at = at; good = good }
+
+unfoldable pub behindAt : ℕ → List ℕ → ℕ → Bool → LinePlace
+behindAt byte s at good = cond (good && ltb at (length s) && eqb (byteAt s at) byte) (place (at + 1) true) (place at false)
+
+abbrev pub noTtl : ℕ → TtlPiece
+noTtl at = record { at = at; good = false; ttl = 0; form = 0; distance = 0 }
+
+abbrev pub ttlPiece : Piece → Piece → TtlPiece
+ttlPiece ttl form =
+    record { at = form .at; good = form .good; ttl = ttl .number; form = form .form; distance = form .number }
+
+unfoldable pub ttlAt : List ℕ → LinePlace → TtlPiece
+ttlAt s from =
+    let ttl = fieldAt bareByte s from in
+    cond (ttl .good) (ttlPiece ttl (pieceAt ttlForm s (ttl .at))) (noTtl (ttl .at))
+
+-- ---- parts of a field
+
+-- A number that is n so far: where it stops, and the number.
+unfoldable pub numberFrom : ℕ → ℕ → List ℕ → ℕ → Taken
+numberFrom max n s i =
+    record { at = i + span max n (drop i s); value = decimalValue n (take (span max n (drop i s)) (drop i s)) }
+
+abbrev pub numeralAt : ℕ → (ℕ → Bool) → ℕ → List ℕ → ℕ → Piece
+numeralAt max wanted form = stateAt (letters [] form (numeral max wanted) ∷ [])
+
+abbrev pub wordAt : List ℕ → ℕ → List ℕ → ℕ → Piece
+wordAt word form = stateAt (letters word form nothing ∷ [])
+
+abbrev pub wordByteAt : List ℕ → ℕ → List ℕ → ℕ → Piece
+wordByteAt word form = stateAt (letters word form upTo255 ∷ [])
+
+abbrev pub eitherAt : List ℕ → ℕ → List ℕ → ℕ → List ℕ → ℕ → Piece
+eitherAt one form other other-form = stateAt (letters one form nothing ∷ letters other other-form nothing ∷ [])
+
+-- Behind the `+` of a TTL.
+abbrev pub plusAt : List ℕ → ℕ → Piece
+plusAt = stateAt (letters [] 1 upTo255 ∷ letters (ascii "?") 2 nothing ∷ [])
+
+-- Behind the `m` of a multiple.
+abbrev pub multipleAt : List ℕ → ℕ → Piece
+multipleAt = stateAt (letters (ascii "ss*") 3 upTo255 ∷ letters (ascii "tu*") 4 upTo255 ∷ [])
+
+-- A word, then `+` or `-`.
+abbrev pub signedAt : List ℕ → ℕ → ℕ → List ℕ → ℕ → Piece
+signedAt word plus minus = eitherAt (word ++ ascii "+") plus (word ++ ascii "-") minus
+
+-- Behind the `t` of a timestamp's quirk.
+abbrev pub stampAt : List ℕ → ℕ → Piece
+stampAt = eitherAt (ascii "s1-") (bitOf quirk.OwnTimestampZero) (ascii "s2+") (bitOf quirk.PeerTimestampNonZero)
