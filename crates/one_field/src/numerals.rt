@@ -28,6 +28,7 @@ fn digit_fits(max: u32, n: u32, byte: u8) -> bool
     n * 10 + ((byte - 48) as u32) <= max
 }
 
+// The digits from a place on, up to the byte that does not go on with the number.
 fn read_number(s: &[u8], from: usize, max: u32) -> Taken
     requires { ⌜ max ≤ 65535 ⌝ }
     ensures { λ r. ⌜ r ≡ numberFrom max 0 (now (s .entry)) from ⌝ }
@@ -62,6 +63,7 @@ pub(crate) fn read_numeral(s: &[u8], from: usize, max: u32, form: u32) -> Piece
     }
 }
 
+// 6, 7 and 9 to 255 have no name.
 fn is_unnamed(kind: u32) -> bool
     ensures { λ r. ⌜ r ≡ unnamed kind ⌝ }
 {

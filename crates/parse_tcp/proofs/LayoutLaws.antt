@@ -16,6 +16,7 @@ use Rattle.signature_line.specs.Line.{comma}
 use Rattle.signature_line.specs.LineReader.{layoutRead}
 use Rattle.signature_line.specs.Meaning.{kindSaid, byteSaid, each, padded, layoutOf}
 use Rattle.signature_line.specs.Words.{entry}
+use Rattle.signature_line.proofs.Arrays.{length-each}
 use Rattle.signature_line.proofs.FieldsGood.{EntryGood, entry-good, layout-good}
 use Rattle.signature_line.proofs.Line.{entry-field, entry-empty, layout-field}
 use Rattle.one_field.specs.declared.Piece.{Piece}
@@ -40,7 +41,8 @@ good-there s at g =
     let e = entry-field .reads (drop at s) .exact in
     entry-good (take (read s at .count) (drop at s)) (read s at .value) (e .yields g)
 
-small : (n : ℕ) → n < 256 → n % 256 ≡ n
+-- A number that fits one byte is that byte.
+pub small : (n : ℕ) → n < 256 → n % 256 ≡ n
 small n h = omega arith
 
 kind-fits : (s : List ℕ) (at : ℕ) → pieceAt entry s at .good ≡ true → kindByte (pieceAt entry s at) ≡ kindSaid (read s at .value)
@@ -140,10 +142,6 @@ store-behind f xs (suc m) (v ∷ vs) h =
     (store-behind f (xs ++ f v ∷ []) m vs (omega arith)
     ∙ append-assoc xs (f v ∷ []) (each f vs ++ replicate (m - length vs) 0)
     ∙ zeros xs (f v ∷ each f vs) (m - length vs) (suc m - suc (length vs)) (omega arith))
-
-length-each : (f : Said → ℕ) (vs : List Said) → length (each f vs) ≡ length vs
-length-each f [] = refl
-length-each f (v ∷ vs) = ap suc (length-each f vs)
 
 stored-whole : (f : Said → ℕ) (vs : List Said) → length vs ≤ 40 → store f (replicate 40 0) 0 vs ≡ padded (each f vs)
 stored-whole f vs h = store-behind f [] 40 vs h ∙ zeros [] (each f vs) (40 - length vs) (40 - length (each f vs)) (rw (length-each f vs))

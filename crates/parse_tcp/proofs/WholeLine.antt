@@ -14,7 +14,6 @@ use Rattle.signature_line.specs.Answer.{refusedAt, readOf}
 use Rattle.signature_line.specs.LineReader.{layoutRead, quirksRead, readAs, readLine}
 use Rattle.signature_line.specs.Meaning.{Fields, rawOf, layoutOf, unionFrom, meaningOf}
 use Rattle.signature_line.specs.Words.{payload}
-use Rattle.signature_line.specs.declared.LineAnswer.the-variants as answer
 use Rattle.signature_line.specs.declared.SignatureRead.{SignatureRead}
 use Rattle.signature_line.proofs.Accepted.{accepted}
 use Rattle.signature_line.proofs.WellFormed.{well-formed}
@@ -22,18 +21,16 @@ use Rattle.parse_tcp.specs.declared.LineFields.{LineFields}
 use Rattle.parse_tcp.specs.RowPieces.{saidBy}
 use Rattle.parse_tcp.specs.LineParts.{versionIn, ttlIn, olenIn, mssIn, windowIn, scaleIn, layoutIn, quirksIn, payloadIn, lineFields}
 use Rattle.parse_tcp.specs.LineParts.{recordBytes}
+use Rattle.parse_tcp.proofs.LayoutLaws.{small}
 use Rattle.parse_tcp.proofs.LastStage.{field-begins, last-bad, last-more, last-whole}
 use Rattle.parse_tcp.proofs.LineStages.{p6, p7, p8, k8, read-to-the-last}
 use Rattle.parse_tcp.proofs.RowStages.{layout-same, quirks-same, quirks-begin}
 use Rattle.parse_tcp.proofs.StageLaws.{behind-on}
 
 abbrev readSo : List ℕ → Layout → SignatureRead
-readSo raw layout = record { answer = answer.Read; raw = raw; layout = layout }
+readSo raw layout = readOf (record { raw = raw; layout = layout })
 
 -- ---- the record's bytes
-
-small : (n : ℕ) → n < 256 → n % 256 ≡ n
-small n h = omega arith
 
 module _ (s : List ℕ) where
   -- What every field says.

@@ -42,7 +42,7 @@ bytes-behind (b ∷ s) n all (suc i) = bytes-behind s n (all .1) i
 
 -- ---- one number of each entry
 
-length-each : (f : Said → ℕ) (es : List Said) → length (each f es) ≡ length es
+pub length-each : (f : Said → ℕ) (es : List Said) → length (each f es) ≡ length es
 length-each f [] = refl
 length-each f (e ∷ es) = ap suc (length-each f es)
 
