@@ -1,9 +1,9 @@
 -- Laws of bits in bytes: the code's tests of the flags are the definitions'.
 use mathlib.Core.Path.{_≡_, refl, sym}
-use mathlib.Core.Bool.{Bool, true, false, cond, not, _||_, Bool·beq}
+use mathlib.Core.Bool.{Bool, true, false, cond, not, _||_, Bool·beq, false≢true}
 use Prim.Native.Nat.{ℕ, _+_, _*_, _/_, _%_, _<_}
 use lib.Dec.{eqb}
-use borrow.Author.Tests.{eqb-true}
+use borrow.Author.Tests.{eqb-true, not-true}
 use Rattle.basis.specs.Tests.{allBelow}
 use Rattle.basis.proofs.Tests.{below}
 use Rattle.flow.specs.Flags.{maskedType, flagsInvalid}
@@ -38,3 +38,23 @@ pub valid-flags : (flags : ℕ) → flags < 256 → validByBits flags ≡ not (f
 valid-flags flags h =
     beq-same (validByBits flags) (not (flagsInvalid flags))
     (below (λ (f : ℕ). Bool·beq (validByBits f) (not (flagsInvalid f))) 256 every-flags flags h)
+
+-- The flags of a SYN and of a SYN+ACK are valid.
+opensSoundly : ℕ → Bool
+opensSoundly flags = cond (eqb (maskedType flags) 2 || eqb (maskedType flags) 18) (not (flagsInvalid flags)) true
+
+every-opening : allBelow opensSoundly 256 ≡ true
+unfolding allBelow opensSoundly flagsInvalid maskedType
+every-opening = refl
+
+implied : (a b : Bool) → cond a b true ≡ true → a ≡ true → b ≡ true
+implied true b h e = h
+implied false b h e = absurd (false≢true e)
+
+pub opening-valid
+    : (flags : ℕ) → flags < 256 → eqb (maskedType flags) 2 || eqb (maskedType flags) 18 ≡ true → flagsInvalid flags ≡ false
+unfolding opensSoundly
+opening-valid flags h e =
+    not-true (flagsInvalid flags)
+    (implied (eqb (maskedType flags) 2 || eqb (maskedType flags) 18) (not (flagsInvalid flags))
+    (below opensSoundly 256 every-opening flags h) e)
