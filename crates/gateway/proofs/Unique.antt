@@ -35,15 +35,15 @@ pub termread-answer-one
 termread-answer-one κs packet peer list = equation (partsOf (gatewayAnswer (now packet) peer (now list)))
 
 pub termread-answer-checked-in-one
-    : (κs : Lfts 2) (packet : RefT (List ℕ)) (peer : ℕ) (list : RefT (List ℕ)) (mode : ℕ)
+    : (κs : Lfts 2) (packet : RefT (List ℕ)) (peer : ℕ) (list : RefT (List ℕ)) (bits : ℕ)
     → ExactlyOne TermreadResult
-    (λ (r : TermreadResult). termread-answer-checked-in'.Post κs (packet, (peer, (list, (mode, tt)))) r
-    (packet, (peer, (list, (mode, tt)))))
-termread-answer-checked-in-one κs packet peer list mode =
+    (λ (r : TermreadResult). termread-answer-checked-in'.Post κs (packet, (peer, (list, (bits, tt)))) r
+    (packet, (peer, (list, (bits, tt)))))
+termread-answer-checked-in-one κs packet peer list bits =
     equation (packetParts (answerIn (modeOf bits) (now packet) (peerOf peer) (now list)))
 
 pub termread-answer-in-one
-    : (κs : Lfts 2) (packet : RefT (List ℕ)) (peer : ℕ) (list : RefT (List ℕ)) (mode : ℕ)
+    : (κs : Lfts 2) (packet : RefT (List ℕ)) (peer : ℕ) (list : RefT (List ℕ)) (bits : ℕ)
     → ExactlyOne TermreadResult
-    (λ (r : TermreadResult). termread-answer-in'.Post κs (packet, (peer, (list, (mode, tt)))) r (packet, (peer, (list, (mode, tt)))))
-termread-answer-in-one κs packet peer list mode = equation (partsOf (gatewayIn (modeOf bits) (now packet) peer (now list)))
+    (λ (r : TermreadResult). termread-answer-in'.Post κs (packet, (peer, (list, (bits, tt)))) r (packet, (peer, (list, (bits, tt)))))
+termread-answer-in-one κs packet peer list bits = equation (partsOf (gatewayIn (modeOf bits) (now packet) peer (now list)))

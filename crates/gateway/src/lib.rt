@@ -196,7 +196,7 @@ pub extern "C" fn termread_answer_checked_in(
     packet: &[u8],
     peer: u16,
     list: &[u8],
-    mode: u8,
+    bits: u8,
 ) -> TermreadResult
     ensures { λ r. ⌜ r ≡ packetParts (answerIn (modeOf bits) (now (packet .entry)) (peerOf peer) (now (list .entry))) ⌝ }
 {
@@ -208,7 +208,7 @@ pub extern "C" fn termread_answer_in(
     packet: &[u8],
     peer: u16,
     list: &[u8],
-    mode: u8,
+    bits: u8,
 ) -> TermreadResult
     ensures { λ r. ⌜ r ≡ partsOf (gatewayIn (modeOf bits) (now (packet .entry)) peer (now (list .entry))) ⌝ }
 {

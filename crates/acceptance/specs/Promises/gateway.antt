@@ -29,11 +29,11 @@ pub record Promises : Type 0 where
       → Answers termread-answer'.signature κs (termread-answer'.Reads.Pre κs) (termread-answer'.Reads.Post κs)
       (packet, (peer, (list, tt))) (partsOf (gatewayAnswer (now packet) peer (now list)))
   pub termread-answer-checked-in-one
-      : (κs : Lfts 2) (packet : RefT (List ℕ)) (peer : ℕ) (list : RefT (List ℕ)) (mode : ℕ)
+      : (κs : Lfts 2) (packet : RefT (List ℕ)) (peer : ℕ) (list : RefT (List ℕ)) (bits : ℕ)
       → Answers termread-answer-checked-in'.signature κs (termread-answer-checked-in'.Reads.Pre κs)
       (termread-answer-checked-in'.Reads.Post κs)
-      (packet, (peer, (list, (mode, tt)))) (packetParts (answerIn (modeOf bits) (now packet) (peerOf peer) (now list)))
+      (packet, (peer, (list, (bits, tt)))) (packetParts (answerIn (modeOf bits) (now packet) (peerOf peer) (now list)))
   pub termread-answer-in-one
-      : (κs : Lfts 2) (packet : RefT (List ℕ)) (peer : ℕ) (list : RefT (List ℕ)) (mode : ℕ)
+      : (κs : Lfts 2) (packet : RefT (List ℕ)) (peer : ℕ) (list : RefT (List ℕ)) (bits : ℕ)
       → Answers termread-answer-in'.signature κs (termread-answer-in'.Reads.Pre κs) (termread-answer-in'.Reads.Post κs)
-      (packet, (peer, (list, (mode, tt)))) (partsOf (gatewayIn (modeOf bits) (now packet) peer (now list)))
+      (packet, (peer, (list, (bits, tt)))) (partsOf (gatewayIn (modeOf bits) (now packet) peer (now list)))
