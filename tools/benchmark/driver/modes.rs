@@ -50,8 +50,9 @@ pub fn all(lines: &[&str]) {
     examples();
     let list = list_of(lines).bytes;
     for (name, packet) in [("Linux", &LINUX[..]), ("Windows", &WINDOWS[..])] {
-        let name = format!("answer: {name} SYN, 91 records in p0f's order");
-        checked(&alike(&name, packet, 0, (EXACT, 0)), &list);
+        // What is to be found was compared with the original before: none, exact, fuzzy, as crates/counted numbers them.
+        let found = [NONE, EXACT, FUZZY][port::answer(packet, 0, &list) as usize / 65536 - 1];
+        checked(&alike(&format!("answer: {name} SYN, 91 records in p0f's order"), packet, 0, (found, 0)), &list);
     }
 }
 
