@@ -70,27 +70,24 @@ const SYN: u8 = 2;
 
 const SYN_ACK: u8 = 18;
 
-// Not SYN with FIN or RST, nor FIN with RST, nor none of SYN, ACK, FIN and RST.
-fn is_valid(flags: u8) -> bool
-    ensures { λ r. ⌜ r ≡ not (flagsInvalid flags) ⌝ }
-{
-    let low = flags % 8;
-    if low == 0 {
-        return flags / 16 % 2 == 1;
-    }
-    if low == 1 {
-        return true;
-    }
-    if low == 2 {
-        return true;
-    }
-    low == 4
-}
-
 fn tcp_type(flags: u8) -> u8
     ensures { λ r. ⌜ r ≡ maskedType flags ⌝ }
 {
     flags % 8 + flags / 16 % 2 * 16
+}
+
+// Not SYN with FIN or RST, nor FIN with RST, nor none of SYN, ACK, FIN and RST: one of FIN, SYN and RST, with or without ACK, or ACK.
+fn is_valid(flags: u8) -> bool
+    ensures { λ r. ⌜ r ≡ not (flagsInvalid flags) ⌝ }
+{
+    let masked = tcp_type(flags);
+    (masked == 1)
+        | (masked == 2)
+        | (masked == 4)
+        | (masked == 16)
+        | (masked == 17)
+        | (masked == 18)
+        | (masked == 20)
 }
 
 // Those of the flags, the sequence number and the acknowledgment number.

@@ -27,18 +27,24 @@ pub fn peer_of(number: u16) -> Mss
     Mss::Present(number)
 }
 
-// The answer of a packet, in any mode, against a list that was checked: what is not a well-formed record of the list does not fit.
+// The answer of a packet, in any mode, against a list that was checked: what is not a well-formed record of the list does not fit. One
+// call searches for both kinds, and only they have their observation copied (docs/DECISIONS.md, 74).
 pub fn answer_packet_in(packet: &[u8], peer: Mss, list: &[u8], mode: Mode) -> PacketAnswer
     ensures { λ r. ⌜ r ≡ answerIn mode (now (packet .entry)) peer (now (list .entry)) ⌝ }
 {
     let reading = read_packet_in(packet, peer, mode);
-    let observation = reading.observation;
     let answer = reading.answer;
     match answer {
-        Answer::Syn => PacketAnswer::Syn(search_checked(observation, list)),
-        Answer::SynAck => PacketAnswer::SynAck(search_checked(observation, list)),
         Answer::Nothing => PacketAnswer::Nothing,
         Answer::Refused(refusal) => PacketAnswer::Refused(refusal),
+        Answer::Syn | Answer::SynAck => {
+            let observation = reading.observation;
+            let found = search_checked(observation, list);
+            match answer {
+                Answer::Syn => PacketAnswer::Syn(found),
+                _ => PacketAnswer::SynAck(found),
+            }
+        }
     }
 }
 
