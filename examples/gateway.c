@@ -1,8 +1,9 @@
 /* The terminal reader called from C: reads a bundle (document 01) on standard input and prints what the program `termread` prints. What
    reaches standard output is always a prefix of that; if it is cut, standard error says so and the status is 1.
 
-   usage: gateway [-r] [-u] <BUNDLE
+   usage: gateway [-r] [-s] [-u] <BUNDLE
      -r   print behind each line the number of the record, the reason of a fuzzy answer, and what a refusal gives
+     -s   ask in strict mode: TCP headers whose data offset contradicts them are refused (14)
      -u   have the list checked with each packet, instead of once
 
    Built and run by tools/link_examples:
@@ -23,6 +24,7 @@ enum { BUNDLE_MOST = 65535, BUNDLE_HEADER = 8, BEFORE_PACKET = 4, PAGE = 4096, P
 
 struct options {
     int reasons;
+    int strict;
     int unchecked;
 };
 
@@ -149,6 +151,15 @@ static int bundle_fits(const uint8_t *bundle, size_t length) {
     return at <= length;
 }
 
+/* The answer of a packet, from the function that the options ask for. */
+static termread_result answer_of(const uint8_t *packet, size_t size, uint16_t peer, const uint8_t *list, size_t length,
+                                 struct options options) {
+    if (options.strict && options.unchecked) return termread_answer_in(packet, size, peer, list, length, TERMREAD_STRICT);
+    if (options.strict) return termread_answer_checked_in(packet, size, peer, list, length, TERMREAD_STRICT);
+    if (options.unchecked) return termread_answer(packet, size, peer, list, length);
+    return termread_answer_checked(packet, size, peer, list, length);
+}
+
 static void print_packets(const uint8_t *bundle, size_t length, struct options options) {
     const uint8_t *list = bundle + be16(bundle + 6);
     size_t list_length = be16(bundle + 4), at = be16(bundle + 2), left;
@@ -157,19 +168,17 @@ static void print_packets(const uint8_t *bundle, size_t length, struct options o
         const uint8_t *packet = bundle + at + BEFORE_PACKET;
         uint16_t peer = (uint16_t)be16(bundle + at);
         size_t size = be16(bundle + at + 2);
-        print_answer(options.unchecked ? termread_answer(packet, size, peer, list, list_length)
-                                       : termread_answer_checked(packet, size, peer, list, list_length),
-                     options.reasons);
+        print_answer(answer_of(packet, size, peer, list, list_length, options), options.reasons);
         at = packet_end(bundle, length, at);
     }
 }
 
 /* With -u the list is refused by the answer of an empty packet, whose own refusal comes after the list's. */
-static termread_result checked_list(const uint8_t *list, size_t length, int unchecked) {
+static termread_result checked_list(const uint8_t *list, size_t length, struct options options) {
     static const termread_result good;
     termread_result answer;
-    if (!unchecked) return termread_check_list(list, length);
-    answer = termread_answer(list, 0, 0, list, length);
+    if (!options.unchecked) return termread_check_list(list, length);
+    answer = answer_of(list, 0, 0, list, length, options);
     return answer.refusal == TERMREAD_REFUSED_VERSION ? good : answer;
 }
 
@@ -179,7 +188,7 @@ static void print_bundle(const uint8_t *bundle, size_t length, struct options op
         print("refused %d\n", TERMREAD_REFUSED_BUNDLE);
         return;
     }
-    list = checked_list(bundle + be16(bundle + 6), be16(bundle + 4), options.unchecked);
+    list = checked_list(bundle + be16(bundle + 6), be16(bundle + 4), options);
     if (list.outcome != TERMREAD_GOOD) {
         print_answer(list, options.reasons);
         return;
@@ -189,13 +198,14 @@ static void print_bundle(const uint8_t *bundle, size_t length, struct options op
 
 int main(int count, char **words) {
     static uint8_t bundle[BUNDLE_MOST + 1];
-    struct options options = {0, 0};
+    struct options options = {0, 0, 0};
     ssize_t length;
     int i;
     for (i = 1; i < count; i++) {
         if (strcmp(words[i], "-r") == 0) options.reasons = 1;
+        else if (strcmp(words[i], "-s") == 0) options.strict = 1;
         else if (strcmp(words[i], "-u") == 0) options.unchecked = 1;
-        else return fprintf(stderr, "usage: gateway [-r] [-u] <BUNDLE\n"), 2;
+        else return fprintf(stderr, "usage: gateway [-r] [-s] [-u] <BUNDLE\n"), 2;
     }
     length = read_input(bundle, sizeof bundle);
     if (length < 0) return fprintf(stderr, "gateway: standard input could not be read\n"), 1;

@@ -2,7 +2,7 @@
 //! What reaches standard output is always a prefix of that; if it is cut, standard error says so and the status is 1. (Rust itself opens
 //! /dev/null in the place of a standard stream that is closed when the program starts, and ignores SIGPIPE.)
 //!
-//! usage: gateway [-r] [-u] <BUNDLE, as examples/gateway.c. Built and run by tools/link_examples:
+//! usage: gateway [-r] [-s] [-u] <BUNDLE, as examples/gateway.c. Built and run by tools/link_examples:
 //!     rustc --edition 2021 -O -o gateway examples/gateway.rs -C link-arg=target/staticlib/libgateway.a
 
 mod termread;
@@ -14,13 +14,14 @@ use std::os::fd::FromRawFd;
 use std::process::ExitCode;
 use std::thread::sleep;
 use std::time::Duration;
-use termread::{answer, Answer, Kind, List, ListRefusal, PacketRefusal, Quirk, Quirks, Reason};
+use termread::{answer, answer_in, Answer, Kind, List, ListRefusal, Mode, PacketRefusal, Quirk, Quirks, Reason};
 
 const BUNDLE_MOST: usize = 65535;
 
 #[derive(Clone, Copy, Default)]
 struct Options {
     reasons: bool,
+    strict: bool,
     unchecked: bool,
 }
 
@@ -83,6 +84,7 @@ fn refusal_text(refusal: PacketRefusal, reasons: bool) -> String {
         PacketRefusal::Fragment => 5,
         PacketRefusal::TcpTooShort => 6,
         PacketRefusal::InvalidTcpFlags(_) => 7,
+        PacketRefusal::DataOffset => 14,
     };
     match refusal {
         PacketRefusal::InvalidTcpFlags(flags) if reasons => format!("refused {number} flags {flags}"),
@@ -112,15 +114,25 @@ fn answer_text(answer: Answer, reasons: bool) -> String {
     }
 }
 
-/// The answers of a bundle's packets; with -u the list is checked with each, an empty one first.
-fn answers(bundle: &Bundle, unchecked: bool) -> Result<Vec<Answer>, ListRefusal> {
-    let peer = |mss| (mss != 0).then_some(mss);
-    if unchecked {
-        answer(&[], None, bundle.list)?;
-        return bundle.packets.iter().map(|&(mss, packet)| answer(packet, peer(mss), bundle.list)).collect();
+/// The answer of a packet against a list that was checked; with -u there is none, and its bytes are checked here.
+fn answer_of(packet: &[u8], mss: u16, list: Option<List>, bytes: &[u8], strict: bool) -> Result<Answer, ListRefusal> {
+    let peer = (mss != 0).then_some(mss);
+    match list {
+        Some(list) if strict => Ok(list.answer_in(packet, peer, Mode { strict })),
+        Some(list) => Ok(list.answer(packet, peer)),
+        None if strict => answer_in(packet, peer, bytes, Mode { strict }),
+        None => answer(packet, peer, bytes),
     }
-    let list = List::new(bundle.list)?;
-    Ok(bundle.packets.iter().map(|&(mss, packet)| list.answer(packet, peer(mss))).collect())
+}
+
+/// The answers of a bundle's packets; with -u the list is checked with each, an empty one first.
+fn answers(bundle: &Bundle, options: Options) -> Result<Vec<Answer>, ListRefusal> {
+    let list = if options.unchecked { None } else { Some(List::new(bundle.list)?) };
+    let ask = |packet, mss| answer_of(packet, mss, list, bundle.list, options.strict);
+    if list.is_none() {
+        ask(&[], 0)?;
+    }
+    bundle.packets.iter().map(|&(mss, packet)| ask(packet, mss)).collect()
 }
 
 fn output(bytes: &[u8], options: Options) -> String {
@@ -128,7 +140,7 @@ fn output(bytes: &[u8], options: Options) -> String {
         Some(bundle) => bundle,
         None => return "refused 12\n".into(),
     };
-    match answers(&bundle, options.unchecked) {
+    match answers(&bundle, options) {
         Err(refusal) => list_refusal_text(refusal, options.reasons) + "\n",
         Ok(answers) => {
             let lines = answers.into_iter().map(|answer| answer_text(answer, options.reasons) + "\n");
@@ -190,9 +202,10 @@ fn main() -> ExitCode {
     for word in std::env::args().skip(1) {
         match word.as_str() {
             "-r" => options.reasons = true,
+            "-s" => options.strict = true,
             "-u" => options.unchecked = true,
             _ => {
-                eprintln!("usage: gateway [-r] [-u] <BUNDLE");
+                eprintln!("usage: gateway [-r] [-s] [-u] <BUNDLE");
                 return ExitCode::from(2);
             }
         }

@@ -61,7 +61,24 @@ pub enum PacketRefusal {
     UnsupportedProtocol,
     Fragment,
     TcpTooShort,
+    /// Strict mode only: the TCP data offset is under 5, or 4 times it is past the end of the TCP part.
+    DataOffset,
     InvalidTcpFlags(u8),
+}
+
+/// How a packet is read. The default is the plain mode.
+#[derive(Clone, Copy, Debug, Default, PartialEq, Eq)]
+pub struct Mode {
+    /// Refuses a TCP header whose data offset contradicts it, which the plain mode reads on; else it answers as the plain mode does.
+    /// The TCP part ends with the packet's bytes: a sound header whose options the capture cut off is refused too.
+    pub strict: bool,
+}
+
+impl Mode {
+    /// As the library takes it.
+    fn bits(self) -> u8 {
+        u8::from(self.strict)
+    }
 }
 
 /// Why a list is of no use.
@@ -117,6 +134,16 @@ impl<'a> List<'a> {
         };
         given.answer().unwrap_or_else(|| given.unknown())
     }
+
+    /// The same in a mode.
+    pub fn answer_in(self, packet: &[u8], peer_mss: Option<u16>, mode: Mode) -> Answer {
+        let (peer, mode) = (peer_mss.unwrap_or(0), mode.bits());
+        // SAFETY: as above.
+        let given = unsafe {
+            termread_answer_checked_in(packet.as_ptr(), packet.len(), peer, self.0.as_ptr(), self.0.len(), mode)
+        };
+        given.answer().unwrap_or_else(|| given.unknown())
+    }
 }
 
 /// The answer of a packet against a list that is checked anew.
@@ -124,10 +151,15 @@ pub fn answer(packet: &[u8], peer_mss: Option<u16>, list: &[u8]) -> Result<Answe
     let peer = peer_mss.unwrap_or(0);
     // SAFETY: as above.
     let given = unsafe { termread_answer(packet.as_ptr(), packet.len(), peer, list.as_ptr(), list.len()) };
-    match given.list_refusal() {
-        Some(refusal) => Err(refusal),
-        None => Ok(given.answer().unwrap_or_else(|| given.unknown())),
-    }
+    given.answer_or_list_refusal()
+}
+
+/// The same in a mode.
+pub fn answer_in(packet: &[u8], peer_mss: Option<u16>, list: &[u8], mode: Mode) -> Result<Answer, ListRefusal> {
+    let (peer, mode) = (peer_mss.unwrap_or(0), mode.bits());
+    // SAFETY: as above.
+    let given = unsafe { termread_answer_in(packet.as_ptr(), packet.len(), peer, list.as_ptr(), list.len(), mode) };
+    given.answer_or_list_refusal()
 }
 
 /// The answer as the library gives it: crates/gateway/specs/Parts.antt, and in C `termread_result`. Nothing reads `tolerated` and
@@ -190,6 +222,7 @@ impl Given {
             5 => PacketRefusal::Fragment,
             6 => PacketRefusal::TcpTooShort,
             7 => PacketRefusal::InvalidTcpFlags(self.value as u8),
+            14 => PacketRefusal::DataOffset,
             _ => return None,
         })
     }
@@ -211,6 +244,13 @@ impl Given {
             REFUSED => Answer::Refused(self.packet_refusal()?),
             _ => return None,
         })
+    }
+
+    fn answer_or_list_refusal(self) -> Result<Answer, ListRefusal> {
+        match self.list_refusal() {
+            Some(refusal) => Err(refusal),
+            None => Ok(self.answer().unwrap_or_else(|| self.unknown())),
+        }
     }
 
     /// The library promises that this is not reached; it would mean that another library was linked.
@@ -235,5 +275,21 @@ extern "C" {
         peer_mss: u16,
         list: *const u8,
         list_length: usize,
+    ) -> Given;
+    fn termread_answer_checked_in(
+        packet: *const u8,
+        packet_length: usize,
+        peer_mss: u16,
+        list: *const u8,
+        list_length: usize,
+        mode: u8,
+    ) -> Given;
+    fn termread_answer_in(
+        packet: *const u8,
+        packet_length: usize,
+        peer_mss: u16,
+        list: *const u8,
+        list_length: usize,
+        mode: u8,
     ) -> Given;
 }

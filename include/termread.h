@@ -4,7 +4,8 @@
    keeps nothing between calls and only reads what it is lent, so that any number of threads may call it.
 
    Nothing checks this file against the source: tools/link_examples compares what C and Rust programs get through it with what the
-   program `termread` prints. What the functions promise is in crates/gateway/src/lib.rt and crates/gateway/specs/Parts.antt. */
+   program `termread` prints, and in strict mode with what tools/ask answers. What the functions promise is in crates/gateway/src/lib.rt
+   and crates/gateway/specs/Parts.antt. */
 #ifndef TERMREAD_H
 #define TERMREAD_H
 
@@ -54,7 +55,8 @@ enum {
     TERMREAD_SYNACK = 2
 };
 
-/* Refusals, by document 01's numbers. 8, 11 and 12 are met by option strings, observations and bundles only. */
+/* Refusals, by the numbers of documents 01 and 02, whose tests come in the order 1 to 6, 14, 7. 8, 11 and 12 are met by option strings,
+   observations and bundles only, 13 by signature lines. */
 enum {
     TERMREAD_REFUSED_VERSION = 1,         /* empty, or neither IPv4 nor IPv6 */
     TERMREAD_REFUSED_TOO_SHORT = 2,       /* under 20 bytes (IPv4) or 40 (IPv6) */
@@ -65,7 +67,8 @@ enum {
     TERMREAD_REFUSED_FLAGS = 7,           /* TCP flags that do not go together; the value is the flags byte */
     TERMREAD_REFUSED_LIST = 9,            /* the list's header or its areas do not fit */
     TERMREAD_REFUSED_RECORD = 10,         /* a record of the list is bad; the value is the index of the first, from 0 */
-    TERMREAD_REFUSED_BUNDLE = 12          /* of a bundle, which the caller reads itself: it does not fit */
+    TERMREAD_REFUSED_BUNDLE = 12,         /* of a bundle, which the caller reads itself: it does not fit */
+    TERMREAD_REFUSED_DATA_OFFSET = 14     /* strict only: TCP data offset under 5, or 4 times it past the end of the TCP part */
 };
 
 /* The bits of `marks`: the lowest alone is set by now; the next two are kept for a packet that was clipped and for a generic record. */
@@ -112,6 +115,26 @@ termread_result termread_answer_checked(const uint8_t *packet, size_t packet_len
 /* The same against a list that was not checked: refusals 9 and 10 come before any of the packet's. */
 termread_result termread_answer(const uint8_t *packet, size_t packet_length, uint16_t peer_mss, const uint8_t *list,
                                 size_t list_length);
+
+/* ---- the same two in a mode
+
+   The plain functions above read on where a TCP header contradicts itself: a data offset under 5 gives no options, one that is longer
+   than the packet gives those that are there. In strict mode such a header is refused by 14, before its flags are looked at: so is a
+   packet that would be TERMREAD_NOTHING, or refused by 7, otherwise. Every other answer is the plain one, refusals 1 to 7 included.
+
+   The TCP part ends where the IP length says, and never past the packet's bytes: strict mode refuses by 14 a sound header too, if the
+   capture cut its options off. Give it whole packets, or at least all of their headers. A header that fills the part is no 14. */
+enum {
+    TERMREAD_PLAIN = 0, /* no bit is set */
+    TERMREAD_STRICT = 1
+};
+
+/* mode: bits as named above. The other bits are not read, and kept for what is to come: leave them 0. In TERMREAD_PLAIN both answer as
+   their namesakes above. */
+termread_result termread_answer_checked_in(const uint8_t *packet, size_t packet_length, uint16_t peer_mss, const uint8_t *list,
+                                           size_t list_length, uint8_t mode);
+termread_result termread_answer_in(const uint8_t *packet, size_t packet_length, uint16_t peer_mss, const uint8_t *list,
+                                   size_t list_length, uint8_t mode);
 
 #ifdef __cplusplus
 }

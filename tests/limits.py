@@ -1,5 +1,6 @@
 """Cases of the program `termread` at the limits of a bundle: its size, counts, offsets and areas."""
 import cases
+import strict
 from bundles import A, B, EMPTY_LIST, LIST, SYNACK, WHOLE, be16, bundle, packet, record, siglist
 from cases import lines
 
@@ -107,7 +108,8 @@ def overlaps():
     yield "whole bundle as list", header(0, 0, 16, 0, EMPTY_LIST), "refused 9\n"
 
 
-FAMILIES = [sizes, cases.packets, cases.peers, cases.searches, cases.bad_records, counts_and_offsets, lists, overlaps, pages]
+FAMILIES = [sizes, cases.packets, cases.peers, cases.searches, cases.bad_records, strict.plain_bundles, counts_and_offsets, lists, overlaps,
+            pages]
 
 
 def all_cases():

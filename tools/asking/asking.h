@@ -4,11 +4,11 @@
 
 #include "witness.h"
 
-/* What is left to be read of a line, without its newline, and the mode that was asked for. */
+/* What is left to be read of a line, without its newline, and the mode that was asked for, in the bits of witness.h. */
 typedef struct {
     const char *at;
     const char *end;
-    const char *mode;
+    uint8_t mode;
 } Line;
 
 /* The bytes that a line gives; they hold until the next ones are read. */

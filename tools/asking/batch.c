@@ -1,4 +1,4 @@
-/* batch: BUNDLE. The lines of the program `termread`, with ';' between them. */
+/* batch: BUNDLE. The lines of the program `termread`, in the mode that is asked for, with ';' between them. */
 #include "asking.h"
 
 #include <stdio.h>
@@ -21,10 +21,10 @@ int answer_batch(Line *line) {
     Bytes bundle;
     int ended = 0;
     if (!scan_bytes(line, &bundle) || line->at != line->end) return 0;
-    progress = witness_first_page(bundle.at, bundle.length, page);
+    progress = witness_first_page(bundle.at, bundle.length, page, line->mode);
     write_page(page, progress.filled, &ended);
     while (progress.left > 0) {
-        progress = witness_next_page(bundle.at, bundle.length, progress, page);
+        progress = witness_next_page(bundle.at, bundle.length, progress, page, line->mode);
         write_page(page, progress.filled, &ended);
     }
     return 1;

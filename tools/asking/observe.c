@@ -12,7 +12,7 @@ int answer_observe(Line *line) {
     uint8_t present;
     Bytes packet;
     if (!scan_absent_or(line, UINT16_MAX, &present, &peer) || !scan_last_bytes(line, &packet)) return 0;
-    read = witness_packet(packet.at, packet.length, (uint16_t)peer);
+    read = witness_packet(packet.at, packet.length, (uint16_t)peer, line->mode);
     switch (read.answer) {
     case SYN: fputs("syn ", stdout); break;
     case SYN_ACK: fputs("synack ", stdout); break;

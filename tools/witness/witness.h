@@ -79,8 +79,14 @@ typedef char witness_structs_have_their_sizes[sizeof(witness_observation) == 120
                                               sizeof(witness_options_read) == 96 && sizeof(witness_search_read) == 20 &&
                                               sizeof(witness_line_read) == 128 ? 1 : -1];
 
-/* The reading of a packet; a peer's MSS of 0 is an absent one. */
-witness_packet_read witness_packet(const uint8_t *packet, size_t length, uint16_t peer_mss);
+/* The bits of a mode: none for the plain reading; what is not named here is not read. */
+enum {
+    WITNESS_PLAIN = 0,
+    WITNESS_STRICT = 1 /* a TCP header whose data offset contradicts it is refused: 14 */
+};
+
+/* The reading of a packet in a mode; a peer's MSS of 0 is an absent one. */
+witness_packet_read witness_packet(const uint8_t *packet, size_t length, uint16_t peer_mss, uint8_t mode);
 
 witness_options_read witness_options(const uint8_t *options, size_t length);
 
@@ -100,8 +106,9 @@ typedef struct {
     size_t at;
 } witness_progress;
 
-/* The first page of a bundle's output, and the next one after a progress; a page is 4,096 bytes. The output ends where none is left. */
-witness_progress witness_first_page(const uint8_t *bundle, size_t length, uint8_t *page);
-witness_progress witness_next_page(const uint8_t *bundle, size_t length, witness_progress progress, uint8_t *page);
+/* The first page of a bundle's output in a mode, and the next one after a progress, in the same mode; a page is 4,096 bytes. The output
+   ends where none is left. */
+witness_progress witness_first_page(const uint8_t *bundle, size_t length, uint8_t *page, uint8_t mode);
+witness_progress witness_next_page(const uint8_t *bundle, size_t length, witness_progress progress, uint8_t *page, uint8_t mode);
 
 #endif

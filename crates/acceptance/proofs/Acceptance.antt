@@ -5,6 +5,7 @@ use Rattle.acceptance.proofs.Demand2.{demand2}
 use Rattle.acceptance.proofs.Demand3.{demand3}
 use Rattle.acceptance.proofs.Honesty.{honesty}
 use Rattle.acceptance.proofs.Lines.{lines}
+use Rattle.acceptance.proofs.Modes.{modes}
 use Rattle.acceptance.proofs.OnPaper.{on-paper}
 use Rattle.acceptance.proofs.Refusals.{refusals}
 use Rattle.acceptance.proofs.Stages.{stages}
@@ -24,4 +25,5 @@ acceptance =
       demand3 = demand3;
       stages = stages;
       textLines = text-lines;
+      modes = modes;
     }

@@ -12,6 +12,7 @@ use Rattle.siglist.specs.List.{checkList, listRefusal}
 use Rattle.bundle.specs.declared.BundleCheck.{BundleCheck}
 use Rattle.bundle.specs.declared.BundleCheck.the-variants as bundleCheck
 use Rattle.bundle.specs.Bundle.{packetCount, listOf, bundleFits, ofList, checkBundle, bundleRefusal}
+use Rattle.flow.specs.declared.Mode.{Mode}
 use Rattle.bundle.specs.Answers.{afterBundleCheck, bundleAnswer}
 use Rattle.bundle.proofs.Packets.{good-fits}
 use Rattle.bundle.proofs.BundleOrder.{Unfit, unfit, fit-not-unfit, bundle-order, all-answered}
@@ -71,15 +72,15 @@ module _ (b : List ℕ) where
       by-fit true e = of-refused (checkList (listOf b)) r e
       by-fit false e = let z : _≡_ {A = ℕ} 0 1 = cc in absurd (omega arith)
 
-  pub none-beside : 0 < bundleRefusal (checkBundle b) → bundleAnswer b .answers ≡ []
+  pub none-beside : (mode : Mode) → 0 < bundleRefusal (checkBundle b) → bundleAnswer mode b .answers ≡ []
   unfolding bundleAnswer bundleRefusal
-  none-beside = by-check (checkBundle b)
+  none-beside mode = by-check (checkBundle b)
     where
-      by-check : (c : BundleCheck) → 0 < bundleRefusal c → afterBundleCheck c b .answers ≡ []
+      by-check : (c : BundleCheck) → 0 < bundleRefusal c → afterBundleCheck mode c b .answers ≡ []
       by-check bundleCheck.Good h = absurd (omega arith)
       by-check bundleCheck.DoesNotFit h = refl
       by-check (bundleCheck.List r) h = refl
 
-  pub answered : checkBundle b ≡ bundleCheck.Good → length (bundleAnswer b .answers) ≡ packetCount b
+  pub answered : (mode : Mode) → checkBundle b ≡ bundleCheck.Good → length (bundleAnswer mode b .answers) ≡ packetCount b
   unfolding bundleAnswer
-  answered good = rw good (all-answered b (good-fits b good))
+  answered mode good = rw good (all-answered mode b (good-fits b good))

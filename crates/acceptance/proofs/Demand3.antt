@@ -3,25 +3,26 @@ use mathlib.Core.Path.{_≡_, refl, sym, _∙_, ap, ap₂}
 use mathlib.Core.Bool.{Bool}
 use mathlib.Core.List.{List}
 use Prim.Native.Nat.{ℕ, zero, suc}
+use contract.Lifetimes.{Lfts}
 use denote.Ref.{RefT, now}
 use Rattle.tcp.specs.declared.Mss.{Mss}
+use Rattle.flow.specs.declared.Mode.{Mode}
 use Rattle.flow.specs.declared.Reading.{Reading}
+use Rattle.flow.specs.Modes.{modeOf, plainMode, readIn}
 use Rattle.flow.specs.Reading.{readPacket}
 use Rattle.search.specs.declared.SearchAnswer.{SearchAnswer}
 use Rattle.search.specs.Search.{searchList}
-use Rattle.siglist.specs.declared.ListAnswer.{ListAnswer}
-use Rattle.siglist.specs.declared.ListAnswer.the-variants as list
 use Rattle.siglist.specs.List.{checkList}
 use Rattle.packet_answer.specs.declared.PacketAnswer.{PacketAnswer}
-use Rattle.packet_answer.specs.Packet.{peerOf, answerOf, afterReading}
+use Rattle.packet_answer.specs.Packet.{peerOf, answerOf, answerIn, afterReading}
 use Rattle.bundle.specs.declared.BundleCheck.{BundleCheck}
 use Rattle.bundle.specs.declared.BundleCheck.the-variants as check
 use Rattle.bundle.specs.Bundle.{packetCount, packetsOffset, listOf, packetBytes, packetPeer, packetEnd, packetFits, packetsFit, listLies}
 use Rattle.bundle.specs.Bundle.{bundleFits, checkBundle}
 use Rattle.bundle.specs.Answers.{answerAt, packetLies, answersFrom, bundleAnswer}
 use Rattle.report.specs.Text.{lineOf}
-use Rattle.report.specs.Pages.{outputOf, outputOfInput}
-use Rattle.gateway.specs.Parts.{GatewayAnswer, packetParts, partsOf, afterList, gatewayAnswer}
+use Rattle.report.specs.Pages.{outputIn, outputOfInputIn}
+use Rattle.gateway.specs.Parts.{packetParts, partsOf, afterList, gatewayAnswer, gatewayIn}
 use Rattle.acceptance.proofs.Overlap.{overlap}
 use Rattle.one_option.specs.Options.{optionsOf}
 use Rattle.alike.specs.Ip.{AlikeIpv4, AlikeIpv6}
@@ -35,7 +36,7 @@ use Rattle.alike.proofs.Walks.{walk-alike, parse-alike}
 use Rattle.alike.proofs.Ip.{keeps-level}
 use Rattle.alike.proofs.Tcp.{tcp-alike}
 use Rattle.alike.proofs.Packets.{read-alike}
-use Rattle.acceptance.specs.Demand3.{TheRelation, Run, SameAnswer, AlikeFrom, AlikeBundles, Demand3, GatewaySame}
+use Rattle.acceptance.specs.Demand3.{TheRelation, Read, Run, SameAnswer, AlikeFrom, AlikeBundles, Demand3, GatewaySame}
 use Rattle.acceptance.proofs.Corners.{corners}
 use Rattle.acceptance.proofs.NotFree.{not-free}
 
@@ -73,15 +74,24 @@ the-relation =
 -- ---- the same answer
 
 search-alike
-    : (p q : List ℕ) (peer : Mss) (l : List ℕ)
+    : (mode : Mode) (p q : List ℕ) (peer : Mss) (l : List ℕ)
     → Alike p q
-    → searchList (readPacket p peer .observation) l ≡ searchList (readPacket q peer .observation) l
-search-alike p q peer l a = ap (λ (r : Reading). searchList (r .observation) l) (read-alike p q peer a)
+    → searchList (readIn mode p peer .observation) l ≡ searchList (readIn mode q peer .observation) l
+search-alike mode p q peer l a = ap (λ (r : Reading). searchList (r .observation) l) (read-alike mode p q peer a)
 
-module _ (p q list : RefT (List ℕ)) (peer : Mss) (r s : Reading) (a b : SearchAnswer) (alike : Alike (now p) (now q))
-    (x : Run p peer list r a) (y : Run q peer list s b) where
+-- Either function gives the reading of its mode.
+reading-of
+    : {κs : Lfts 1} {packet : RefT (List ℕ)} {peer : Mss} {r : Reading} {mode : Mode}
+    → Read κs packet peer r mode
+    → r ≡ readIn mode (now packet) peer
+unfolding readPacket readIn
+reading-of (Read.plainly e) = e
+reading-of (Read.in-mode e) = e
+
+module _ (mode : Mode) (p q list : RefT (List ℕ)) (peer : Mss) (r s : Reading) (a b : SearchAnswer) (alike : Alike (now p) (now q))
+    (x : Run mode p peer list r a) (y : Run mode q peer list s b) where
   same-reading : r ≡ s
-  same-reading = x .reads ∙ read-alike (now p) (now q) peer alike ∙ sym (y .reads)
+  same-reading = reading-of (x .reads) ∙ read-alike mode (now p) (now q) peer alike ∙ sym (reading-of (y .reads))
 
   same-search : a ≡ b
   same-search =
@@ -96,42 +106,52 @@ same-answer =
       option-strings = parse-alike;
       reader = read-alike;
       search = search-alike;
-      returned = λ p q list peer r s a b alike x y.
-          (same-reading p q list peer r s a b alike x y, same-search p q list peer r s a b alike x y);
+      returned = λ mode p q list peer r s a b alike x y.
+          (same-reading mode p q list peer r s a b alike x y, same-search mode p q list peer r s a b alike x y);
     }
 
 -- ---- bundles and the gateway
 
-answer-alike : (p q : List ℕ) (peer : Mss) (l : List ℕ) → Alike p q → answerOf p peer l ≡ answerOf q peer l
-unfolding answerOf
-answer-alike p q peer l a = ap (λ (r : Reading). afterReading r l) (read-alike p q peer a)
+answer-alike
+    : (mode : Mode) (p q : List ℕ) (peer : Mss) (l : List ℕ) → Alike p q → answerIn mode p peer l ≡ answerIn mode q peer l
+unfolding answerIn
+answer-alike mode p q peer l a = ap (λ (r : Reading). afterReading r l) (read-alike mode p q peer a)
+
+plain-alike : (p q : List ℕ) (peer : Mss) (l : List ℕ) → Alike p q → answerOf p peer l ≡ answerOf q peer l
+unfolding answerOf answerIn readPacket readIn
+plain-alike p q peer l a = answer-alike plainMode p q peer l a
 
 in-bundles
-    : (b c : List ℕ) (at to : ℕ)
+    : (mode : Mode) (b c : List ℕ) (at to : ℕ)
     → listOf b ≡ listOf c
     → packetPeer b at ≡ packetPeer c to
     → Alike (packetBytes b at) (packetBytes c to)
-    → answerAt b at ≡ answerAt c to
+    → answerAt mode b at ≡ answerAt mode c to
 unfolding answerAt
-in-bundles b c at to list peer alike =
-    answer-alike (packetBytes b at) (packetBytes c to) (packetPeer b at) (listOf b) alike
-    ∙ ap₂ (λ (m : Mss) (l : List ℕ). answerOf (packetBytes c to) m l) peer list
+in-bundles mode b c at to list peer alike =
+    answer-alike mode (packetBytes b at) (packetBytes c to) (packetPeer b at) (listOf b) alike
+    ∙ ap₂ (λ (m : Mss) (l : List ℕ). answerIn mode (packetBytes c to) m l) peer list
 
-gateway-alike : (p q : List ℕ) (peer : ℕ) (l : List ℕ) → Alike p q → gatewayAnswer p peer l ≡ gatewayAnswer q peer l
+gateway-alike
+    : (mode : Mode) (p q : List ℕ) (peer : ℕ) (l : List ℕ) → Alike p q → gatewayIn mode p peer l ≡ gatewayIn mode q peer l
+unfolding gatewayIn
+gateway-alike mode p q peer l a = ap (afterList (checkList l)) (answer-alike mode p q (peerOf peer) l a)
+
+plain-gateway-alike : (p q : List ℕ) (peer : ℕ) (l : List ℕ) → Alike p q → gatewayAnswer p peer l ≡ gatewayAnswer q peer l
 unfolding gatewayAnswer
-gateway-alike p q peer l a = by-list (checkList l)
-  where
-    by-list : (c : ListAnswer) → afterList c p (peerOf peer) l ≡ afterList c q (peerOf peer) l
-    by-list list.Good = ap GatewayAnswer.answered (answer-alike p q (peerOf peer) l a)
-    by-list (list.Refused r) = refl
+plain-gateway-alike p q peer l a = ap (afterList (checkList l)) (plain-alike p q (peerOf peer) l a)
 
 gateway-same : GatewaySame
 gateway-same =
     record {
       checked = λ κs p q l peer r s a x y.
-          x ∙ ap packetParts (answer-alike (now p) (now q) (peerOf peer) (now l) a) ∙ sym y;
+          x ∙ ap packetParts (plain-alike (now p) (now q) (peerOf peer) (now l) a) ∙ sym y;
       not-checked = λ κs p q l peer r s a x y.
-          x ∙ ap partsOf (gateway-alike (now p) (now q) peer (now l) a) ∙ sym y;
+          x ∙ ap partsOf (plain-gateway-alike (now p) (now q) peer (now l) a) ∙ sym y;
+      checked-in = λ κs p q l peer bits r s a x y.
+          x ∙ ap packetParts (answer-alike (modeOf bits) (now p) (now q) (peerOf peer) (now l) a) ∙ sym y;
+      not-checked-in = λ κs p q l peer bits r s a x y.
+          x ∙ ap partsOf (gateway-alike (modeOf bits) (now p) (now q) peer (now l) a) ∙ sym y;
     }
 
 -- ---- whole bundles
@@ -155,37 +175,40 @@ module _ (b c : List ℕ) (a : AlikeBundles b c) where
   check-alike =
       rw (all-fit (packetCount b) (packetsOffset b) (a .packets), lists-lie, a .sameLength, a .count, a .offset, a .list)
 
-  answers-alike : (n at : ℕ) → AlikeFrom b c at n → answersFrom b at n ≡ answersFrom c at n
+  answers-alike : (mode : Mode) (n at : ℕ) → AlikeFrom b c at n → answersFrom mode b at n ≡ answersFrom mode c at n
   unfolding answersFrom packetLies
-  answers-alike zero at AlikeFrom.done = refl
-  answers-alike (suc n) at (AlikeFrom.more peer end alike rest) =
-      rw (lists-lie, one-fits at end, in-bundles b c at at (a .list) peer alike, answers-alike n (packetEnd b at) rest, end)
+  answers-alike mode zero at AlikeFrom.done = refl
+  answers-alike mode (suc n) at (AlikeFrom.more peer end alike rest) =
+      rw (lists-lie, one-fits at end, in-bundles mode b c at at (a .list) peer alike, answers-alike mode n (packetEnd b at) rest, end)
 
-  same-answers : answersFrom b (packetsOffset b) (packetCount b) ≡ answersFrom c (packetsOffset c) (packetCount c)
-  same-answers =
-      answers-alike (packetCount b) (packetsOffset b) (a .packets)
-      ∙ ap₂ (λ (x y : ℕ). answersFrom c x y) (a .offset) (a .count)
+  same-answers
+      : (mode : Mode) → answersFrom mode b (packetsOffset b) (packetCount b) ≡ answersFrom mode c (packetsOffset c) (packetCount c)
+  same-answers mode =
+      answers-alike mode (packetCount b) (packetsOffset b) (a .packets)
+      ∙ ap₂ (λ (x y : ℕ). answersFrom mode c x y) (a .offset) (a .count)
 
-  by-check : (x : BundleCheck) → checkBundle c ≡ x → outputOf b ≡ outputOf c
-  unfolding outputOf bundleAnswer
-  by-check check.Good e = rw (check-alike, e, same-answers, a .count)
-  by-check check.DoesNotFit e = rw (check-alike, e)
-  by-check (check.List r) e = rw (check-alike, e)
+  by-check : (mode : Mode) (x : BundleCheck) → checkBundle c ≡ x → outputIn mode b ≡ outputIn mode c
+  unfolding outputIn bundleAnswer
+  by-check mode check.Good e = rw (check-alike, e, same-answers mode, a .count)
+  by-check mode check.DoesNotFit e = rw (check-alike, e)
+  by-check mode (check.List r) e = rw (check-alike, e)
 
-output-alike : (b c : List ℕ) (longer : Bool) → AlikeBundles b c → outputOfInput b longer ≡ outputOfInput c longer
-unfolding outputOfInput
-output-alike b c longer a = rw (by-check b c a (checkBundle c) refl)
+output-alike
+    : (mode : Mode) (b c : List ℕ) (longer : Bool) → AlikeBundles b c → outputOfInputIn mode b longer ≡ outputOfInputIn mode c longer
+unfolding outputOfInputIn
+output-alike mode b c longer a = rw (by-check b c a mode (checkBundle c) refl)
 
 pub demand3 : Demand3
 demand3 =
     record {
-      free-bytes = λ p q peer l d. answer-alike p q peer l (exact p q .1 d);
+      free-bytes = λ p q peer l d. plain-alike p q peer l (exact p q .1 d);
+      free-bytes-in = λ mode p q peer l d. answer-alike mode p q peer l (exact p q .1 d);
       relation = the-relation;
       answer = same-answer;
       bundles =
           record {
             answer = answer-alike;
-            line = λ p q peer l a. ap lineOf (answer-alike p q peer l a);
+            line = λ mode p q peer l a. ap lineOf (answer-alike mode p q peer l a);
             in-bundles = in-bundles;
             whole = output-alike;
             not-whole = overlap;

@@ -1,9 +1,9 @@
 -- Laws of the first row that holds: by a test of each row in order; and there is one first row only.
 use mathlib.Core.Path.{_≡_, refl, subst}
 use mathlib.Core.Bool.{Bool, true, false, cond}
-use mathlib.Core.List.{List, _∷_}
+use mathlib.Core.List.{List, [], _∷_, _++_}
 use mathlib.Core.Logic.{_↔_}
-use Prim.Native.Nat.{ℕ}
+use Prim.Native.Nat.{ℕ, _<_}
 use Rattle.acceptance.specs.Refusals.{First}
 
 -- A row that its test decides, before rows whose first is known.
@@ -22,6 +22,27 @@ only-first (First.here r) (First.later d g) = absurd (d r)
 only-first (First.later d f) (First.here s) = absurd (d s)
 only-first (First.later d f) (First.later e g) = only-first f g
 only-first First.none First.none = refl
+
+-- The number of a first row is below what all numbers of the order are below, and 0 too.
+abbrev pub AllBelow : ℕ → List ℕ → Type 0
+AllBelow k [] = 0 < k
+AllBelow k (m ∷ rest) = (m < k) × AllBelow k rest
+
+pub first-below : {Row : ℕ → Type 0} {n : ℕ} (k : ℕ) (order : List ℕ) → AllBelow k order → First Row order n → n < k
+first-below k [] few First.none = few
+first-below k (m ∷ rest) few (First.here r) = few .0
+first-below k (m ∷ rest) few (First.later fails first) = first-below k rest (few .1) first
+
+-- A row that never holds can be left out.
+pub left-out
+    : {Row : ℕ → Type 0} {n : ℕ} (m : ℕ) (before rest : List ℕ)
+    → (Row m → ⊥)
+    → First Row (before ++ m ∷ rest) n
+    → First Row (before ++ rest) n
+left-out m [] rest never (First.here r) = absurd (never r)
+left-out m [] rest never (First.later fails first) = first
+left-out m (k ∷ before) rest never (First.here r) = First.here r
+left-out m (k ∷ before) rest never (First.later fails first) = First.later fails (left-out m before rest never first)
 
 -- A number that is the first row's is given exactly when a row is first.
 pub exactly

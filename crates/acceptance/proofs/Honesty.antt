@@ -6,7 +6,8 @@ use native.Mathlib.Omega.{arith}
 use Rattle.tcp.specs.declared.Mss.{Mss}
 use Rattle.refusals.specs.declared.PacketRefusal.{PacketRefusal}
 use Rattle.flow.specs.declared.Answer.the-variants as reading
-use Rattle.flow.specs.Reading.{readPacket}
+use Rattle.flow.specs.declared.Mode.{Mode}
+use Rattle.flow.specs.Modes.{readIn}
 use Rattle.matching.specs.Fit.{featuresOf}
 use Rattle.siglist.specs.List.{checkList}
 use Rattle.found.specs.declared.Found.{Found}
@@ -15,8 +16,8 @@ use Rattle.search.specs.Search.{searchOver, searchAll}
 use Rattle.search.proofs.Rows.{longer-row}
 use Rattle.packet_answer.specs.declared.PacketAnswer.{PacketAnswer}
 use Rattle.packet_answer.specs.declared.PacketAnswer.the-variants as packet
-use Rattle.packet_answer.specs.Packet.{peerOf, answerOf}
-use Rattle.gateway.specs.Parts.{GatewayAnswer, foundParts, packetParts, refusedList, partsOf, gatewayAnswer}
+use Rattle.packet_answer.specs.Packet.{peerOf, answerIn}
+use Rattle.gateway.specs.Parts.{GatewayAnswer, foundParts, packetParts, refusedList, partsOf, gatewayIn}
 use Rattle.gateway.specs.Decode.{AllBytes, answerFrom}
 use Rattle.gateway.specs.Zeros.{Zeros}
 use Rattle.gateway.proofs.Room.{PacketFits}
@@ -29,24 +30,24 @@ use Rattle.acceptance.proofs.Fit.{exact-to, exact-from, fuzzy-to, fuzzy
 
 -- ---- a packet's answer
 
-module _ (p : List ℕ) (peer : Mss) (l : List ℕ) where
+module _ (mode : Mode) (p : List ℕ) (peer : Mss) (l : List ℕ) where
   syn-answer
-      : readPacket p peer .answer ≡ reading.Syn → answerOf p peer l ≡ packet.Syn (searchAll (readPacket p peer .observation) l)
-  unfolding answerOf
+      : readIn mode p peer .answer ≡ reading.Syn → answerIn mode p peer l ≡ packet.Syn (searchAll (readIn mode p peer .observation) l)
+  unfolding answerIn
   syn-answer e = rw e
 
   syn-ack-answer
-      : readPacket p peer .answer ≡ reading.SynAck
-      → answerOf p peer l ≡ packet.SynAck (searchAll (readPacket p peer .observation) l)
-  unfolding answerOf
+      : readIn mode p peer .answer ≡ reading.SynAck
+      → answerIn mode p peer l ≡ packet.SynAck (searchAll (readIn mode p peer .observation) l)
+  unfolding answerIn
   syn-ack-answer e = rw e
 
-  nothing-answer : readPacket p peer .answer ≡ reading.Nothing → answerOf p peer l ≡ packet.Nothing
-  unfolding answerOf
+  nothing-answer : readIn mode p peer .answer ≡ reading.Nothing → answerIn mode p peer l ≡ packet.Nothing
+  unfolding answerIn
   nothing-answer e = rw e
 
-  refused-answer : (r : PacketRefusal) → readPacket p peer .answer ≡ reading.Refused r → answerOf p peer l ≡ packet.Refused r
-  unfolding answerOf
+  refused-answer : (r : PacketRefusal) → readIn mode p peer .answer ≡ reading.Refused r → answerIn mode p peer l ≡ packet.Refused r
+  unfolding answerIn
   refused-answer r e = rw e
 
 -- ---- the struct that a gateway gets
@@ -71,34 +72,34 @@ outcome-of (GatewayAnswer.list-refused r) = refl
 unwrapped : (a b : PacketAnswer) → GatewayAnswer.answered a ≡ GatewayAnswer.answered b → a ≡ b
 unwrapped a b e = cc
 
-module _ (p : List ℕ) (peer : ℕ) (l : List ℕ) (hp : AllBytes p) (hl : AllBytes l) where
-  checked-fits : PacketFits (checkedAnswer p peer l)
-  checked-fits = packet-fits p (peerOf peer) l hp hl
+module _ (mode : Mode) (p : List ℕ) (peer : ℕ) (l : List ℕ) (hp : AllBytes p) (hl : AllBytes l) where
+  checked-fits : PacketFits (checkedAnswer mode p peer l)
+  checked-fits = packet-fits mode p (peerOf peer) l hp hl
 
-  checked-read-back : answerFrom (checkedStruct p peer l) ≡ GatewayAnswer.answered (checkedAnswer p peer l)
-  checked-read-back = back.read-back (GatewayAnswer.answered (checkedAnswer p peer l)) checked-fits
+  checked-read-back : answerFrom (checkedStruct mode p peer l) ≡ GatewayAnswer.answered (checkedAnswer mode p peer l)
+  checked-read-back = back.read-back (GatewayAnswer.answered (checkedAnswer mode p peer l)) checked-fits
 
 checked-structs-differ
-    : (p q : List ℕ) (m n : ℕ) (l k : List ℕ)
+    : (a b : Mode) (p q : List ℕ) (m n : ℕ) (l k : List ℕ)
     → AllBytes p
     → AllBytes q
     → AllBytes l
     → AllBytes k
-    → checkedStruct p m l ≡ checkedStruct q n k
-    → checkedAnswer p m l ≡ checkedAnswer q n k
-checked-structs-differ p q m n l k hp hq hl hk e =
-    unwrapped (checkedAnswer p m l) (checkedAnswer q n k)
-    (back.injective (GatewayAnswer.answered (checkedAnswer p m l)) (GatewayAnswer.answered (checkedAnswer q n k))
-    (packet-fits p (peerOf m) l hp hl)
-    (packet-fits q (peerOf n) k hq hk)
+    → checkedStruct a p m l ≡ checkedStruct b q n k
+    → checkedAnswer a p m l ≡ checkedAnswer b q n k
+checked-structs-differ a b p q m n l k hp hq hl hk e =
+    unwrapped (checkedAnswer a p m l) (checkedAnswer b q n k)
+    (back.injective (GatewayAnswer.answered (checkedAnswer a p m l)) (GatewayAnswer.answered (checkedAnswer b q n k))
+    (packet-fits a p (peerOf m) l hp hl)
+    (packet-fits b q (peerOf n) k hq hk)
     e)
 
-module _ (p : List ℕ) (peer : ℕ) (l : List ℕ) where
-  checked-outcome-field : checkedStruct p peer l .outcome ≡ outcomeOf (GatewayAnswer.answered (checkedAnswer p peer l))
-  checked-outcome-field = outcome-of (GatewayAnswer.answered (checkedAnswer p peer l))
+module _ (mode : Mode) (p : List ℕ) (peer : ℕ) (l : List ℕ) where
+  checked-outcome-field : checkedStruct mode p peer l .outcome ≡ outcomeOf (GatewayAnswer.answered (checkedAnswer mode p peer l))
+  checked-outcome-field = outcome-of (GatewayAnswer.answered (checkedAnswer mode p peer l))
 
-  checked-zeros : Zeros (checkedStruct p peer l)
-  checked-zeros = zeros (GatewayAnswer.answered (checkedAnswer p peer l))
+  checked-zeros : Zeros (checkedStruct mode p peer l)
+  checked-zeros = zeros (GatewayAnswer.answered (checkedAnswer mode p peer l))
 
 pub honesty : Honesty
 unfolding searchOver
@@ -116,10 +117,10 @@ honesty =
       exact-not-fuzzy = λ a b r e. let z : _≡_ {A = ℕ} 0 1 = cc in omega arith;
       exact-not-none = λ a e. let z : _≡_ {A = ℕ} 0 1 = cc in omega arith;
       fuzzy-not-none = λ a r e. let z : _≡_ {A = ℕ} 0 1 = cc in omega arith;
-      read-back = λ p peer l hp hl. back.read-back (gatewayAnswer p peer l) (answers-fit p peer l hp hl);
+      read-back = λ mode p peer l hp hl. back.read-back (gatewayIn mode p peer l) (answers-fit mode p peer l hp hl);
       structs-differ = structs-differ;
-      outcome-field = λ p peer l. outcome-of (gatewayAnswer p peer l);
-      zeros = λ p peer l. zeros (gatewayAnswer p peer l);
+      outcome-field = λ mode p peer l. outcome-of (gatewayIn mode p peer l);
+      zeros = λ mode p peer l. zeros (gatewayIn mode p peer l);
       checked-read-back = checked-read-back;
       checked-structs-differ = checked-structs-differ;
       checked-outcome-field = checked-outcome-field;

@@ -10,6 +10,7 @@ pub mod First
 pub mod Fit
 pub mod Honesty
 pub mod Lines
+pub mod Modes
 pub mod NotFree
 pub mod Observation
 pub mod OnPaper
@@ -24,6 +25,7 @@ pub mod Promised
 pub mod Promises
 pub mod Refusals
 pub mod Stages
+pub mod StrictValues
 pub mod TextLines
 pub mod Unchecked
 pub mod Values

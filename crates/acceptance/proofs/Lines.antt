@@ -19,7 +19,8 @@ use Rattle.found.specs.declared.Found.{Found}
 use Rattle.found.specs.declared.Found.the-variants as found
 use Rattle.packet_answer.specs.declared.PacketAnswer.{PacketAnswer}
 use Rattle.packet_answer.specs.declared.PacketAnswer.the-variants as packet
-use Rattle.packet_answer.specs.Packet.{answerOf}
+use Rattle.flow.specs.declared.Mode.{Mode}
+use Rattle.packet_answer.specs.Packet.{answerIn}
 use Rattle.bundle.specs.declared.BundleCheck.{BundleCheck}
 use Rattle.bundle.specs.declared.BundleCheck.the-variants as check
 use Rattle.bundle.specs.Bundle.{bundleVerdict, bundleRefusal}
@@ -101,8 +102,9 @@ label-fits (packet.SynAck f) h = found-fits f h
 label-fits packet.Nothing h = tt
 label-fits (packet.Refused r) h = tt
 
-answer-label : (p : List ℕ) (peer : Mss) (l : List ℕ) → AllBytes p → AllBytes l → LabelFits (answerOf p peer l)
-answer-label p peer l hp hl = label-fits (answerOf p peer l) (packet-fits p peer l hp hl)
+answer-label
+    : (mode : Mode) (p : List ℕ) (peer : Mss) (l : List ℕ) → AllBytes p → AllBytes l → LabelFits (answerIn mode p peer l)
+answer-label mode p peer l hp hl = label-fits (answerIn mode p peer l) (packet-fits mode p peer l hp hl)
 
 -- ---- the lines that are no packet's
 
@@ -190,6 +192,7 @@ all-words =
       refused-5 = refl;
       refused-6 = refl;
       refused-7 = λ flags. refl;
+      refused-14 = refl;
       refused-9 = refl;
       refused-10 = refl;
       refused-12 = refl;
@@ -200,8 +203,8 @@ lines =
     record {
       lines = told;
       answers =
-          λ p q m n l k hp hq hl hk.
-          told (answerOf p m l) (answerOf q n k) (answer-label p m l hp hl) (answer-label q n k hq hk);
+          λ a b p q m n l k hp hq hl hk.
+          told (answerIn a p m l) (answerIn b q n k) (answer-label a p m l hp hl) (answer-label b q n k hq hk);
       counts = λ m n hm hn e. sym (head-read m hm) ∙ ap behind e ∙ head-read n hn;
       no-packets-line = no-packets-line;
       no-count = no-count;

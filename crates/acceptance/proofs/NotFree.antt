@@ -26,6 +26,7 @@ use Rattle.ip.specs.Ip.{ipv4Quirks, ipv4Facts, readIpv4, ipv6Quirks, ipv6Facts,
 use Rattle.flow.specs.declared.Reading.{Reading}
 use Rattle.flow.specs.Flags.{maskedType, flagsInvalid, isSynType, isSynAckType}
 use Rattle.flow.specs.Tcp.{headerQuirks, quirksOfHeaders, payloadClass, observationOf, observationFrom, knownPeer, readTcp}
+use Rattle.flow.specs.Modes.{plainMode, readIn}
 use Rattle.flow.specs.Reading.{readPacket, refusalOf}
 use Rattle.distances.specs.DistanceGates.{versionMatches, windowMatches, payloadMatches}
 use Rattle.distances.specs.Distances.{ttlFit}
@@ -101,14 +102,14 @@ unfolding readPacket readIp readIpv4 ipv4Facts ipv4Quirks ipv4OptionLength readi
 other-kind = refl
 
 pub not-free : NotFree
-unfolding readPacket readIp readIpv4 ipv4Facts ipv4Quirks ipv4OptionLength readIpv6 ipv6Facts ipv6Quirks ipv6ExtensionLength readingOf
-    guessOf initialOf readTcp flagsInvalid maskedType isSynType isSynAckType knownPeer observationFrom observationOf quirksOfHeaders
-    headerQuirks payloadClass walkOf walkFrom optionsAfter asked runsPast putEntry entryByte seeOption laterMss laterScale laterQuirks
-    trailingNonzero excessiveScaling ownTimestampZero peerTimestampNonzero anyNonzero addIf with bitOf placeOf empty fromQuirks be16 be32
-    refusalOf
+unfolding readPacket readIn readIp readIpv4 ipv4Facts ipv4Quirks ipv4OptionLength readIpv6 ipv6Facts ipv6Quirks ipv6ExtensionLength
+    readingOf guessOf initialOf readTcp flagsInvalid maskedType isSynType isSynAckType knownPeer observationFrom observationOf
+    quirksOfHeaders headerQuirks payloadClass walkOf walkFrom optionsAfter asked runsPast putEntry entryByte seeOption laterMss
+    laterScale laterQuirks trailingNonzero excessiveScaling ownTimestampZero peerTimestampNonzero anyNonzero addIf with bitOf
+    placeOf empty fromQuirks be16 be32 refusalOf
 not-free =
     record {
-      apart = λ p q differs a. differs (read-alike p q mss.Absent a);
+      apart = λ p q differs a. differs (read-alike plainMode p q mss.Absent a);
       ttl = not-exact (set packetA 8 0x1c) (λ e.
           let other = values .search .fuzzy in
           let z : _≡_ {A = ℕ} 0 1 = cc in

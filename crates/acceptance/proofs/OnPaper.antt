@@ -10,10 +10,11 @@ use Rattle.refusals.specs.Refusals.{listValue}
 use Rattle.siglist.specs.declared.ListAnswer.{ListAnswer}
 use Rattle.siglist.specs.declared.ListAnswer.the-variants as list
 use Rattle.siglist.specs.List.{checkList}
+use Rattle.flow.specs.declared.Mode.{Mode}
 use Rattle.packet_answer.specs.declared.PacketAnswer.{PacketAnswer}
 use Rattle.packet_answer.specs.declared.PacketAnswer.the-variants as packet
-use Rattle.packet_answer.specs.Packet.{peerOf, answerOf}
-use Rattle.gateway.specs.Parts.{packetParts, refusedList, partsOf, afterList, gatewayAnswer, listParts}
+use Rattle.packet_answer.specs.Packet.{peerOf, answerIn}
+use Rattle.gateway.specs.Parts.{packetParts, refusedList, partsOf, afterList, gatewayIn, listParts}
 use Rattle.gateway.specs.Decode.{AllBytes}
 use Rattle.gateway.proofs.Given.{two-bytes}
 use Rattle.acceptance.specs.OnPaper.{packetPaper, listPaper, gatewayPaper, refusedStruct, Structs, OnPaper}
@@ -48,27 +49,27 @@ module _ (l : List ℕ) (bytes : AllBytes l) where
   list-struct (list.Refused r) e h = refused-struct r e
 
   answer-struct
-      : (p : List ℕ) (peer : ℕ)
-      → 0 < gatewayPaper (gatewayAnswer p peer l) .number
-      → structAt p peer l ≡ refusedStruct (gatewayPaper (gatewayAnswer p peer l))
-  unfolding gatewayAnswer
-  answer-struct p peer = by-list (checkList l) refl
+      : (mode : Mode) (p : List ℕ) (peer : ℕ)
+      → 0 < gatewayPaper (gatewayIn mode p peer l) .number
+      → structAt mode p peer l ≡ refusedStruct (gatewayPaper (gatewayIn mode p peer l))
+  unfolding gatewayIn
+  answer-struct mode p peer = after (answerIn mode p (peerOf peer) l) (checkList l) refl
     where
-      by-list
-          : (a : ListAnswer)
+      after
+          : (x : PacketAnswer) (a : ListAnswer)
           → checkList l ≡ a
-          → 0 < gatewayPaper (afterList a p (peerOf peer) l) .number
-          → partsOf (afterList a p (peerOf peer) l) ≡ refusedStruct (gatewayPaper (afterList a p (peerOf peer) l))
-      by-list list.Good e h = packet-struct (answerOf p (peerOf peer) l) h
-      by-list (list.Refused r) e h = refused-struct r e
+          → 0 < gatewayPaper (afterList a x) .number
+          → partsOf (afterList a x) ≡ refusedStruct (gatewayPaper (afterList a x))
+      after x list.Good e h = packet-struct x h
+      after x (list.Refused r) e h = refused-struct r e
 
 -- ---- the statement
 
 structs : Structs
 structs =
     record {
-      answer = λ p peer l bytes. answer-struct l bytes p peer;
-      checked = λ p peer l. packet-struct (checkedAnswer p peer l);
+      answer = λ mode p peer l bytes. answer-struct l bytes mode p peer;
+      checked = λ mode p peer l. packet-struct (checkedAnswer mode p peer l);
       list = λ l bytes. list-struct l bytes (checkList l) refl;
     }
 

@@ -18,7 +18,7 @@ use Rattle.syn_options.specs.Walk.{entryByte, putEntry, walkFrom, walkOf}
 use Rattle.ip.specs.Ip.{ipv4Quirks, ipv4Facts, readIpv4, readIp}
 use Rattle.flow.specs.Flags.{maskedType, flagsInvalid, isSynType}
 use Rattle.flow.specs.Tcp.{headerQuirks, quirksOfHeaders, payloadClass, observationOf, observationFrom, readTcp}
-use Rattle.flow.specs.Reading.{readPacket}
+use Rattle.flow.specs.Modes.{readIn}
 use Rattle.distances.specs.DistanceGates.{versionMatches, windowMatches, payloadMatches}
 use Rattle.distances.specs.Distances.{ttlFit}
 use Rattle.sigrecord.specs.Layout.{entryGood, entriesGood}
@@ -31,19 +31,19 @@ use Rattle.siglist.specs.List.{listFits, layoutLies, recordGood, recordsFrom, c
 use Rattle.found.specs.Least.{prefer, leastFrom, firstLeast, numbersFrom}
 use Rattle.found.specs.Rank.{foundOf}
 use Rattle.search.specs.Search.{fitAt, candidateAt, rankAt, foundAt, searchRow, searchOver, searchAll, searchList}
-use Rattle.packet_answer.specs.Packet.{peerOf, answerOf}
+use Rattle.packet_answer.specs.Packet.{peerOf, answerIn}
 use Rattle.bundle.specs.Bundle.{packetEnd, packetFits, packetsFit, listLies, bundleFits, checkBundle}
 use Rattle.bundle.specs.Answers.{answerAt, packetLies, answersFrom, bundleAnswer}
 use Rattle.text.specs.Decimal.{width, decimal}
 use Rattle.report.specs.Text.{foundText, answerText, lineOf, headLine, refusedLine}
-use Rattle.report.specs.Pages.{linesOf, outputOf}
+use Rattle.report.specs.Pages.{linesOf, outputIn}
 use Rattle.alike.specs.Free.{FreeIpv4, ItemBy, FreePacket}
 use Rattle.alike.proofs.Exact.{free-byte}
 use Rattle.acceptance.specs.Values.{packetA}
 use Rattle.acceptance.specs.Overlap.{Overlap}
 
 pub overlap : Overlap
-unfolding readPacket readIp readIpv4 ipv4Facts ipv4Quirks ipv4OptionLength readingOf guessOf initialOf readTcp flagsInvalid maskedType
+unfolding readIn readIp readIpv4 ipv4Facts ipv4Quirks ipv4OptionLength readingOf guessOf initialOf readTcp flagsInvalid maskedType
     isSynType observationFrom observationOf quirksOfHeaders headerQuirks payloadClass walkOf walkFrom optionsAfter asked runsPast putEntry
     entryByte seeOption laterMss laterScale laterQuirks trailingNonzero excessiveScaling ownTimestampZero peerTimestampNonzero anyNonzero
     addIf with bitOf placeOf empty fromQuirks be16 be32 checkList listFits recordsFrom recordGood layoutLies scalarsGood versionGood ttlGood
@@ -52,8 +52,8 @@ unfolding readPacket readIp readIpv4 ipv4Facts ipv4Quirks ipv4OptionLength readi
     windowMultiplier ownTimestampNonzero holdsKind contains holds digit multiplierOf firstMultiple twelve divides signatureOf versionOf
     ttlOf mssOf scaleOf windowOf payloadOf fitOf scalarGates versionMatches olenMatches mssMatches windowMatches scaleMatches payloadMatches
     layoutMatches entriesMatch toleranceOf ttlFit quirksFit maskedQuirks maskWhenObsV4 maskWhenObsV6 fuzzyDeletable fuzzyAddable judge
-    judgeInRange outputOf bundleAnswer checkBundle bundleFits packetsFit packetFits packetEnd peerOf answersFrom packetLies listLies
-    answerAt answerOf linesOf lineOf answerText foundText headLine refusedLine decimal width
+    judgeInRange outputIn bundleAnswer checkBundle bundleFits packetsFit packetFits packetEnd peerOf answersFrom packetLies listLies
+    answerAt answerIn linesOf lineOf answerText foundText headLine refusedLine decimal width
 overlap =
     record {
       alike = free-byte packetA 12 1 (FreePacket.header (ItemBy.four refl FreeIpv4.addresses)) (omega arith) (omega arith);

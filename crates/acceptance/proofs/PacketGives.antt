@@ -12,6 +12,7 @@ use Rattle.observable.specs.Observation.{emptyObservation}
 use Rattle.ip.specs.declared.IpFacts.{IpFacts}
 use Rattle.ip.specs.declared.IpRead.{IpRead}
 use Rattle.refusals.specs.declared.PacketRefusal.{PacketRefusal}
+use Rattle.refusals.specs.declared.PacketRefusal.the-variants as refusal
 use Rattle.refusals.specs.declared.Refusal.the-variants as table
 use Rattle.refusals.proofs.Back.{numbered}
 use Rattle.ip.specs.Ip.{ipv4Facts, ipv6Facts}
@@ -19,8 +20,11 @@ use Rattle.ip.proofs.Ip.{Given, given}
 use Rattle.flow.specs.declared.Answer.the-variants as answer
 use Rattle.flow.specs.declared.Reading.{Reading}
 use Rattle.flow.specs.Flags.{maskedType, flagsInvalid, isSynType, isSynAckType}
+use Rattle.flow.specs.declared.Mode.{Mode}
 use Rattle.flow.specs.Tcp.{readTcp}
-use Rattle.flow.specs.Reading.{tcpPart, afterIp, readPacket, refusalOf}
+use Rattle.flow.specs.Strict.{contradictsItself, readTcpStrict}
+use Rattle.flow.specs.Modes.{tcpStage, readIn}
+use Rattle.flow.specs.Reading.{tcpPart, afterIp, refusalOf}
 use Rattle.acceptance.specs.Refusals.{FlagsByte, Refused, Gives, Answered}
 
 module _ (p : List ℕ) where
@@ -42,11 +46,24 @@ module _ (p : List ℕ) where
       pick (isSynAckType flags) (λ e. answered (Answered.syn-ack byte (eqb-true (maskedType flags) 18 e))) (λ e.
       answered (Answered.neither byte (eqb-false (maskedType flags) 2 other) (eqb-false (maskedType flags) 18 e)))))
 
-  after-gives : (peer : Mss) {n : ℕ} {r : IpRead} → v4.version p ≡ n → Given p n r → ReadingGives (afterIp readTcp r p peer)
+  -- 14 gives nothing.
+  stage-gives
+      : (mode : Mode) (f : IpFacts) (peer : Mss)
+      → FlagsByte p (tcp.control (tcpPart f p))
+      → ReadingGives (tcpStage mode f (tcpPart f p) peer)
+  unfolding readTcpStrict
+  stage-gives mode f peer byte =
+      pick (mode .strict)
+      (λ e. pick (contradictsItself (tcpPart f p)) (λ e. refusing (Refused.nothing-more {r = refusal.DataOffset} (λ seven. omega arith)))
+      (λ e. tcp-gives f peer byte))
+      (λ e. tcp-gives f peer byte)
+
+  after-gives
+      : (mode : Mode) (peer : Mss) {n : ℕ} {r : IpRead} → v4.version p ≡ n → Given p n r → ReadingGives (afterIp (tcpStage mode) r p peer)
   unfolding ipv4Facts ipv6Facts
-  after-gives peer v (Given.refused {r = r} small) = refusing (Refused.nothing-more {r = r} small)
-  after-gives peer v (Given.four long words) = tcp-gives _ peer (FlagsByte.of4 v)
-  after-gives peer v (Given.six long) = tcp-gives _ peer (FlagsByte.of6 v)
+  after-gives mode peer v (Given.refused {r = r} small) = refusing (Refused.nothing-more {r = r} (λ seven. omega arith))
+  after-gives mode peer v (Given.four long words) = stage-gives mode _ peer (FlagsByte.of4 v)
+  after-gives mode peer v (Given.six long) = stage-gives mode _ peer (FlagsByte.of6 v)
 
   no-refusal : {x : Reading} → Answered p x → refusalOf (x .answer) ≡ 0
   unfolding refusalOf
@@ -54,19 +71,20 @@ module _ (p : List ℕ) where
   no-refusal (Answered.syn-ack b e) = refl
   no-refusal (Answered.neither b e g) = refl
 
-  when-refused : (peer : Mss) {x : Reading} → ReadingGives x → x ≡ readPacket p peer → 0 < refusalOf (x .answer) → Gives p peer
-  when-refused peer (answered a) same h = let none = no-refusal a in absurd (omega arith)
-  when-refused peer (refusing {r} also) same h = record { why = r; reading = sym same; also = also }
+  when-refused
+      : (mode : Mode) (peer : Mss) {x : Reading} → ReadingGives x → x ≡ readIn mode p peer → 0 < refusalOf (x .answer) → Gives mode p peer
+  when-refused mode peer (answered a) same h = let none = no-refusal a in absurd (omega arith)
+  when-refused mode peer (refusing {r} also) same h = record { why = r; reading = sym same; also = also }
 
   when-not : {x : Reading} → ReadingGives x → refusalOf (x .answer) ≡ 0 → Answered p x
   unfolding refusalOf
   when-not (answered a) e = a
   when-not (refusing {r} also) e = let some = numbered (table.Packet r) .0 in absurd (omega arith)
 
-pub packet-gives : (p : List ℕ) (peer : Mss) → 0 < refusalOf (readPacket p peer .answer) → Gives p peer
-unfolding readPacket
-packet-gives p peer h = when-refused p peer (after-gives p peer refl (given p)) refl h
+pub packet-gives : (mode : Mode) (p : List ℕ) (peer : Mss) → 0 < refusalOf (readIn mode p peer .answer) → Gives mode p peer
+unfolding readIn
+packet-gives mode p peer h = when-refused p mode peer (after-gives p mode peer refl (given p)) refl h
 
-pub packet-answers : (p : List ℕ) (peer : Mss) → refusalOf (readPacket p peer .answer) ≡ 0 → Answered p (readPacket p peer)
-unfolding readPacket
-packet-answers p peer e = when-not p (after-gives p peer refl (given p)) e
+pub packet-answers : (mode : Mode) (p : List ℕ) (peer : Mss) → refusalOf (readIn mode p peer .answer) ≡ 0 → Answered p (readIn mode p peer)
+unfolding readIn
+packet-answers mode p peer e = when-not p (after-gives p mode peer refl (given p)) e

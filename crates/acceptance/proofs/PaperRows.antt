@@ -13,7 +13,9 @@ use Rattle.refusals.proofs.Back.{numbered}
 use Rattle.flow.specs.declared.Answer.{Answer}
 use Rattle.flow.specs.declared.Answer.the-variants as answer
 use Rattle.flow.specs.declared.Reading.{Reading}
-use Rattle.flow.specs.Reading.{readPacket, refusalOf}
+use Rattle.flow.specs.declared.Mode.{Mode}
+use Rattle.flow.specs.Modes.{readIn}
+use Rattle.flow.specs.Reading.{refusalOf}
 use Rattle.syn_options.specs.declared.OptionsAnswer.{OptionsAnswer}
 use Rattle.syn_options.specs.declared.OptionsAnswer.the-variants as options
 use Rattle.syn_options.specs.Walk.{parseOptionsRaw, optionsRefusal}
@@ -27,16 +29,16 @@ use Rattle.signature_line.proofs.Accepted.{refused-exactly}
 use Rattle.search.specs.declared.SearchAnswer.{SearchAnswer}
 use Rattle.search.specs.declared.SearchAnswer.the-variants as search
 use Rattle.search.specs.Search.{searchList, searchRefusal}
-use Rattle.packet_answer.specs.Packet.{peerOf, judged, answerOf}
+use Rattle.packet_answer.specs.Packet.{peerOf, judged, answerIn}
 use Rattle.bundle.specs.declared.BundleCheck.{BundleCheck}
 use Rattle.bundle.specs.declared.BundleCheck.the-variants as bundle
 use Rattle.bundle.specs.Bundle.{listOf, checkBundle, bundleRefusal}
-use Rattle.gateway.specs.Parts.{afterList, gatewayAnswer}
+use Rattle.gateway.specs.Parts.{afterList, gatewayIn}
 use Rattle.acceptance.specs.Refusals.{First, PacketRow, packetOrder, Refused, Gives, Answered, ListRow}
 use Rattle.acceptance.specs.OnPaper.{alone, paperOf, answerPaper, packetPaper, optionsPaper, listPaper, searchPaper, bundlePaper}
 use Rattle.acceptance.specs.OnPaper.{gatewayPaper, Also, IsRow, linePaper, LinePaper, GatewayRow, Rows, TheTable}
 use Rattle.acceptance.proofs.Refusals.{refusals}
-use Rattle.acceptance.proofs.PaperStages.{others, under-7, ip-row, header-row}
+use Rattle.acceptance.proofs.PaperStages.{others, not-7, ip-row, header-row}
 
 -- ---- the numbers
 
@@ -64,7 +66,7 @@ bundle-same a = refl
 
 module _ (p l : List ℕ) where
   of-refused : {r : PacketRefusal} → Refused p r → Also p l (paperOf (packetRefused r))
-  of-refused (Refused.nothing-more {r} h) = under-7 p l r h
+  of-refused (Refused.nothing-more {r} h) = not-7 p l r h
   of-refused (Refused.flags-byte b) = Also.of-7 b
 
   none-returned : Also p l (alone 0)
@@ -75,15 +77,15 @@ module _ (p l : List ℕ) where
   of-answered (Answered.syn-ack b e) = none-returned
   of-answered (Answered.neither b e g) = none-returned
 
-  packet-also : (peer : Mss) → Also p l (answerPaper (readPacket p peer .answer))
-  packet-also peer = by-number (refusalOf (readPacket p peer .answer)) refl
+  packet-also : (mode : Mode) (peer : Mss) → Also p l (answerPaper (readIn mode p peer .answer))
+  packet-also mode peer = by-number (refusalOf (readIn mode p peer .answer)) refl
     where
-      of-given : Gives p peer → Also p l (answerPaper (readPacket p peer .answer))
+      of-given : Gives mode p peer → Also p l (answerPaper (readIn mode p peer .answer))
       of-given g = rw (g .reading) (of-refused (g .also))
 
-      by-number : (n : ℕ) → refusalOf (readPacket p peer .answer) ≡ n → Also p l (answerPaper (readPacket p peer .answer))
-      by-number zero e = of-answered (refusals .packet-answers p peer e)
-      by-number (suc n) e = of-given (refusals .packet-gives p peer (omega arith))
+      by-number : (n : ℕ) → refusalOf (readIn mode p peer .answer) ≡ n → Also p l (answerPaper (readIn mode p peer .answer))
+      by-number zero e = of-answered (refusals .packet-answers mode p peer e)
+      by-number (suc n) e = of-given (refusals .packet-gives mode p peer (omega arith))
 
   -- ---- what a list's row returns
 
@@ -110,8 +112,9 @@ options-also options.Refused = others [] [] 8 (λ e. omega arith) (λ e. omega a
 
 -- ---- the rows
 
-packet-row : (p : List ℕ) (peer : Mss) → First (PacketRow p) packetOrder (answerPaper (readPacket p peer .answer) .number)
-packet-row p peer = refusals .packet p peer _ .0 (packet-same (readPacket p peer .answer))
+packet-row
+    : (mode : Mode) (p : List ℕ) (peer : Mss) → First (PacketRow mode p) packetOrder (answerPaper (readIn mode p peer .answer) .number)
+packet-row mode p peer = refusals .packet mode p peer _ .0 (packet-same (readIn mode p peer .answer))
 
 list-row : (l : List ℕ) → First (ListRow l) (9 ∷ 10 ∷ []) (listPaper (checkList l) .number)
 list-row l = refusals .list l _ .0 (list-same (checkList l))
@@ -122,49 +125,72 @@ answer-same answer.SynAck o l = refl
 answer-same answer.Nothing o l = refl
 answer-same (answer.Refused r) o l = refl
 
-read-same : (p : List ℕ) (peer : Mss) (l : List ℕ) → packetPaper (answerOf p peer l) ≡ answerPaper (readPacket p peer .answer)
-unfolding answerOf
-read-same p peer l = answer-same (readPacket p peer .answer) (readPacket p peer .observation) l
+read-same
+    : (mode : Mode) (p : List ℕ) (peer : Mss) (l : List ℕ) → packetPaper (answerIn mode p peer l) ≡ answerPaper (readIn mode p peer .answer)
+unfolding answerIn
+read-same mode p peer l = answer-same (readIn mode p peer .answer) (readIn mode p peer .observation) l
 
 -- A gateway's rows: its list's, then its packet's.
-module _ (p l : List ℕ) where
-  list-number : {n : ℕ} → ListRow l n → 9 ≤ n
-  list-number (ListRow.header h) = omega arith
-  list-number (ListRow.records h) = omega arith
-  list-number (ListRow.entries h) = omega arith
-  list-number (ListRow.bad-record i h bad) = omega arith
+module _ (mode : Mode) (p l : List ℕ) where
+  -- A list is refused by 9 or 10, a packet never.
+  abbrev OfList : ℕ → Type 0
+  OfList n = (9 ≤ n) × (n ≤ 10)
 
-  packet-number : {n : ℕ} → PacketRow p n → n < 8
-  packet-number (PacketRow.no-bytes h) = omega arith
-  packet-number (PacketRow.other-version h k) = omega arith
-  packet-number (PacketRow.short4 h k) = omega arith
-  packet-number (PacketRow.short6 h k) = omega arith
-  packet-number (PacketRow.words4 h k) = omega arith
-  packet-number (PacketRow.protocol4 h k) = omega arith
-  packet-number (PacketRow.protocol6 h k) = omega arith
-  packet-number (PacketRow.offset4 h k) = omega arith
-  packet-number (PacketRow.more4 h k) = omega arith
-  packet-number (PacketRow.tcp4 h k) = omega arith
-  packet-number (PacketRow.tcp6 h k) = omega arith
-  packet-number (PacketRow.flags4 h k) = omega arith
-  packet-number (PacketRow.flags6 h k) = omega arith
+  list-number : {n : ℕ} → ListRow l n → OfList n
+  list-number (ListRow.header h) = (omega arith, omega arith)
+  list-number (ListRow.records h) = (omega arith, omega arith)
+  list-number (ListRow.entries h) = (omega arith, omega arith)
+  list-number (ListRow.bad-record i h bad) = (omega arith, omega arith)
 
-  of-its-list : {n : ℕ} → 9 ≤ n → GatewayRow p l n → ListRow l n
+  packet-number : {n : ℕ} → PacketRow mode p n → OfList n → ⊥
+  packet-number (PacketRow.no-bytes h) o = let few = o .0 in omega arith
+  packet-number (PacketRow.other-version h k) o = let few = o .0 in omega arith
+  packet-number (PacketRow.short4 h k) o = let few = o .0 in omega arith
+  packet-number (PacketRow.short6 h k) o = let few = o .0 in omega arith
+  packet-number (PacketRow.words4 h k) o = let few = o .0 in omega arith
+  packet-number (PacketRow.protocol4 h k) o = let few = o .0 in omega arith
+  packet-number (PacketRow.protocol6 h k) o = let few = o .0 in omega arith
+  packet-number (PacketRow.offset4 h k) o = let few = o .0 in omega arith
+  packet-number (PacketRow.more4 h k) o = let few = o .0 in omega arith
+  packet-number (PacketRow.tcp4 h k) o = let few = o .0 in omega arith
+  packet-number (PacketRow.tcp6 h k) o = let few = o .0 in omega arith
+  packet-number (PacketRow.contradicts4 s h k) o = let many = o .1 in omega arith
+  packet-number (PacketRow.contradicts6 s h k) o = let many = o .1 in omega arith
+  packet-number (PacketRow.flags4 h k) o = let few = o .0 in omega arith
+  packet-number (PacketRow.flags6 h k) o = let few = o .0 in omega arith
+
+  of-its-list : {n : ℕ} → OfList n → GatewayRow mode p l n → ListRow l n
   of-its-list h (GatewayRow.of-list r) = r
-  of-its-list h (GatewayRow.of-packet r) = let few = packet-number r in absurd (omega arith)
+  of-its-list h (GatewayRow.of-packet r) = absurd (packet-number r h)
 
-  of-its-packet : {n : ℕ} → n < 8 → GatewayRow p l n → PacketRow p n
-  of-its-packet h (GatewayRow.of-list r) = let many = list-number r in absurd (omega arith)
+  of-its-packet : {n : ℕ} → (OfList n → ⊥) → GatewayRow mode p l n → PacketRow mode p n
+  of-its-packet h (GatewayRow.of-list r) = absurd (h (list-number r))
   of-its-packet h (GatewayRow.of-packet r) = r
 
-  abbrev Under8 : List ℕ → Type 0
-  Under8 [] = Unit {0}
-  Under8 (k ∷ rest) = (k < 8) × Under8 rest
+  abbrev NoneOfList : List ℕ → Type 0
+  NoneOfList [] = Unit {0}
+  NoneOfList (k ∷ rest) = (OfList k → ⊥) × NoneOfList rest
 
-  under-8 : Under8 packetOrder
-  under-8 = (omega arith, (omega arith, (omega arith, (omega arith, (omega arith, (omega arith, (omega arith, tt)))))))
+  below : (k : ℕ) → k < 9 → OfList k → ⊥
+  below k h o = let few = o .0 in omega arith
 
-  as-gateway : {n : ℕ} (order : List ℕ) → Under8 order → First (PacketRow p) order n → First (GatewayRow p l) order n
+  above : (k : ℕ) → 10 < k → OfList k → ⊥
+  above k h o = let many = o .1 in omega arith
+
+  none-of-list : NoneOfList packetOrder
+  none-of-list = (
+    below 1 (omega arith),
+    (
+      below 2 (omega arith),
+      (
+        below 3 (omega arith),
+        (below 4 (omega arith), (below 5 (omega arith), (below 6 (omega arith), (above 14 (omega arith), (below 7 (omega arith), tt))))),
+      ),
+    ),
+  )
+
+  as-gateway
+      : {n : ℕ} (order : List ℕ) → NoneOfList order → First (PacketRow mode p) order n → First (GatewayRow mode p l) order n
   as-gateway [] few First.none = First.none
   as-gateway (k ∷ rest) few (First.here r) = First.here (GatewayRow.of-packet r)
   as-gateway (k ∷ rest) few (First.later d f) = First.later (λ g. d (of-its-packet (few .0) g)) (as-gateway rest (few .1) f)
@@ -173,37 +199,38 @@ module _ (p l : List ℕ) where
       : {n m : ℕ}
       → First (ListRow l) (9 ∷ 10 ∷ []) n
       → n ≡ 0
-      → First (GatewayRow p l) packetOrder m
-      → First (GatewayRow p l) (9 ∷ 10 ∷ packetOrder) m
+      → First (GatewayRow mode p l) packetOrder m
+      → First (GatewayRow mode p l) (9 ∷ 10 ∷ packetOrder) m
   behind-list (First.here r) e f = absurd (omega arith)
   behind-list (First.later d (First.here r)) e f = absurd (omega arith)
   behind-list (First.later d (First.later c First.none)) e f =
-      First.later (λ g. d (of-its-list (omega arith) g)) (First.later (λ g. c (of-its-list (omega arith) g)) f)
+      First.later (λ g. d (of-its-list (omega arith, omega arith) g)) (First.later (λ g. c (of-its-list (omega arith, omega arith) g)) f)
 
   in-list
       : {n : ℕ}
       → First (ListRow l) (9 ∷ 10 ∷ []) n
       → 0 < n
-      → First (GatewayRow p l) (9 ∷ 10 ∷ packetOrder) n
+      → First (GatewayRow mode p l) (9 ∷ 10 ∷ packetOrder) n
   in-list (First.here r) h = First.here (GatewayRow.of-list r)
-  in-list (First.later d (First.here r)) h = First.later (λ g. d (of-its-list (omega arith) g)) (First.here (GatewayRow.of-list r))
+  in-list (First.later d (First.here r)) h =
+      First.later (λ g. d (of-its-list (omega arith, omega arith) g)) (First.here (GatewayRow.of-list r))
   in-list (First.later d (First.later c First.none)) h = absurd (omega arith)
 
-  packet-answer-row : (peer : Mss) → IsRow (PacketRow p) packetOrder p l (packetPaper (answerOf p peer l))
-  packet-answer-row peer = rw (read-same p peer l) (record { first = packet-row p peer; also = packet-also p l peer })
+  packet-answer-row : (peer : Mss) → IsRow (PacketRow mode p) packetOrder p l (packetPaper (answerIn mode p peer l))
+  packet-answer-row peer = rw (read-same mode p peer l) (record { first = packet-row mode p peer; also = packet-also p l mode peer })
 
-  gateway-row : (peer : ℕ) → IsRow (GatewayRow p l) (9 ∷ 10 ∷ packetOrder) p l (gatewayPaper (gatewayAnswer p peer l))
-  unfolding gatewayAnswer
+  gateway-row : (peer : ℕ) → IsRow (GatewayRow mode p l) (9 ∷ 10 ∷ packetOrder) p l (gatewayPaper (gatewayIn mode p peer l))
+  unfolding gatewayIn
   gateway-row peer = by-list (checkList l) refl (list-row l)
     where
       by-list
           : (a : ListAnswer)
           → checkList l ≡ a
           → First (ListRow l) (9 ∷ 10 ∷ []) (listPaper a .number)
-          → IsRow (GatewayRow p l) (9 ∷ 10 ∷ packetOrder) p l (gatewayPaper (afterList a p (peerOf peer) l))
+          → IsRow (GatewayRow mode p l) (9 ∷ 10 ∷ packetOrder) p l (gatewayPaper (afterList a (answerIn mode p (peerOf peer) l)))
       by-list list.Good e f =
           let row = packet-answer-row (peerOf peer) in
-          record { first = behind-list f refl (as-gateway packetOrder under-8 (row .first)); also = row .also }
+          record { first = behind-list f refl (as-gateway packetOrder none-of-list (row .first)); also = row .also }
       by-list (list.Refused r) e f = record { first = in-list f (numbered (table.List r) .0); also = list-also p l (list.Refused r) e }
 
 -- ---- together
@@ -225,7 +252,7 @@ pub rows : Rows
 rows =
     record {
       ip = ip-row;
-      packet = λ p peer. record { first = packet-row p peer; also = packet-also p [] peer };
+      packet = λ mode p peer. record { first = packet-row mode p peer; also = packet-also p [] mode peer };
       options =
           λ s.
           let a = parseOptionsRaw s .answer in
@@ -238,6 +265,6 @@ rows =
           record { first = refusals .search o l _ .0 (search-same a); also = search-also [] l o a refl };
       line = line-row;
       bundle = λ b. record { first = refusals .bundle b _ .0 (bundle-same (checkBundle b)); also = bundle-also b (checkBundle b) refl };
-      packet-answer = λ p peer l. packet-answer-row p l peer;
-      gateway = λ p peer l. gateway-row p l peer;
+      packet-answer = λ mode p peer l. packet-answer-row mode p l peer;
+      gateway = λ mode p peer l. gateway-row mode p l peer;
     }

@@ -16,13 +16,14 @@ use Rattle.ip.specs.Ip.{readIp}
 use Rattle.ip.proofs.Ip.{Given, given}
 use Rattle.flow.specs.Flags.{flagsInvalid}
 use Rattle.flow.specs.Tcp.{readTcp}
+use Rattle.flow.specs.Modes.{plainMode}
 use Rattle.flow.specs.Reading.{tcpPart, afterIp, readPacket, refusalOf}
 use Rattle.flow.proofs.FirstRow.{by-flags}
 use Rattle.siglist.specs.declared.ListAnswer.{ListAnswer}
 use Rattle.siglist.specs.declared.ListAnswer.the-variants as list
 use Rattle.siglist.specs.List.{recordCount, listFits, headerOf, checkList, listRefusal}
 use Rattle.siglist.proofs.FirstBad.{Checked, does-not-fit, first-bad-named}
-use Rattle.acceptance.specs.Refusals.{First, PacketRow, packetOrder, ListRow}
+use Rattle.acceptance.specs.Refusals.{First, PacketRow, plainOrder, ListRow}
 use Rattle.acceptance.specs.OnPaper.{alone, paperOf, ipPaper, headerPaper, Also, IsRow}
 use Rattle.acceptance.proofs.Refusals.{refusals}
 
@@ -53,16 +54,16 @@ module _ (p l : List ℕ) where
   pub others : (n : ℕ) → (n ≡ 7 → ⊥) → (n ≡ 10 → ⊥) → Also p l (alone n)
   others n seven ten = Also.of-others seven ten
 
-  pub under-7 : (r : PacketRefusal) → packetNumber r < 7 → Also p l (paperOf (packetRefused r))
-  under-7 refusal.Version h = others 1 (λ e. omega arith) (λ e. omega arith)
-  under-7 refusal.TooShort h = others 2 (λ e. omega arith) (λ e. omega arith)
-  under-7 refusal.HeaderLength h = others 3 (λ e. omega arith) (λ e. omega arith)
-  under-7 refusal.UnsupportedProtocol h = others 4 (λ e. omega arith) (λ e. omega arith)
-  under-7 refusal.Fragment h = others 5 (λ e. omega arith) (λ e. omega arith)
-  under-7 refusal.TcpTooShort h = others 6 (λ e. omega arith) (λ e. omega arith)
-  under-7 (refusal.InvalidTcpFlags byte) h = absurd (omega arith)
-  under-7 refusal.DataOffset h = absurd (omega arith)
-  under-7 refusal.ExtensionHeaders h = absurd (omega arith)
+  pub not-7 : (r : PacketRefusal) → (packetNumber r ≡ 7 → ⊥) → Also p l (paperOf (packetRefused r))
+  not-7 refusal.Version h = others 1 (λ e. omega arith) (λ e. omega arith)
+  not-7 refusal.TooShort h = others 2 (λ e. omega arith) (λ e. omega arith)
+  not-7 refusal.HeaderLength h = others 3 (λ e. omega arith) (λ e. omega arith)
+  not-7 refusal.UnsupportedProtocol h = others 4 (λ e. omega arith) (λ e. omega arith)
+  not-7 refusal.Fragment h = others 5 (λ e. omega arith) (λ e. omega arith)
+  not-7 refusal.TcpTooShort h = others 6 (λ e. omega arith) (λ e. omega arith)
+  not-7 (refusal.InvalidTcpFlags byte) h = absurd (h refl)
+  not-7 refusal.DataOffset h = others 14 (λ e. omega arith) (λ e. omega arith)
+  not-7 refusal.ExtensionHeaders h = others 22 (λ e. omega arith) (λ e. omega arith)
 
 abbrev rows6 : List ℕ
 rows6 = 1 ∷ 2 ∷ 3 ∷ 4 ∷ 5 ∷ 6 ∷ []
@@ -78,12 +79,12 @@ past-six false n e =
     (more {m = 4} (λ (h : n ≡ 4). omega arith)
     (more {m = 5} (λ (h : n ≡ 5). omega arith) (more {m = 6} (λ (h : n ≡ 6). omega arith) end)))))
 
-pub ip-row : (p : List ℕ) → IsRow (PacketRow p) rows6 p [] (ipPaper (readIp p))
+pub ip-row : (p : List ℕ) → IsRow (PacketRow plainMode p) rows6 p [] (ipPaper (readIp p))
 unfolding readPacket refusalOf
 ip-row p = by-stage (readIp p) refl (given p)
   where
-    at-seven : First (PacketRow p) packetOrder (refusalOf (readPacket p mss.Absent .answer))
-    at-seven = refusals .packet p mss.Absent (refusalOf (readPacket p mss.Absent .answer)) .0 refl
+    at-seven : First (PacketRow plainMode p) plainOrder (refusalOf (readPacket p mss.Absent .answer))
+    at-seven = refusals .plain-packet p mss.Absent (refusalOf (readPacket p mss.Absent .answer)) .0 refl
 
     stage-number
         : (x : IpRead)
@@ -94,13 +95,14 @@ ip-row p = by-stage (readIp p) refl (given p)
     refused-number : (r : PacketRefusal) → refusalOf (afterIp readTcp (ip.Refused r) p mss.Absent .answer) ≡ packetNumber r
     refused-number r = refl
 
-    by-stage : (x : IpRead) {n : ℕ} → readIp p ≡ x → Given p n x → IsRow (PacketRow p) rows6 p [] (ipPaper x)
+    by-stage : (x : IpRead) {n : ℕ} → readIp p ≡ x → Given p n x → IsRow (PacketRow plainMode p) rows6 p [] (ipPaper x)
     by-stage (ip.Refused r) e (Given.refused h) =
         let n = stage-number (ip.Refused r) e ∙ refused-number r in
-        let seven : First (PacketRow p) packetOrder (packetNumber r) = subst (First (PacketRow p) packetOrder) n at-seven in
+        let seven : First (PacketRow plainMode p) plainOrder (packetNumber r) =
+        subst (First (PacketRow plainMode p) plainOrder) n at-seven in
         record {
           first = without-last 7 rows6 seven (λ (s : packetNumber r ≡ 7). omega arith);
-          also = under-7 p [] r h;
+          also = not-7 p [] r (λ (s : packetNumber r ≡ 7). omega arith);
         }
     by-stage (ip.Facts f) e gives =
         let n = stage-number (ip.Facts f) e ∙ by-flags f (tcpPart f p) mss.Absent in

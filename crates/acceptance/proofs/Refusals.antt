@@ -31,7 +31,7 @@ use Rattle.acceptance.proofs.BundleRefusals.{bundle-row, refused-of-lis
 use Rattle.acceptance.proofs.Fails.{and-false}
 use Rattle.acceptance.proofs.First.{by-test, exactly}
 use Rattle.acceptance.proofs.PacketGives.{packet-gives, packet-answers}
-use Rattle.acceptance.proofs.PacketRefusals.{packet-first}
+use Rattle.acceptance.proofs.PacketRefusals.{packet-first, plain-first}
 
 -- ---- option strings
 
@@ -170,6 +170,7 @@ refusals =
       packet = packet-first;
       packet-gives = packet-gives;
       packet-answers = packet-answers;
+      plain-packet = plain-first;
       options = options-first;
       options-give = options-give;
       record-bad = record-bad;
@@ -179,6 +180,6 @@ refusals =
       search-gives = search-gives;
       bundle = λ b. exactly (bundle-row b (list-row (listOf b)));
       bundle-gives = λ b i e. list-gives (listOf b) i (refused-of-list b (why.BadRecord i) e);
-      bundle-refused = none-beside;
-      bundle-answered = answered;
+      bundle-refused = λ mode b. none-beside b mode;
+      bundle-answered = λ mode b. answered b mode;
     }

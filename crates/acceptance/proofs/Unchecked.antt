@@ -25,14 +25,14 @@ use Rattle.found.specs.Least.{numbersFrom}
 use Rattle.found.proofs.Least.{Without, end, stays-in, left-out}
 use Rattle.search.specs.Search.{fitAt, rankAt, searchOver, searchAll, searchList}
 use Rattle.search.proofs.Rows.{no-rank, none-fits, none-found, without}
-use Rattle.flow.specs.Reading.{readPacket}
+use Rattle.flow.specs.Modes.{readIn}
 use Rattle.packet_answer.specs.declared.PacketAnswer.the-variants as packet
 use Rattle.bundle.specs.declared.BundleCheck.the-variants as check
 use Rattle.bundle.specs.Bundle.{packetCount, checkBundle}
-use Rattle.bundle.specs.Answers.{answerAt, packetLies, packetAt, startOf}
+use Rattle.bundle.specs.Answers.{answerAt, packetLies, packetAtIn, startOf}
 use Rattle.bundle.proofs.Packets.{good-fits, fits-lies, packets-within, start-first}
 use Rattle.bundle.proofs.BundleOrder.{each-within}
-use Rattle.gateway.specs.Parts.{refusedList, gatewayAnswer, listParts}
+use Rattle.gateway.specs.Parts.{refusedList, gatewayIn, listParts}
 use Rattle.acceptance.specs.Unchecked.{goodOnes, SearchUnchecked, PacketUnchecked, BundleUnchecked, OptionsUnchecked, Unchecked}
 use Rattle.acceptance.proofs.Honesty.{honesty}
 
@@ -121,21 +121,22 @@ search-unchecked =
     }
 
 packet-unchecked : PacketUnchecked
-unfolding gatewayAnswer listParts
+unfolding gatewayIn listParts
 packet-unchecked =
     record {
-      same = λ p peer l good. rw good;
-      same-struct = λ p peer l good. rw good;
+      same = λ mode p peer l good. rw good;
+      same-struct = λ mode p peer l good. rw good;
       checked = λ l. (good-outcome (checkList l), λ good. rw good);
       checked-good = λ l good. rw good;
-      syn = λ p peer l e.
-          honesty .syn-answer p peer l e ∙ ap packet.Syn (search-unchecked .bad-record (readPacket p peer .observation) l);
-      syn-ack = λ p peer l e.
-          honesty .syn-ack-answer p peer l e ∙ ap packet.SynAck (search-unchecked .bad-record (readPacket p peer .observation) l);
-      syn-unfit = λ p peer l e unfits.
-          honesty .syn-answer p peer l e ∙ ap packet.Syn (search-unchecked .does-not-fit (readPacket p peer .observation) l unfits);
-      syn-ack-unfit = λ p peer l e unfits.
-          honesty .syn-ack-answer p peer l e ∙ ap packet.SynAck (search-unchecked .does-not-fit (readPacket p peer .observation) l unfits);
+      syn = λ mode p peer l e.
+          honesty .syn-answer mode p peer l e ∙ ap packet.Syn (search-unchecked .bad-record (readIn mode p peer .observation) l);
+      syn-ack = λ mode p peer l e.
+          honesty .syn-ack-answer mode p peer l e ∙ ap packet.SynAck (search-unchecked .bad-record (readIn mode p peer .observation) l);
+      syn-unfit = λ mode p peer l e unfits.
+          honesty .syn-answer mode p peer l e ∙ ap packet.Syn (search-unchecked .does-not-fit (readIn mode p peer .observation) l unfits);
+      syn-ack-unfit = λ mode p peer l e unfits.
+          honesty .syn-ack-answer mode p peer l e
+          ∙ ap packet.SynAck (search-unchecked .does-not-fit (readIn mode p peer .observation) l unfits);
     }
 
 good-lies : (b : List ℕ) (i : ℕ) → checkBundle b ≡ check.Good → i < packetCount b → packetLies b (startOf b i) ≡ true
@@ -148,12 +149,12 @@ good-lies b i good inside =
     )
 
 bundle-unchecked : BundleUnchecked
-unfolding packetAt answerAt startOf
+unfolding packetAtIn answerAt startOf
 bundle-unchecked =
     record {
-      same = λ b i good inside. rw (good-lies b i good inside);
-      lies = λ b at e. rw e;
-      lies-not = λ b at e. rw e;
+      same = λ mode b i good inside. rw (good-lies b i good inside);
+      lies = λ mode b at e. rw e;
+      lies-not = λ mode b at e. rw e;
     }
 
 options-unchecked : OptionsUnchecked

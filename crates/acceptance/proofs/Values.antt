@@ -17,6 +17,7 @@ use Rattle.syn_options.specs.Walk.{entryByte, putEntry, walkFrom, walkOf, parse
 use Rattle.ip.specs.Ip.{ipv4Quirks, ipv4Facts, readIpv4, readIp}
 use Rattle.flow.specs.Flags.{maskedType, flagsInvalid, isSynType}
 use Rattle.flow.specs.Tcp.{headerQuirks, quirksOfHeaders, payloadClass, observationOf, observationFrom, readTcp}
+use Rattle.flow.specs.Modes.{readIn}
 use Rattle.flow.specs.Reading.{readPacket, refusalOf}
 use Rattle.distances.specs.DistanceGates.{versionMatches, windowMatches, payloadMatches}
 use Rattle.distances.specs.Distances.{ttlFit}
@@ -30,12 +31,12 @@ use Rattle.siglist.specs.List.{listFits, layoutLies, recordGood, recordsFrom, c
 use Rattle.found.specs.Least.{prefer, leastFrom, firstLeast, numbersFrom}
 use Rattle.found.specs.Rank.{foundOf}
 use Rattle.search.specs.Search.{fitAt, candidateAt, rankAt, foundAt, searchRow, searchOver, searchAll, searchList}
-use Rattle.packet_answer.specs.Packet.{peerOf, answerOf}
+use Rattle.packet_answer.specs.Packet.{peerOf, answerIn}
 use Rattle.bundle.specs.Bundle.{packetEnd, packetFits, packetsFit, listLies, bundleFits, checkBundle}
 use Rattle.bundle.specs.Answers.{answerAt, packetLies, answersFrom, bundleAnswer}
 use Rattle.text.specs.Decimal.{width, decimal}
 use Rattle.report.specs.Text.{foundText, answerText, lineOf, headLine, refusedLine}
-use Rattle.report.specs.Pages.{linesOf, outputOf}
+use Rattle.report.specs.Pages.{linesOf, outputIn}
 use Rattle.acceptance.specs.Values.{QuirkValues, TtlValues, WindowValues, OptionValues, PacketValues, FitValues, ThreeAnswers}
 use Rattle.acceptance.specs.Values.{WholeExample, Values}
 
@@ -125,7 +126,7 @@ unfolding readPacket readIp readIpv4 ipv4Facts ipv4Quirks ipv4OptionLength readi
 three-answers = record { list-good = refl; exact = refl; fuzzy = refl; none = refl }
 
 whole-example : WholeExample
-unfolding readPacket readIp readIpv4 ipv4Facts ipv4Quirks ipv4OptionLength readingOf guessOf initialOf readTcp flagsInvalid maskedType
+unfolding readIn readIp readIpv4 ipv4Facts ipv4Quirks ipv4OptionLength readingOf guessOf initialOf readTcp flagsInvalid maskedType
     isSynType observationFrom observationOf quirksOfHeaders headerQuirks payloadClass walkOf walkFrom optionsAfter asked runsPast putEntry
     entryByte seeOption laterMss laterScale laterQuirks trailingNonzero excessiveScaling ownTimestampZero peerTimestampNonzero anyNonzero
     addIf with bitOf placeOf empty fromQuirks be16 be32 checkList listFits recordsFrom recordGood layoutLies scalarsGood versionGood ttlGood
@@ -134,8 +135,8 @@ unfolding readPacket readIp readIpv4 ipv4Facts ipv4Quirks ipv4OptionLength readi
     windowMultiplier ownTimestampNonzero holdsKind contains holds digit multiplierOf firstMultiple twelve divides signatureOf versionOf
     ttlOf mssOf scaleOf windowOf payloadOf fitOf scalarGates versionMatches olenMatches mssMatches windowMatches scaleMatches payloadMatches
     layoutMatches entriesMatch toleranceOf ttlFit quirksFit maskedQuirks maskWhenObsV4 maskWhenObsV6 fuzzyDeletable fuzzyAddable judge
-    judgeInRange outputOf bundleAnswer checkBundle bundleFits packetsFit packetFits packetEnd peerOf answersFrom packetLies listLies
-    answerAt answerOf linesOf lineOf answerText foundText headLine refusedLine decimal width
+    judgeInRange outputIn bundleAnswer checkBundle bundleFits packetsFit packetFits packetEnd peerOf answersFrom packetLies listLies
+    answerAt answerIn linesOf lineOf answerText foundText headLine refusedLine decimal width
 whole-example = record { lines = refl }
 
 pub values : Values

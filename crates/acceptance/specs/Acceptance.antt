@@ -5,6 +5,7 @@ use Rattle.acceptance.specs.Demand2.{Demand2}
 use Rattle.acceptance.specs.Demand3.{Demand3}
 use Rattle.acceptance.specs.Honesty.{Honesty}
 use Rattle.acceptance.specs.Lines.{Lines}
+use Rattle.acceptance.specs.Modes.{Modes}
 use Rattle.acceptance.specs.OnPaper.{OnPaper}
 use Rattle.acceptance.specs.Refusals.{Refusals}
 use Rattle.acceptance.specs.Stages.{Stages}
@@ -29,3 +30,5 @@ pub record Acceptance : Type 1 where
   pub stages : Stages
   -- D1: signatures read from p0f's text form (document 02, Wish 1).
   pub textLines : TextLines
+  -- D2: the strict mode beside the plain one (document 02, Wish 2).
+  pub modes : Modes

@@ -7,12 +7,13 @@ use mathlib.Core.Bool.{Bool}
 use mathlib.Core.List.{List}
 use Prim.Native.Nat.{ℕ, _≤_}
 use lib.ListN.{length}
-use Rattle.report.specs.Pages.{pageSize, firstPage, nextPage, allPages, outputOfInput}
+use Rattle.flow.specs.declared.Mode.{Mode}
+use Rattle.report.specs.Pages.{pageSize, firstPageIn, nextPageIn, allPages, outputOfInputIn}
 use Rattle.acceptance.specs.Promises.{EachCrate}
 
 pub record Demand1 : Type 0 where
   pub promises : EachCrate
   -- The pages, one after the other, are the output: nothing is lost, doubled or moved, and each fits its page.
-  pub whole : (b : List ℕ) (longer : Bool) → allPages b longer ≡ outputOfInput b longer
-  pub first-fits : (b : List ℕ) (longer : Bool) → length (firstPage b longer .text) ≤ pageSize
-  pub next-fits : (b : List ℕ) (left at : ℕ) → length (nextPage b left at .text) ≤ pageSize
+  pub whole : (mode : Mode) (b : List ℕ) (longer : Bool) → allPages mode b longer ≡ outputOfInputIn mode b longer
+  pub first-fits : (mode : Mode) (b : List ℕ) (longer : Bool) → length (firstPageIn mode b longer .text) ≤ pageSize
+  pub next-fits : (mode : Mode) (b : List ℕ) (left at : ℕ) → length (nextPageIn mode b left at .text) ≤ pageSize

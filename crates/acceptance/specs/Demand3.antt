@@ -2,7 +2,9 @@
 -- same signature list, both get the same answer, refusals included." Which bytes are free is written in the crate `alike`, in
 -- specs/Free.antt, item by item and by their places; by `TheRelation.exactly` no more need be read of the relation. It stands field by
 -- field and layer by layer in specs/Packets.antt, Ip.antt, Tcp.antt and Options.antt. "Demand 3 alone admits a constant, so it is stated
--- over demand 2's definitions": `readPacket` and `searchList`, of which Demand2.antt says that they are none. `Demand3` is the statement.
+-- over demand 2's definitions": `readPacket` and `searchList`, of which Demand2.antt says that they are none. It holds in every mode
+-- ("demand 3 holds for both", document 02, Wish 2), by the same relation; in the plain mode `readIn` is `readPacket` (Modes.antt).
+-- `Demand3` is the statement.
 use mathlib.Core.Path.{_≡_}
 use mathlib.Core.Bool.{Bool}
 use mathlib.Core.List.{List}
@@ -15,21 +17,24 @@ use Rattle.tcp.specs.declared.Mss.{Mss}
 use Rattle.quirks.specs.declared.QuirkSet.{QuirkSet}
 use Rattle.syn_options.specs.Walk.{walkOf, parseOptionsRaw}
 use Rattle.ip.specs.Ip.{readIp}
+use Rattle.flow.specs.declared.Mode.{Mode}
 use Rattle.flow.specs.declared.Reading.{Reading}
-use Rattle.flow.specs.Tcp.{readTcp}
-use Rattle.flow.specs.Reading.{readPacket}
+use Rattle.flow.specs.Modes.{plainMode, tcpStage, readIn}
 use Rattle.flow.proofs.read_packet.Reads as read-packet'
+use Rattle.flow.proofs.read_packet_in.Reads as read-packet-in'
 use Rattle.search.specs.declared.SearchAnswer.{SearchAnswer}
 use Rattle.search.specs.Search.{searchList}
 use Rattle.search.proofs.search.Reads as search'
 use Rattle.bundle.specs.Bundle.{packetCount, packetsOffset, listLength, listOffset, listOf, packetBytes, packetPeer, packetEnd}
-use Rattle.packet_answer.specs.Packet.{answerOf}
+use Rattle.packet_answer.specs.Packet.{answerOf, answerIn}
 use Rattle.bundle.specs.Answers.{answerAt}
 use Rattle.report.specs.Text.{lineOf}
-use Rattle.report.specs.Pages.{outputOfInput}
+use Rattle.report.specs.Pages.{outputOfInputIn}
 use Rattle.gateway.specs.declared.TermreadResult.{TermreadResult}
 use Rattle.gateway.proofs.termread_answer_checked.Reads as answer-checked'
 use Rattle.gateway.proofs.termread_answer.Reads as answer'
+use Rattle.gateway.proofs.termread_answer_checked_in.Reads as answer-checked-in'
+use Rattle.gateway.proofs.termread_answer_in.Reads as answer-in'
 use Rattle.alike.specs.Options.{AlikeOptions}
 use Rattle.alike.specs.Ip.{AlikeIpv4, AlikeIpv6}
 use Rattle.alike.specs.Tcp.{AlikeTcp}
@@ -68,37 +73,47 @@ pub record TheRelation : Type 0 where
 
 -- ---- alike packets get the same answer
 
--- What the two functions return in a row: the reading of a packet, and the answer of a search for its observation.
-pub record Run (packet : RefT (List ℕ)) (peer : Mss) (list : RefT (List ℕ)) (reading : Reading) (answer : SearchAnswer) : Type 0 where
-  pub κs : Lfts 1
-  pub reads : read-packet'.Post κs (packet, (peer, tt)) reading (packet, (peer, tt))
-  pub searches : search'.Post κs (reading .observation, (list, tt)) answer (reading .observation, (list, tt))
+-- What `read_packet` returns, and what `read_packet_in` does in any mode.
+pub data Read (κs : Lfts 1) (packet : RefT (List ℕ)) (peer : Mss) (reading : Reading) : Mode → Type 0 where
+  plainly : read-packet'.Post κs (packet, (peer, tt)) reading (packet, (peer, tt)) → Read κs packet peer reading plainMode
+  in-mode
+      : {mode : Mode}
+      → read-packet-in'.Post κs (packet, (peer, (mode, tt))) reading (packet, (peer, (mode, tt)))
+      → Read κs packet peer reading mode
+
+-- What two functions return in a row: the reading of a packet, and the answer of a search for its observation.
+pub record Run (mode : Mode) (packet : RefT (List ℕ)) (peer : Mss) (list : RefT (List ℕ)) (reading : Reading) (answer : SearchAnswer)
+    : Type 0
+  where
+    pub κs : Lfts 1
+    pub reads : Read κs packet peer reading mode
+    pub searches : search'.Post κs (reading .observation, (list, tt)) answer (reading .observation, (list, tt))
 
 pub record SameAnswer : Type 0 where
   -- the IP stage, refusals 1 to 6 included
   pub ip-stage : KeepsLevel document01 readIp
-  -- the TCP stage, refusal 7 included, after any facts of an IP header
-  pub tcp-stage : KeepsTcp readTcp
+  -- the TCP stage, refusals 7 and 14 included, after any facts of an IP header
+  pub tcp-stage : (mode : Mode) → KeepsTcp (tcpStage mode)
   -- an option string by itself, by either walk, and parsed, refusal 8 included
   pub option-walks
       : (s t : List ℕ) → AlikeOptions s t → (stop syn : Bool) (quirks : QuirkSet) → walkOf stop syn quirks s ≡ walkOf stop syn quirks t
   pub option-strings : (s t : List ℕ) → AlikeOptions s t → parseOptionsRaw s ≡ parseOptionsRaw t
   -- the packet reader
-  pub reader : (p q : List ℕ) (peer : Mss) → Alike p q → readPacket p peer ≡ readPacket q peer
+  pub reader : (mode : Mode) (p q : List ℕ) (peer : Mss) → Alike p q → readIn mode p peer ≡ readIn mode q peer
   -- the search, with its reason and its refusals
   pub search
-      : (p q : List ℕ) (peer : Mss) (l : List ℕ)
+      : (mode : Mode) (p q : List ℕ) (peer : Mss) (l : List ℕ)
       → Alike p q
-      → searchList (readPacket p peer .observation) l ≡ searchList (readPacket q peer .observation) l
+      → searchList (readIn mode p peer .observation) l ≡ searchList (readIn mode q peer .observation) l
   -- what the functions return
   pub returned
-      : (p q list : RefT (List ℕ)) (peer : Mss) (r s : Reading) (a b : SearchAnswer)
+      : (mode : Mode) (p q list : RefT (List ℕ)) (peer : Mss) (r s : Reading) (a b : SearchAnswer)
       → Alike (now p) (now q)
-      → Run p peer list r a
-      → Run q peer list s b
+      → Run mode p peer list r a
+      → Run mode q peer list s b
       → (r ≡ s) × (a ≡ b)
 
--- What the gateway's functions return.
+-- What the gateway's functions return: the two plain ones, and the two that take a mode.
 pub record GatewaySame : Type 0 where
   pub checked
       : (κs : Lfts 2) (p q list : RefT (List ℕ)) (peer : ℕ) (r s : TermreadResult)
@@ -111,6 +126,18 @@ pub record GatewaySame : Type 0 where
       → Alike (now p) (now q)
       → answer'.Post κs (p, (peer, (list, tt))) r (p, (peer, (list, tt)))
       → answer'.Post κs (q, (peer, (list, tt))) s (q, (peer, (list, tt)))
+      → r ≡ s
+  pub checked-in
+      : (κs : Lfts 2) (p q list : RefT (List ℕ)) (peer bits : ℕ) (r s : TermreadResult)
+      → Alike (now p) (now q)
+      → answer-checked-in'.Post κs (p, (peer, (list, (bits, tt)))) r (p, (peer, (list, (bits, tt))))
+      → answer-checked-in'.Post κs (q, (peer, (list, (bits, tt)))) s (q, (peer, (list, (bits, tt))))
+      → r ≡ s
+  pub not-checked-in
+      : (κs : Lfts 2) (p q list : RefT (List ℕ)) (peer bits : ℕ) (r s : TermreadResult)
+      → Alike (now p) (now q)
+      → answer-in'.Post κs (p, (peer, (list, (bits, tt)))) r (p, (peer, (list, (bits, tt))))
+      → answer-in'.Post κs (q, (peer, (list, (bits, tt)))) s (q, (peer, (list, (bits, tt))))
       → r ≡ s
 
 -- So many packets of two bundles, from a place on: the same peer and the same end, hence length, and alike, one by one.
@@ -137,17 +164,20 @@ pub record AlikeBundles (b c : List ℕ) : Type 0 where
 -- Bundles, packet by packet: with the same list and the same peer's MSS, packets that are alike have the same answer and the same line.
 pub record BundleSame : Type 0 where
   pub answer
-      : (p q : List ℕ) (peer : Mss) (l : List ℕ) → Alike p q → answerOf p peer l ≡ answerOf q peer l
+      : (mode : Mode) (p q : List ℕ) (peer : Mss) (l : List ℕ) → Alike p q → answerIn mode p peer l ≡ answerIn mode q peer l
   pub line
-      : (p q : List ℕ) (peer : Mss) (l : List ℕ) → Alike p q → lineOf (answerOf p peer l) ≡ lineOf (answerOf q peer l)
+      : (mode : Mode) (p q : List ℕ) (peer : Mss) (l : List ℕ)
+      → Alike p q
+      → lineOf (answerIn mode p peer l) ≡ lineOf (answerIn mode q peer l)
   pub in-bundles
-      : (b c : List ℕ) (at to : ℕ)
+      : (mode : Mode) (b c : List ℕ) (at to : ℕ)
       → listOf b ≡ listOf c
       → packetPeer b at ≡ packetPeer c to
       → Alike (packetBytes b at) (packetBytes c to)
-      → answerAt b at ≡ answerAt c to
+      → answerAt mode b at ≡ answerAt mode c to
   -- the whole output, byte by byte, refusals 12, 9 and 10 included; `longer`: the input goes on past the buffer
-  pub whole : (b c : List ℕ) (longer : Bool) → AlikeBundles b c → outputOfInput b longer ≡ outputOfInput c longer
+  pub whole
+      : (mode : Mode) (b c : List ℕ) (longer : Bool) → AlikeBundles b c → outputOfInputIn mode b longer ≡ outputOfInputIn mode c longer
   -- Two bundles that differ in a free byte of a packet need not agree: that byte may be the list's.
   pub not-whole : Overlap
 
@@ -155,6 +185,11 @@ pub record Demand3 : Type 0 where
   -- the sentence itself: the answer is that of `answerOf`, a refusal or an observation and what the search finds for it
   pub free-bytes
       : (p q : List ℕ) (peer : Mss) (l : List ℕ) → DifferOnly (Free p q) p q → answerOf p peer l ≡ answerOf q peer l
+  -- and in any mode
+  pub free-bytes-in
+      : (mode : Mode) (p q : List ℕ) (peer : Mss) (l : List ℕ)
+      → DifferOnly (Free p q) p q
+      → answerIn mode p peer l ≡ answerIn mode q peer l
   pub relation : TheRelation
   pub answer : SameAnswer
   pub bundles : BundleSame

@@ -1,5 +1,6 @@
 -- "Exact, fuzzy and none stay three answers": what each of the three means, for a record, for a search and for a packet (document 01,
--- module 7 and "The signature list"), and that they stay three in the struct that a gateway gets. `Honesty` is the statement.
+-- module 7 and "The signature list"), and that they stay three in the struct that a gateway gets, in every mode. `Honesty` is the
+-- statement.
 use mathlib.Core.Path.{_≡_}
 use mathlib.Core.Bool.{true, false}
 use mathlib.Core.List.{List, _++_}
@@ -10,7 +11,8 @@ use Rattle.quirks.specs.Quirks.{isEmpty}
 use Rattle.observable.specs.declared.TcpObservation.{TcpObservation}
 use Rattle.refusals.specs.declared.PacketRefusal.{PacketRefusal}
 use Rattle.flow.specs.declared.Answer.the-variants as reading
-use Rattle.flow.specs.Reading.{readPacket}
+use Rattle.flow.specs.declared.Mode.{Mode}
+use Rattle.flow.specs.Modes.{readIn}
 use Rattle.distances.specs.declared.TtlFit.{TtlFit}
 use Rattle.distances.specs.declared.TtlFit.the-variants as ttlfit
 use Rattle.distances.specs.Distances.{ttlFit}
@@ -34,9 +36,9 @@ use Rattle.search.specs.declared.SearchAnswer.the-variants as answer
 use Rattle.search.specs.Search.{searchOver, searchAll, searchList}
 use Rattle.packet_answer.specs.declared.PacketAnswer.{PacketAnswer}
 use Rattle.packet_answer.specs.declared.PacketAnswer.the-variants as packet
-use Rattle.packet_answer.specs.Packet.{peerOf, answerOf}
+use Rattle.packet_answer.specs.Packet.{peerOf, answerIn}
 use Rattle.gateway.specs.declared.TermreadResult.{TermreadResult}
-use Rattle.gateway.specs.Parts.{GatewayAnswer, packetParts, partsOf, gatewayAnswer, listParts}
+use Rattle.gateway.specs.Parts.{GatewayAnswer, packetParts, partsOf, gatewayIn, listParts}
 use Rattle.gateway.specs.Decode.{AllBytes, answerFrom}
 use Rattle.gateway.specs.Zeros.{Zeros}
 use Rattle.acceptance.specs.Outcome.{Outcome}
@@ -97,16 +99,17 @@ outcomeOf (GatewayAnswer.answered packet.Nothing) = 4
 outcomeOf (GatewayAnswer.answered (packet.Refused r)) = 5
 outcomeOf (GatewayAnswer.list-refused r) = 5
 
--- The struct that a gateway gets for a packet, the peer's MSS and a list (`termread_answer`).
-abbrev pub structAt : List ℕ → ℕ → List ℕ → TermreadResult
-structAt p peer l = partsOf (gatewayAnswer p peer l)
+-- The struct that a gateway gets for a packet, the peer's MSS and a list (`termread_answer_in`; in the plain mode `termread_answer`).
+abbrev pub structAt : Mode → List ℕ → ℕ → List ℕ → TermreadResult
+structAt mode p peer l = partsOf (gatewayIn mode p peer l)
 
--- The answer that a gateway gets which checked its list once, and its struct (`termread_answer_checked`).
-abbrev pub checkedAnswer : List ℕ → ℕ → List ℕ → PacketAnswer
-checkedAnswer p peer l = answerOf p (peerOf peer) l
+-- The answer that a gateway gets which checked its list once, and its struct (`termread_answer_checked_in`; in the plain mode
+-- `termread_answer_checked`).
+abbrev pub checkedAnswer : Mode → List ℕ → ℕ → List ℕ → PacketAnswer
+checkedAnswer mode p peer l = answerIn mode p (peerOf peer) l
 
-abbrev pub checkedStruct : List ℕ → ℕ → List ℕ → TermreadResult
-checkedStruct p peer l = packetParts (checkedAnswer p peer l)
+abbrev pub checkedStruct : Mode → List ℕ → ℕ → List ℕ → TermreadResult
+checkedStruct mode p peer l = packetParts (checkedAnswer mode p peer l)
 
 -- The struct that a gateway gets for a list alone (`termread_check_list`).
 abbrev pub listStruct : List ℕ → TermreadResult
@@ -133,59 +136,63 @@ pub record Honesty : Type 0 where
   -- fuzzy one where none is exact; none exactly when no record fits.
   pub answered : (o : TcpObservation) (l : List ℕ) (x : Found) → (searchAll o l ≡ x) ↔ Outcome o l x
   pub syn-answer
-      : (p : List ℕ) (peer : Mss) (l : List ℕ)
-      → readPacket p peer .answer ≡ reading.Syn
-      → answerOf p peer l ≡ packet.Syn (searchAll (readPacket p peer .observation) l)
+      : (mode : Mode) (p : List ℕ) (peer : Mss) (l : List ℕ)
+      → readIn mode p peer .answer ≡ reading.Syn
+      → answerIn mode p peer l ≡ packet.Syn (searchAll (readIn mode p peer .observation) l)
   pub syn-ack-answer
-      : (p : List ℕ) (peer : Mss) (l : List ℕ)
-      → readPacket p peer .answer ≡ reading.SynAck
-      → answerOf p peer l ≡ packet.SynAck (searchAll (readPacket p peer .observation) l)
+      : (mode : Mode) (p : List ℕ) (peer : Mss) (l : List ℕ)
+      → readIn mode p peer .answer ≡ reading.SynAck
+      → answerIn mode p peer l ≡ packet.SynAck (searchAll (readIn mode p peer .observation) l)
   -- "nothing" and a refusal stay what they are.
   pub nothing-answer
-      : (p : List ℕ) (peer : Mss) (l : List ℕ) → readPacket p peer .answer ≡ reading.Nothing → answerOf p peer l ≡ packet.Nothing
+      : (mode : Mode) (p : List ℕ) (peer : Mss) (l : List ℕ)
+      → readIn mode p peer .answer ≡ reading.Nothing
+      → answerIn mode p peer l ≡ packet.Nothing
   pub refused-answer
-      : (p : List ℕ) (peer : Mss) (l : List ℕ) (r : PacketRefusal)
-      → readPacket p peer .answer ≡ reading.Refused r
-      → answerOf p peer l ≡ packet.Refused r
+      : (mode : Mode) (p : List ℕ) (peer : Mss) (l : List ℕ) (r : PacketRefusal)
+      → readIn mode p peer .answer ≡ reading.Refused r
+      → answerIn mode p peer l ≡ packet.Refused r
   -- No two of the three answers are one.
   pub exact-not-fuzzy : (a b : Hit) (r : FuzzyReason) → found.Exact a ≡ found.Fuzzy b r → ⊥
   pub exact-not-none : (a : Hit) → found.Exact a ≡ found.None → ⊥
   pub fuzzy-not-none : (a : Hit) (r : FuzzyReason) → found.Fuzzy a r ≡ found.None → ⊥
   -- Nothing of an answer is lost in its struct: the answer is read back from it.
   pub read-back
-      : (p : List ℕ) (peer : ℕ) (l : List ℕ)
+      : (mode : Mode) (p : List ℕ) (peer : ℕ) (l : List ℕ)
       → AllBytes p
       → AllBytes l
-      → answerFrom (structAt p peer l) ≡ gatewayAnswer p peer l
+      → answerFrom (structAt mode p peer l) ≡ gatewayIn mode p peer l
   -- No two different answers of the gateway share a struct.
   pub structs-differ
-      : (p q : List ℕ) (m n : ℕ) (l k : List ℕ)
+      : (a b : Mode) (p q : List ℕ) (m n : ℕ) (l k : List ℕ)
       → AllBytes p
       → AllBytes q
       → AllBytes l
       → AllBytes k
-      → structAt p m l ≡ structAt q n k
-      → gatewayAnswer p m l ≡ gatewayAnswer q n k
+      → structAt a p m l ≡ structAt b q n k
+      → gatewayIn a p m l ≡ gatewayIn b q n k
   -- The field `outcome` alone tells the three apart, and them from 4 and 5.
-  pub outcome-field : (p : List ℕ) (peer : ℕ) (l : List ℕ) → structAt p peer l .outcome ≡ outcomeOf (gatewayAnswer p peer l)
+  pub outcome-field
+      : (mode : Mode) (p : List ℕ) (peer : ℕ) (l : List ℕ) → structAt mode p peer l .outcome ≡ outcomeOf (gatewayIn mode p peer l)
   -- What an answer does not have is 0 in its struct, and so is what no answer has yet.
-  pub zeros : (p : List ℕ) (peer : ℕ) (l : List ℕ) → Zeros (structAt p peer l)
+  pub zeros : (mode : Mode) (p : List ℕ) (peer : ℕ) (l : List ℕ) → Zeros (structAt mode p peer l)
   -- The same four of the function that gateways are told to call, on any byte strings, also where the list was not checked.
   pub checked-read-back
-      : (p : List ℕ) (peer : ℕ) (l : List ℕ)
+      : (mode : Mode) (p : List ℕ) (peer : ℕ) (l : List ℕ)
       → AllBytes p
       → AllBytes l
-      → answerFrom (checkedStruct p peer l) ≡ GatewayAnswer.answered (checkedAnswer p peer l)
+      → answerFrom (checkedStruct mode p peer l) ≡ GatewayAnswer.answered (checkedAnswer mode p peer l)
   pub checked-structs-differ
-      : (p q : List ℕ) (m n : ℕ) (l k : List ℕ)
+      : (a b : Mode) (p q : List ℕ) (m n : ℕ) (l k : List ℕ)
       → AllBytes p
       → AllBytes q
       → AllBytes l
       → AllBytes k
-      → checkedStruct p m l ≡ checkedStruct q n k
-      → checkedAnswer p m l ≡ checkedAnswer q n k
+      → checkedStruct a p m l ≡ checkedStruct b q n k
+      → checkedAnswer a p m l ≡ checkedAnswer b q n k
   pub checked-outcome-field
-      : (p : List ℕ) (peer : ℕ) (l : List ℕ) → checkedStruct p peer l .outcome ≡ outcomeOf (GatewayAnswer.answered (checkedAnswer p peer l))
-  pub checked-zeros : (p : List ℕ) (peer : ℕ) (l : List ℕ) → Zeros (checkedStruct p peer l)
+      : (mode : Mode) (p : List ℕ) (peer : ℕ) (l : List ℕ)
+      → checkedStruct mode p peer l .outcome ≡ outcomeOf (GatewayAnswer.answered (checkedAnswer mode p peer l))
+  pub checked-zeros : (mode : Mode) (p : List ℕ) (peer : ℕ) (l : List ℕ) → Zeros (checkedStruct mode p peer l)
   -- And the zeros of what is said of a list.
   pub list-zeros : (l : List ℕ) → Zeros (listStruct l)

@@ -6,6 +6,7 @@ pub mod Demand3
 pub mod Honesty
 pub mod Lent
 pub mod Lines
+pub mod Modes
 pub mod NotFree
 pub mod OnPaper
 pub mod Outcome

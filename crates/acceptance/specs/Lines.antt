@@ -12,9 +12,10 @@ use Rattle.matching.specs.declared.FuzzyReason.{FuzzyReason}
 use Rattle.found.specs.declared.Hit.{Hit}
 use Rattle.found.specs.declared.Found.{Found}
 use Rattle.found.specs.declared.Found.the-variants as found
+use Rattle.flow.specs.declared.Mode.{Mode}
 use Rattle.packet_answer.specs.declared.PacketAnswer.{PacketAnswer}
 use Rattle.packet_answer.specs.declared.PacketAnswer.the-variants as packet
-use Rattle.packet_answer.specs.Packet.{answerOf}
+use Rattle.packet_answer.specs.Packet.{answerIn}
 use Rattle.bundle.specs.declared.BundleCheck.{BundleCheck}
 use Rattle.bundle.specs.Bundle.{bundleRefusal}
 use Rattle.gateway.specs.Decode.{AllBytes}
@@ -87,6 +88,7 @@ pub record Words : Type 0 where
   pub refused-5 : lineOf (packet.Refused refusal.Fragment) ≡ ascii "refused 5\n"
   pub refused-6 : lineOf (packet.Refused refusal.TcpTooShort) ≡ ascii "refused 6\n"
   pub refused-7 : (flags : ℕ) → lineOf (packet.Refused (refusal.InvalidTcpFlags flags)) ≡ ascii "refused 7\n"
+  pub refused-14 : lineOf (packet.Refused refusal.DataOffset) ≡ ascii "refused 14\n"
   pub refused-9 : refusedLine 9 ≡ ascii "refused 9\n"
   pub refused-10 : refusedLine 10 ≡ ascii "refused 10\n"
   pub refused-12 : refusedLine 12 ≡ ascii "refused 12\n"
@@ -96,14 +98,14 @@ pub record Words : Type 0 where
 pub record Lines : Type 0 where
   -- Two packets have the same line exactly when the same is printed of both.
   pub lines : (a b : PacketAnswer) → LabelFits a → LabelFits b → (lineOf a ≡ lineOf b) ↔ (printed a ≡ printed b)
-  -- So of any two packets, each with its peer and list: the answers of byte strings have labels of two bytes.
+  -- So of any two packets, each with its mode, peer and list: the answers of byte strings have labels of two bytes.
   pub answers
-      : (p q : List ℕ) (m n : Mss) (l k : List ℕ)
+      : (a b : Mode) (p q : List ℕ) (m n : Mss) (l k : List ℕ)
       → AllBytes p
       → AllBytes q
       → AllBytes l
       → AllBytes k
-      → (lineOf (answerOf p m l) ≡ lineOf (answerOf q n k)) ↔ (printed (answerOf p m l) ≡ printed (answerOf q n k))
+      → (lineOf (answerIn a p m l) ≡ lineOf (answerIn b q n k)) ↔ (printed (answerIn a p m l) ≡ printed (answerIn b q n k))
   -- The first line tells the count; it is no packet's line, and no refusal of a bundle or a list.
   pub counts : (m n : ℕ) → m < 65536 → n < 65536 → headLine m ≡ headLine n → m ≡ n
   pub no-packets-line : (a : PacketAnswer) (n : ℕ) → lineOf a ≡ headLine n → ⊥

@@ -12,7 +12,9 @@ use Rattle.refusals.specs.Refusals.{Returned, valueOf, everyRefusal, Verdict, n
 use Rattle.ip.specs.declared.IpRead.{IpRead}
 use Rattle.ip.specs.Ip.{readIp, ipVerdict}
 use Rattle.flow.specs.declared.Answer.{Answer}
-use Rattle.flow.specs.Reading.{readPacket, answerVerdict}
+use Rattle.flow.specs.declared.Mode.{Mode}
+use Rattle.flow.specs.Modes.{plainMode, readIn}
+use Rattle.flow.specs.Reading.{answerVerdict}
 use Rattle.syn_options.specs.declared.OptionsAnswer.{OptionsAnswer}
 use Rattle.syn_options.specs.Walk.{parseOptionsRaw, optionsVerdict}
 use Rattle.siglist.specs.declared.Header.{Header}
@@ -25,11 +27,11 @@ use Rattle.signature_line.specs.LineReader.{readLine}
 use Rattle.search.specs.declared.SearchAnswer.{SearchAnswer}
 use Rattle.search.specs.Search.{searchList, searchVerdict}
 use Rattle.packet_answer.specs.declared.PacketAnswer.{PacketAnswer}
-use Rattle.packet_answer.specs.Packet.{answerOf, packetVerdict}
+use Rattle.packet_answer.specs.Packet.{answerIn, packetVerdict}
 use Rattle.bundle.specs.declared.BundleCheck.{BundleCheck}
 use Rattle.bundle.specs.Bundle.{listOf, checkBundle, bundleVerdict}
 use Rattle.gateway.specs.declared.TermreadResult.{TermreadResult}
-use Rattle.gateway.specs.Parts.{GatewayAnswer, refused, gatewayAnswer, gatewayVerdict}
+use Rattle.gateway.specs.Parts.{GatewayAnswer, refused, gatewayIn, gatewayVerdict}
 use Rattle.gateway.specs.Decode.{AllBytes}
 use Rattle.acceptance.specs.Honesty.{structAt, checkedAnswer, checkedStruct, listStruct}
 use Rattle.acceptance.specs.Refusals.{First, PacketRow, packetOrder, FlagsByte, OptionsRow, FirstBad, ListRow, SearchRow, BundleRow}
@@ -55,7 +57,7 @@ refusalPaper r = paperOf (Verdict.refused r)
 abbrev pub ipPaper : IpRead → Paper
 ipPaper a = paperOf (ipVerdict a)
 
--- `read_packet`'s answer.
+-- `read_packet`'s answer, and `read_packet_in`'s.
 abbrev pub answerPaper : Answer → Paper
 answerPaper a = paperOf (answerVerdict a)
 
@@ -106,9 +108,9 @@ pub data LinePaper (s : List ℕ) : Paper → Type 0 where
   of-13 : {at : ℕ} → LineRefused s at → LinePaper s (record { number = 13; also = Returned.offset at })
 
 -- A gateway's list is refused before its packet is read, as a bundle's is.
-pub data GatewayRow (p l : List ℕ) : ℕ → Type 0 where
-  of-list : {n : ℕ} → ListRow l n → GatewayRow p l n
-  of-packet : {n : ℕ} → PacketRow p n → GatewayRow p l n
+pub data GatewayRow (mode : Mode) (p l : List ℕ) : ℕ → Type 0 where
+  of-list : {n : ℕ} → ListRow l n → GatewayRow mode p l n
+  of-packet : {n : ℕ} → PacketRow mode p n → GatewayRow mode p l n
 
 -- ---- the struct of include/termread.h
 
@@ -121,8 +123,10 @@ refusedStruct x = refused (x .number) (valueOf (x .also))
 -- The answers of the functions, on any input.
 pub record Rows : Type 0 where
   -- the IP stage: 1 to 6
-  pub ip : (p : List ℕ) → IsRow (PacketRow p) (1 ∷ 2 ∷ 3 ∷ 4 ∷ 5 ∷ 6 ∷ []) p [] (ipPaper (readIp p))
-  pub packet : (p : List ℕ) (peer : Mss) → IsRow (PacketRow p) packetOrder p [] (answerPaper (readPacket p peer .answer))
+  pub ip : (p : List ℕ) → IsRow (PacketRow plainMode p) (1 ∷ 2 ∷ 3 ∷ 4 ∷ 5 ∷ 6 ∷ []) p [] (ipPaper (readIp p))
+  pub packet
+      : (mode : Mode) (p : List ℕ) (peer : Mss)
+      → IsRow (PacketRow mode p) packetOrder p [] (answerPaper (readIn mode p peer .answer))
   pub options : (s : List ℕ) → IsRow (OptionsRow s) (8 ∷ []) [] [] (optionsPaper (parseOptionsRaw s .answer))
   -- a list's header: 9 alone
   pub header : (l : List ℕ) → IsRow (ListRow l) (9 ∷ []) [] l (headerPaper (headerOf l))
@@ -130,10 +134,12 @@ pub record Rows : Type 0 where
   pub search : (o : TcpObservation) (l : List ℕ) → IsRow (SearchRow o l) (11 ∷ 9 ∷ 10 ∷ []) [] l (searchPaper (searchList o l))
   pub line : (s : List ℕ) → LinePaper s (linePaper (readLine s .answer))
   pub bundle : (b : List ℕ) → IsRow (BundleRow b) (12 ∷ 9 ∷ 10 ∷ []) [] (listOf b) (bundlePaper (checkBundle b))
-  pub packet-answer : (p : List ℕ) (peer : Mss) (l : List ℕ) → IsRow (PacketRow p) packetOrder p l (packetPaper (answerOf p peer l))
+  pub packet-answer
+      : (mode : Mode) (p : List ℕ) (peer : Mss) (l : List ℕ)
+      → IsRow (PacketRow mode p) packetOrder p l (packetPaper (answerIn mode p peer l))
   pub gateway
-      : (p : List ℕ) (peer : ℕ) (l : List ℕ)
-      → IsRow (GatewayRow p l) (9 ∷ 10 ∷ packetOrder) p l (gatewayPaper (gatewayAnswer p peer l))
+      : (mode : Mode) (p : List ℕ) (peer : ℕ) (l : List ℕ)
+      → IsRow (GatewayRow mode p l) (9 ∷ 10 ∷ packetOrder) p l (gatewayPaper (gatewayIn mode p peer l))
 
 -- The table of both documents as it stands on paper: the refusals by name, as `everyRefusal` lists them, have these numbers and return
 -- this.
@@ -173,14 +179,14 @@ TheTable =
 -- A gateway gets a refusal by its number and its value.
 pub record Structs : Type 0 where
   pub answer
-      : (p : List ℕ) (peer : ℕ) (l : List ℕ)
+      : (mode : Mode) (p : List ℕ) (peer : ℕ) (l : List ℕ)
       → AllBytes l
-      → 0 < gatewayPaper (gatewayAnswer p peer l) .number
-      → structAt p peer l ≡ refusedStruct (gatewayPaper (gatewayAnswer p peer l))
+      → 0 < gatewayPaper (gatewayIn mode p peer l) .number
+      → structAt mode p peer l ≡ refusedStruct (gatewayPaper (gatewayIn mode p peer l))
   pub checked
-      : (p : List ℕ) (peer : ℕ) (l : List ℕ)
-      → 0 < packetPaper (checkedAnswer p peer l) .number
-      → checkedStruct p peer l ≡ refusedStruct (packetPaper (checkedAnswer p peer l))
+      : (mode : Mode) (p : List ℕ) (peer : ℕ) (l : List ℕ)
+      → 0 < packetPaper (checkedAnswer mode p peer l) .number
+      → checkedStruct mode p peer l ≡ refusedStruct (packetPaper (checkedAnswer mode p peer l))
   pub list
       : (l : List ℕ)
       → AllBytes l

@@ -1,5 +1,6 @@
 -- Document 01, "Refusal numbers, in order of test": each number with what its row says, the order in which a packet, an option
--- string, a list, a search and a bundle are tested, and what a refusal gives. `Refusals` is the statement.
+-- string, a list, a search and a bundle are tested, and what a refusal gives; and document 02's row of a packet in the strict mode.
+-- `Refusals` is the statement.
 use mathlib.Core.Path.{_≡_}
 use mathlib.Core.Bool.{true, false}
 use mathlib.Core.List.{List, [], _∷_}
@@ -22,8 +23,10 @@ use Rattle.refusals.specs.declared.PacketRefusal.the-variants as refusal
 use Rattle.refusals.specs.declared.ListRefusal.the-variants as why
 use Rattle.refusals.specs.Refusals.{packetNumber}
 use Rattle.flow.specs.declared.Answer.the-variants as answer
+use Rattle.flow.specs.declared.Mode.{Mode}
 use Rattle.flow.specs.declared.Reading.{Reading}
 use Rattle.flow.specs.Flags.{maskedType}
+use Rattle.flow.specs.Modes.{plainMode, readIn}
 use Rattle.flow.specs.Reading.{readPacket, refusalOf}
 use Rattle.siglist.specs.declared.ListAnswer.the-variants as listAnswer
 use Rattle.sigrecord.specs.Record.{firstEntry, entryCount}
@@ -41,7 +44,7 @@ pub data First (Row : ℕ → Type 0) : List ℕ → ℕ → Type 0 where
   later : {m n : ℕ} {rest : List ℕ} → (Row m → ⊥) → First Row rest n → First Row (m ∷ rest) n
   none : First Row [] 0
 
--- ---- a packet
+-- ---- a packet, in any mode
 
 -- The TCP part, by the places of document 01, "Headers and options".
 abbrev pub part4 : List ℕ → List ℕ
@@ -57,31 +60,43 @@ pub data FlagsInvalid (flags : ℕ) : Type 0 where
   fin-rst : tcp.fin flags ≡ 1 → tcp.rst flags ≡ 1 → FlagsInvalid flags
   none-set : tcp.syn flags ≡ 0 → tcp.ack flags ≡ 0 → tcp.fin flags ≡ 0 → tcp.rst flags ≡ 0 → FlagsInvalid flags
 
-pub data PacketRow (p : List ℕ) : ℕ → Type 0 where
-  -- 1: "packet empty, or top nibble of byte 0 not 4 or 6"
-  no-bytes : length p ≡ 0 → PacketRow p 1
-  other-version : (v4.version p ≡ 4 → ⊥) → (v4.version p ≡ 6 → ⊥) → PacketRow p 1
-  -- 2: "under 20 bytes (v4), under 40 (v6)"
-  short4 : v4.version p ≡ 4 → length p < 20 → PacketRow p 2
-  short6 : v4.version p ≡ 6 → length p < 40 → PacketRow p 2
-  -- 3: "v4 header length under 5 words"
-  words4 : v4.version p ≡ 4 → v4.ihl p < 5 → PacketRow p 3
-  -- 4: "protocol or next header not 6"
-  protocol4 : v4.version p ≡ 4 → (v4.protocol p ≡ 6 → ⊥) → PacketRow p 4
-  protocol6 : v4.version p ≡ 6 → (v6.nextHeader p ≡ 6 → ⊥) → PacketRow p 4
-  -- 5: "v4 fragment offset above 0, or more-fragments set"
-  offset4 : v4.version p ≡ 4 → 0 < v4.fragmentOffset p → PacketRow p 5
-  more4 : v4.version p ≡ 4 → v4.moreFragments p ≡ 1 → PacketRow p 5
-  -- 6: "TCP part under 20 bytes"
-  tcp4 : v4.version p ≡ 4 → length (part4 p) < 20 → PacketRow p 6
-  tcp6 : v4.version p ≡ 6 → length (part6 p) < 20 → PacketRow p 6
-  -- 7: "flags invalid"
-  flags4 : v4.version p ≡ 4 → FlagsInvalid (tcp.control (part4 p)) → PacketRow p 7
-  flags6 : v4.version p ≡ 6 → FlagsInvalid (tcp.control (part6 p)) → PacketRow p 7
+-- Document 02, Wish 2: "data offset is under 5 or 4 x data offset exceeds the TCP part".
+pub data ContradictsItself (t : List ℕ) : Type 0 where
+  under-five : tcp.dataOffset t < 5 → ContradictsItself t
+  past-part : length t < 4 * tcp.dataOffset t → ContradictsItself t
 
--- "A packet meets 1 to 7 only".
+pub data PacketRow (mode : Mode) (p : List ℕ) : ℕ → Type 0 where
+  -- 1: "packet empty, or top nibble of byte 0 not 4 or 6"
+  no-bytes : length p ≡ 0 → PacketRow mode p 1
+  other-version : (v4.version p ≡ 4 → ⊥) → (v4.version p ≡ 6 → ⊥) → PacketRow mode p 1
+  -- 2: "under 20 bytes (v4), under 40 (v6)"
+  short4 : v4.version p ≡ 4 → length p < 20 → PacketRow mode p 2
+  short6 : v4.version p ≡ 6 → length p < 40 → PacketRow mode p 2
+  -- 3: "v4 header length under 5 words"
+  words4 : v4.version p ≡ 4 → v4.ihl p < 5 → PacketRow mode p 3
+  -- 4: "protocol or next header not 6"
+  protocol4 : v4.version p ≡ 4 → (v4.protocol p ≡ 6 → ⊥) → PacketRow mode p 4
+  protocol6 : v4.version p ≡ 6 → (v6.nextHeader p ≡ 6 → ⊥) → PacketRow mode p 4
+  -- 5: "v4 fragment offset above 0, or more-fragments set"
+  offset4 : v4.version p ≡ 4 → 0 < v4.fragmentOffset p → PacketRow mode p 5
+  more4 : v4.version p ≡ 4 → v4.moreFragments p ≡ 1 → PacketRow mode p 5
+  -- 6: "TCP part under 20 bytes"
+  tcp4 : v4.version p ≡ 4 → length (part4 p) < 20 → PacketRow mode p 6
+  tcp6 : v4.version p ≡ 6 → length (part6 p) < 20 → PacketRow mode p 6
+  -- 14, in the strict mode alone: the header contradicts itself
+  contradicts4 : mode .strict ≡ true → v4.version p ≡ 4 → ContradictsItself (part4 p) → PacketRow mode p 14
+  contradicts6 : mode .strict ≡ true → v4.version p ≡ 6 → ContradictsItself (part6 p) → PacketRow mode p 14
+  -- 7: "flags invalid"
+  flags4 : v4.version p ≡ 4 → FlagsInvalid (tcp.control (part4 p)) → PacketRow mode p 7
+  flags6 : v4.version p ≡ 6 → FlagsInvalid (tcp.control (part6 p)) → PacketRow mode p 7
+
+-- "Refusals: 14, after 6 and before 7".
 abbrev pub packetOrder : List ℕ
-packetOrder = 1 ∷ 2 ∷ 3 ∷ 4 ∷ 5 ∷ 6 ∷ 7 ∷ []
+packetOrder = 1 ∷ 2 ∷ 3 ∷ 4 ∷ 5 ∷ 6 ∷ 14 ∷ 7 ∷ []
+
+-- "A packet meets 1 to 7 only": in the plain mode, document 01's.
+abbrev pub plainOrder : List ℕ
+plainOrder = 1 ∷ 2 ∷ 3 ∷ 4 ∷ 5 ∷ 6 ∷ 7 ∷ []
 
 -- The flags byte of a packet's TCP part.
 pub data FlagsByte (p : List ℕ) : ℕ → Type 0 where
@@ -90,12 +105,12 @@ pub data FlagsByte (p : List ℕ) : ℕ → Type 0 where
 
 -- "Also returns": nothing, but for 7 the flags byte. Beside a refusal stands the one fixed empty observation, whatever the packet.
 pub data Refused (p : List ℕ) : PacketRefusal → Type 0 where
-  nothing-more : {r : PacketRefusal} → packetNumber r < 7 → Refused p r
+  nothing-more : {r : PacketRefusal} → (packetNumber r ≡ 7 → ⊥) → Refused p r
   flags-byte : {f : ℕ} → FlagsByte p f → Refused p (refusal.InvalidTcpFlags f)
 
-pub record Gives (p : List ℕ) (peer : Mss) : Type 0 where
+pub record Gives (mode : Mode) (p : List ℕ) (peer : Mss) : Type 0 where
   pub why : PacketRefusal
-  pub reading : readPacket p peer ≡ record { answer = answer.Refused why; observation = emptyObservation }
+  pub reading : readIn mode p peer ≡ record { answer = answer.Refused why; observation = emptyObservation }
   pub also : Refused p why
 
 -- "Valid flags whose masked type is neither SYN nor SYN+ACK answer 'nothing', which is not a refusal"; nothing stands beside it either.
@@ -192,9 +207,15 @@ pub data BundleRow (b : List ℕ) : ℕ → Type 0 where
 pub record Refusals : Type 0 where
   -- "Given exactly when", "in order of test": a number is given exactly when its row holds and no row before it does, and 0, which
   -- is no refusal, exactly when no row holds.
-  pub packet : (p : List ℕ) (peer : Mss) (n : ℕ) → (refusalOf (readPacket p peer .answer) ≡ n) ↔ First (PacketRow p) packetOrder n
-  pub packet-gives : (p : List ℕ) (peer : Mss) → 0 < refusalOf (readPacket p peer .answer) → Gives p peer
-  pub packet-answers : (p : List ℕ) (peer : Mss) → refusalOf (readPacket p peer .answer) ≡ 0 → Answered p (readPacket p peer)
+  pub packet
+      : (mode : Mode) (p : List ℕ) (peer : Mss) (n : ℕ)
+      → (refusalOf (readIn mode p peer .answer) ≡ n) ↔ First (PacketRow mode p) packetOrder n
+  pub packet-gives : (mode : Mode) (p : List ℕ) (peer : Mss) → 0 < refusalOf (readIn mode p peer .answer) → Gives mode p peer
+  pub packet-answers
+      : (mode : Mode) (p : List ℕ) (peer : Mss) → refusalOf (readIn mode p peer .answer) ≡ 0 → Answered p (readIn mode p peer)
+  -- document 01's reader, by document 01's rows
+  pub plain-packet
+      : (p : List ℕ) (peer : Mss) (n : ℕ) → (refusalOf (readPacket p peer .answer) ≡ n) ↔ First (PacketRow plainMode p) plainOrder n
   -- "an option string 8"
   pub options : (s : List ℕ) (n : ℕ) → (optionsRefusal (parseOptionsRaw s .answer) ≡ n) ↔ First (OptionsRow s) (8 ∷ []) n
   pub options-give
@@ -215,5 +236,6 @@ pub record Refusals : Type 0 where
   -- bundle that is not refused every packet is.
   pub bundle : (b : List ℕ) (n : ℕ) → (bundleRefusal (checkBundle b) ≡ n) ↔ First (BundleRow b) (12 ∷ 9 ∷ 10 ∷ []) n
   pub bundle-gives : (b : List ℕ) (i : ℕ) → checkBundle b ≡ bundleCheck.List (why.BadRecord i) → FirstBad (listOf b) i
-  pub bundle-refused : (b : List ℕ) → 0 < bundleRefusal (checkBundle b) → bundleAnswer b .answers ≡ []
-  pub bundle-answered : (b : List ℕ) → checkBundle b ≡ bundleCheck.Good → length (bundleAnswer b .answers) ≡ packetCount b
+  pub bundle-refused : (mode : Mode) (b : List ℕ) → 0 < bundleRefusal (checkBundle b) → bundleAnswer mode b .answers ≡ []
+  pub bundle-answered
+      : (mode : Mode) (b : List ℕ) → checkBundle b ≡ bundleCheck.Good → length (bundleAnswer mode b .answers) ≡ packetCount b

@@ -7,7 +7,9 @@ use Prim.Native.Nat.{ℕ}
 use Rattle.tcp.specs.declared.Mss.{Mss}
 use Rattle.tcp.specs.declared.Mss.the-variants as mss
 use Rattle.ip.specs.Ip.{IpStage, readIp}
+use Rattle.flow.specs.declared.Mode.{Mode}
 use Rattle.flow.specs.Tcp.{readTcp}
+use Rattle.flow.specs.Modes.{tcpStage, readIn}
 use Rattle.flow.specs.Reading.{TcpStage, readBy, readPacket}
 use Rattle.flow.specs.Peer.{withPeer, TakesPeer}
 use Rattle.alike.specs.Free.{DifferOnly}
@@ -35,12 +37,13 @@ pub record PeerPutIn : Type 0 where
       → TakesPeer tcp
       → (p : List ℕ) (peer : Mss)
       → readBy stage tcp p peer ≡ withPeer peer (readBy stage tcp p mss.Absent)
-  pub tcp-stage : TakesPeer readTcp
-  pub reader : (p : List ℕ) (peer : Mss) → readPacket p peer ≡ withPeer peer (readPacket p mss.Absent)
+  pub tcp-stage : (mode : Mode) → TakesPeer (tcpStage mode)
+  pub reader : (mode : Mode) (p : List ℕ) (peer : Mss) → readIn mode p peer ≡ withPeer peer (readIn mode p mss.Absent)
 
 pub record Stages : Type 1 where
   pub alike : AlikeByStages
   pub peer : PeerPutIn
-  -- document 01's reader is that of its two stages, and its level's headers are exactly its list
+  -- document 01's reader is that of its two stages, and its level's headers are exactly its list; a mode's reader is that of its stages
   pub reader : (p : List ℕ) (peer : Mss) → readPacket p peer ≡ readBy readIp readTcp p peer
+  pub mode-reader : (mode : Mode) (p : List ℕ) (peer : Mss) → readIn mode p peer ≡ readBy readIp (tcpStage mode) p peer
   pub headers : ExactHeader document01

@@ -1,6 +1,7 @@
 -- Public functions that do not refuse what document 01 refuses, for callers that have asked before or follow a function that has:
--- `search_checked`, `answer_packet`, `termread_answer_checked`, `packet_at` and `walk_options`. What binds each to the function that
--- refuses, and what it answers where that one does. docs/ANSWERS.md, "Exceptions", gives the grounds. `Unchecked` is the statement.
+-- `search_checked`, `answer_packet`, `termread_answer_checked` and `packet_at`, the last three also as `.._in`, and `walk_options`. What
+-- binds each to the function that refuses, and what it answers where that one does. docs/ANSWERS.md, "Exceptions", gives the grounds.
+-- `Unchecked` is the statement.
 use mathlib.Core.Path.{_≡_}
 use mathlib.Core.Bool.{Bool, true, false, cond}
 use mathlib.Core.List.{List, [], _∷_}
@@ -14,7 +15,8 @@ use Rattle.observable.specs.declared.TcpObservation.{TcpObservation}
 use Rattle.syn_options.specs.declared.OptionsAnswer.the-variants as options
 use Rattle.syn_options.specs.Walk.{walkOf, parsedOf, parseOptionsRaw}
 use Rattle.flow.specs.declared.Answer.the-variants as reading
-use Rattle.flow.specs.Reading.{readPacket}
+use Rattle.flow.specs.declared.Mode.{Mode}
+use Rattle.flow.specs.Modes.{readIn}
 use Rattle.refusals.specs.declared.ListRefusal.the-variants as why
 use Rattle.siglist.specs.declared.ListAnswer.the-variants as list
 use Rattle.siglist.specs.List.{recordCount, recordGood, checkList}
@@ -23,12 +25,12 @@ use Rattle.search.specs.declared.SearchAnswer.the-variants as answer
 use Rattle.found.specs.Least.{numbersFrom}
 use Rattle.search.specs.Search.{searchOver, searchAll, searchList}
 use Rattle.packet_answer.specs.declared.PacketAnswer.the-variants as packet
-use Rattle.packet_answer.specs.Packet.{peerOf, answerOf}
+use Rattle.packet_answer.specs.Packet.{peerOf, answerIn}
 use Rattle.bundle.specs.declared.BundleCheck.the-variants as check
 use Rattle.bundle.specs.declared.PacketAt.the-variants as there
 use Rattle.bundle.specs.Bundle.{packetCount, listOf, packetBytes, packetPeer, packetEnd, checkBundle}
-use Rattle.bundle.specs.Answers.{packetLies, packetAt, startOf}
-use Rattle.gateway.specs.Parts.{GatewayAnswer, plain, gatewayAnswer}
+use Rattle.bundle.specs.Answers.{packetLies, packetAtIn, startOf}
+use Rattle.gateway.specs.Parts.{GatewayAnswer, plain, gatewayIn}
 use Rattle.acceptance.specs.Honesty.{structAt, checkedStruct, listStruct}
 
 -- Of a row of record numbers, those of well-formed records; and all of a list: the list without its bad records.
@@ -53,52 +55,55 @@ pub record SearchUnchecked : Type 0 where
   pub does-not-fit : (o : TcpObservation) (l : List ℕ) → checkList l ≡ list.Refused why.DoesNotFit → searchAll o l ≡ found.None
   pub layout-too-long : (o : TcpObservation) (l : List ℕ) → 40 < o .olayout .count → searchAll o l ≡ found.None
 
--- `answer_packet` and `termread_answer_checked`, against `termread_answer` (refusals 9 and 10 before a packet's own).
+-- `answer_packet` and `termread_answer_checked`, against `termread_answer` (refusals 9 and 10 before a packet's own), in every mode.
 pub record PacketUnchecked : Type 0 where
   pub same
-      : (p : List ℕ) (peer : ℕ) (l : List ℕ)
+      : (mode : Mode) (p : List ℕ) (peer : ℕ) (l : List ℕ)
       → checkList l ≡ list.Good
-      → gatewayAnswer p peer l ≡ GatewayAnswer.answered (answerOf p (peerOf peer) l)
-  pub same-struct : (p : List ℕ) (peer : ℕ) (l : List ℕ) → checkList l ≡ list.Good → checkedStruct p peer l ≡ structAt p peer l
+      → gatewayIn mode p peer l ≡ GatewayAnswer.answered (answerIn mode p (peerOf peer) l)
+  pub same-struct
+      : (mode : Mode) (p : List ℕ) (peer : ℕ) (l : List ℕ)
+      → checkList l ≡ list.Good
+      → checkedStruct mode p peer l ≡ structAt mode p peer l
   -- `termread_check_list` has outcome 0 of a good list and of no other, and every other field is then 0.
   pub checked : (l : List ℕ) → (listStruct l .outcome ≡ 0) ↔ (checkList l ≡ list.Good)
   pub checked-good : (l : List ℕ) → checkList l ≡ list.Good → listStruct l ≡ plain 0 0 0 0
   -- 10: that of the list without its bad records.
   pub syn
-      : (p : List ℕ) (peer : Mss) (l : List ℕ)
-      → readPacket p peer .answer ≡ reading.Syn
-      → answerOf p peer l ≡ packet.Syn (searchOver (goodRecords l) (readPacket p peer .observation) l)
+      : (mode : Mode) (p : List ℕ) (peer : Mss) (l : List ℕ)
+      → readIn mode p peer .answer ≡ reading.Syn
+      → answerIn mode p peer l ≡ packet.Syn (searchOver (goodRecords l) (readIn mode p peer .observation) l)
   pub syn-ack
-      : (p : List ℕ) (peer : Mss) (l : List ℕ)
-      → readPacket p peer .answer ≡ reading.SynAck
-      → answerOf p peer l ≡ packet.SynAck (searchOver (goodRecords l) (readPacket p peer .observation) l)
+      : (mode : Mode) (p : List ℕ) (peer : Mss) (l : List ℕ)
+      → readIn mode p peer .answer ≡ reading.SynAck
+      → answerIn mode p peer l ≡ packet.SynAck (searchOver (goodRecords l) (readIn mode p peer .observation) l)
   -- 9: none.
   pub syn-unfit
-      : (p : List ℕ) (peer : Mss) (l : List ℕ)
-      → readPacket p peer .answer ≡ reading.Syn
+      : (mode : Mode) (p : List ℕ) (peer : Mss) (l : List ℕ)
+      → readIn mode p peer .answer ≡ reading.Syn
       → checkList l ≡ list.Refused why.DoesNotFit
-      → answerOf p peer l ≡ packet.Syn found.None
+      → answerIn mode p peer l ≡ packet.Syn found.None
   pub syn-ack-unfit
-      : (p : List ℕ) (peer : Mss) (l : List ℕ)
-      → readPacket p peer .answer ≡ reading.SynAck
+      : (mode : Mode) (p : List ℕ) (peer : Mss) (l : List ℕ)
+      → readIn mode p peer .answer ≡ reading.SynAck
       → checkList l ≡ list.Refused why.DoesNotFit
-      → answerOf p peer l ≡ packet.SynAck found.None
+      → answerIn mode p peer l ≡ packet.SynAck found.None
 
--- `packet_at`, against `check_bundle` (refusals 12, 9 and 10).
+-- `packet_at`, against `check_bundle` (refusals 12, 9 and 10), in every mode.
 pub record BundleUnchecked : Type 0 where
   -- Of a bundle that is not refused: each packet's answer, and where the next starts.
   pub same
-      : (b : List ℕ) (i : ℕ)
+      : (mode : Mode) (b : List ℕ) (i : ℕ)
       → checkBundle b ≡ check.Good
       → i < packetCount b
-      → packetAt b (startOf b i)
-      ≡ there.Packet (answerOf (packetBytes b (startOf b i)) (packetPeer b (startOf b i)) (listOf b)) (startOf b (suc i))
+      → packetAtIn mode b (startOf b i)
+      ≡ there.Packet (answerIn mode (packetBytes b (startOf b i)) (packetPeer b (startOf b i)) (listOf b)) (startOf b (suc i))
   -- Of any other: the same of a packet that lies within the bundle, as does the list; else that there is none.
   pub lies
-      : (b : List ℕ) (at : ℕ)
+      : (mode : Mode) (b : List ℕ) (at : ℕ)
       → packetLies b at ≡ true
-      → packetAt b at ≡ there.Packet (answerOf (packetBytes b at) (packetPeer b at) (listOf b)) (packetEnd b at)
-  pub lies-not : (b : List ℕ) (at : ℕ) → packetLies b at ≡ false → packetAt b at ≡ there.NoPacket
+      → packetAtIn mode b at ≡ there.Packet (answerIn mode (packetBytes b at) (packetPeer b at) (listOf b)) (packetEnd b at)
+  pub lies-not : (mode : Mode) (b : List ℕ) (at : ℕ) → packetLies b at ≡ false → packetAtIn mode b at ≡ there.NoPacket
 
 -- `walk_options`, against `parse_options_raw` (refusal 8).
 pub record OptionsUnchecked : Type 0 where

@@ -10,8 +10,9 @@ use Rattle.ip.specs.declared.IpFacts.{IpFacts}
 use Rattle.ip.specs.declared.IpRead.{IpRead}
 use Rattle.ip.specs.declared.IpRead.the-variants as ip
 use Rattle.ip.specs.Ip.{IpStage, readIp}
-use Rattle.flow.specs.Tcp.{readTcp}
-use Rattle.flow.specs.Reading.{TcpStage, tcpPart, afterIp, readBy, readPacket}
+use Rattle.flow.specs.declared.Mode.{Mode}
+use Rattle.flow.specs.Modes.{tcpStage, readIn}
+use Rattle.flow.specs.Reading.{TcpStage, tcpPart, afterIp, readBy}
 use Rattle.alike.specs.Tcp.{AlikeTcp}
 use Rattle.alike.specs.Packets.{AlikeBody, IpLevel, AlikeBy, Alike, document01}
 use Rattle.alike.specs.Stages.{KeepsLevel, KeepsTcp}
@@ -52,7 +53,7 @@ by-stages level stage tcp keeps keeps-tcp p q peer a =
         let lies = keeps .part p f e in
         keeps-tcp f (tcpPart f p) (tcpPart f q) peer (parts-alike p q f (a .sameLength) (lies .0) (lies .1) (a .body))
 
--- Two packets of equal length that differ only in the free bytes get the same answer.
-pub read-alike : (p q : List ℕ) (peer : Mss) → Alike p q → readPacket p peer ≡ readPacket q peer
-unfolding readPacket
-read-alike = by-stages document01 readIp readTcp keeps-level tcp-alike
+-- Two packets of equal length that differ only in the free bytes get the same answer, in every mode.
+pub read-alike : (mode : Mode) (p q : List ℕ) (peer : Mss) → Alike p q → readIn mode p peer ≡ readIn mode q peer
+unfolding readIn
+read-alike mode = by-stages document01 readIp (tcpStage mode) keeps-level (tcp-alike mode)

@@ -12,6 +12,9 @@ use Rattle.syn_options.specs.declared.Walked.{Walked}
 use Rattle.syn_options.specs.Walk.{walkOf}
 use Rattle.ip.specs.declared.IpFacts.{IpFacts}
 use Rattle.flow.specs.Tcp.{headerQuirks, quirksOfHeaders, payloadClass, observationOf, observationFrom, knownPeer, readTcp}
+use Rattle.flow.specs.declared.Mode.{Mode}
+use Rattle.flow.specs.Strict.{contradictsItself, readTcpStrict}
+use Rattle.flow.specs.Modes.{tcpStage}
 use Rattle.alike.specs.Tcp.{AlikeTcp}
 use Rattle.alike.specs.Stages.{KeepsTcp}
 use Rattle.alike.proofs.Places.{be16-agree}
@@ -38,6 +41,12 @@ module _ (f : IpFacts) (t u : List ℕ) (peer : Mss) (a : AlikeTcp t u) where
   unfolding readTcp
   read-tcp-alike = rw (a .control 13 (omega arith) (omega arith), observed-alike true mss.Absent, observed-alike false (knownPeer peer))
 
--- Two alike TCP parts give one reading, for every byte string, whatever its bytes.
-pub tcp-alike : KeepsTcp readTcp
-tcp-alike = read-tcp-alike
+  -- Both contradict themselves or neither does.
+  aside-alike : contradictsItself t ≡ contradictsItself u
+  unfolding contradictsItself
+  aside-alike = rw (a .dataOffset, a .sameLength)
+
+-- Two alike TCP parts give one reading, for every byte string, whatever its bytes, in every mode.
+pub tcp-alike : (mode : Mode) → KeepsTcp (tcpStage mode)
+unfolding readTcpStrict
+tcp-alike mode f t u peer a = rw (read-tcp-alike f t u peer a, aside-alike f t u peer a)

@@ -18,6 +18,7 @@ use Rattle.siglist.specs.declared.ListAnswer.the-variants as list
 use Rattle.bundle.specs.declared.BundleCheck.the-variants as check
 use Rattle.bundle.specs.Bundle.{packetCount, packetsOffset, listLength, listOffset, listOf, packetEnd, packetFits, packetsFit}
 use Rattle.bundle.specs.Bundle.{listLies, bundleFits, ofList, checkBundle, bundleRefusal}
+use Rattle.flow.specs.declared.Mode.{Mode}
 use Rattle.bundle.specs.Answers.{answerAt, packetLies, startOf, answersFrom}
 use Rattle.bundle.proofs.Packets.{head-within, end-within, head-before-end, start-first}
 use Rattle.bundle.proofs.Packets.{packets-within, list-within, at-most, fits-lies}
@@ -156,28 +157,31 @@ bundle-order b = by-fit (bundleFits b)
 
 -- The answers of the packets from the i-th on begin with the i-th's.
 pub answers-from
-    : (b : List ℕ)
+    : (mode : Mode) (b : List ℕ)
     → bundleFits b ≡ true
     → (n i : ℕ)
     → packetsFit b (startOf b i) (suc n) ≡ true
-    → answersFrom b (startOf b i) (suc n) ≡ answerAt b (startOf b i) ∷ answersFrom b (startOf b (suc i)) n
+    → answersFrom mode b (startOf b i) (suc n) ≡ answerAt mode b (startOf b i) ∷ answersFrom mode b (startOf b (suc i)) n
 unfolding answersFrom packetsFit packetLies startOf
-answers-from b fits n i fit = rw (fits-lies b fits, and-left (packetFits b (startOf b i)) _ fit)
+answers-from mode b fits n i fit = rw (fits-lies b fits, and-left (packetFits b (startOf b i)) _ fit)
 
 -- A bundle that fits has as many answers as packets.
 answers-length
-    : (b : List ℕ)
+    : (mode : Mode) (b : List ℕ)
     → bundleFits b ≡ true
     → (n i : ℕ)
     → packetsFit b (startOf b i) n ≡ true
-    → length (answersFrom b (startOf b i) n) ≡ n
+    → length (answersFrom mode b (startOf b i) n) ≡ n
 unfolding answersFrom packetsFit packetLies startOf
-answers-length b fits zero i fit = refl
-answers-length b fits (suc n) i fit =
+answers-length mode b fits zero i fit = refl
+answers-length mode b fits (suc n) i fit =
     rw (fits-lies b fits, and-left (packetFits b (startOf b i)) _ fit)
-    (ap suc (answers-length b fits n (suc i) (and-right (packetFits b (startOf b i)) _ fit)))
+    (ap suc (answers-length mode b fits n (suc i) (and-right (packetFits b (startOf b i)) _ fit)))
 
-pub all-answered : (b : List ℕ) → bundleFits b ≡ true → length (answersFrom b (packetsOffset b) (packetCount b)) ≡ packetCount b
-all-answered b fits =
-    ap (λ (at : ℕ). length (answersFrom b at (packetCount b))) (sym (start-first b))
-    ∙ answers-length b fits (packetCount b) 0 (rw (start-first b) (packets-within b fits))
+pub all-answered
+    : (mode : Mode) (b : List ℕ)
+    → bundleFits b ≡ true
+    → length (answersFrom mode b (packetsOffset b) (packetCount b)) ≡ packetCount b
+all-answered mode b fits =
+    ap (λ (at : ℕ). length (answersFrom mode b at (packetCount b))) (sym (start-first b))
+    ∙ answers-length mode b fits (packetCount b) 0 (rw (start-first b) (packets-within b fits))

@@ -14,7 +14,8 @@ use Rattle.bundle.specs.declared.BundleCheck.the-variants as check
 use Rattle.packet_answer.specs.declared.PacketAnswer.{PacketAnswer}
 use Rattle.bundle.specs.declared.PacketAt.{PacketAt}
 use Rattle.bundle.specs.declared.PacketAt.the-variants as there
-use Rattle.bundle.specs.Answers.{answerAt, packetLies, packetAt, startOf}
+use Rattle.flow.specs.declared.Mode.{Mode}
+use Rattle.bundle.specs.Answers.{answerAt, packetLies, packetAtIn, startOf}
 use Rattle.bundle.specs.Bundle.{listLength, listOffset, listOf, packetsOffset, packetCount, packetEnd, packetFits, packetsFit}
 use Rattle.bundle.specs.Bundle.{ListWithin, listLies, bundleFits, checkBundle, ofList}
 
@@ -105,24 +106,24 @@ isThere there.NoPacket = 0
 isThere (there.Packet found end) = 1
 
 -- A packet that is there lies within the bundle, and is the one that starts there.
-pub record There (b : List ℕ) (at : ℕ) (a : PacketAnswer) (end : ℕ) : Type 0 where
+pub record There (mode : Mode) (b : List ℕ) (at : ℕ) (a : PacketAnswer) (end : ℕ) : Type 0 where
   pub lies : packetLies b at ≡ true
-  pub answer : a ≡ answerAt b at
+  pub answer : a ≡ answerAt mode b at
   pub ends : end ≡ packetEnd b at
 
-module _ (b : List ℕ) (at : ℕ) where
-  there-if : packetLies b at ≡ true → packetAt b at ≡ there.Packet (answerAt b at) (packetEnd b at)
-  unfolding packetAt
+module _ (mode : Mode) (b : List ℕ) (at : ℕ) where
+  there-if : packetLies b at ≡ true → packetAtIn mode b at ≡ there.Packet (answerAt mode b at) (packetEnd b at)
+  unfolding packetAtIn
   there-if e = rw e
 
-  none-if : packetLies b at ≡ false → packetAt b at ≡ there.NoPacket
-  unfolding packetAt
+  none-if : packetLies b at ≡ false → packetAtIn mode b at ≡ there.NoPacket
+  unfolding packetAtIn
   none-if e = rw e
 
-  pub packet-there : (a : PacketAnswer) (end : ℕ) → packetAt b at ≡ there.Packet a end → There b at a end
+  pub packet-there : (a : PacketAnswer) (end : ℕ) → packetAtIn mode b at ≡ there.Packet a end → There mode b at a end
   packet-there a end e = by-lies (packetLies b at) refl
     where
-      by-lies : (t : Bool) → packetLies b at ≡ t → There b at a end
+      by-lies : (t : Bool) → packetLies b at ≡ t → There mode b at a end
       by-lies true lies =
           record {
             lies = lies;
@@ -131,7 +132,7 @@ module _ (b : List ℕ) (at : ℕ) where
           }
       by-lies false lies = absurd (let z : _≡_ {A = ℕ} 1 0 = ap isThere (sym e ∙ none-if lies) in omega arith)
 
-  pub none-there : packetAt b at ≡ there.NoPacket → packetLies b at ≡ false
+  pub none-there : packetAtIn mode b at ≡ there.NoPacket → packetLies b at ≡ false
   none-there e = by-lies (packetLies b at) refl
     where
       by-lies : (t : Bool) → packetLies b at ≡ t → t ≡ false

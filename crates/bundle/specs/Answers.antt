@@ -1,9 +1,11 @@
--- The answer of a bundle's packet, and of the whole bundle as the list of its answers.
+-- The answer of a bundle's packet, and of the whole bundle as the list of its answers, in any mode; the program asks in the plain one.
 use Prim.Native.Nat.{ℕ, zero, suc}
 use mathlib.Core.Bool.{Bool, cond, _&&_}
 use mathlib.Core.List.{List, [], _∷_}
+use Rattle.flow.specs.declared.Mode.{Mode}
+use Rattle.flow.specs.Modes.{plainMode}
 use Rattle.packet_answer.specs.declared.PacketAnswer.{PacketAnswer}
-use Rattle.packet_answer.specs.Packet.{answerOf}
+use Rattle.packet_answer.specs.Packet.{answerIn}
 use Rattle.bundle.specs.declared.BundleCheck.{BundleCheck}
 use Rattle.bundle.specs.declared.BundleCheck.the-variants as check
 use Rattle.bundle.specs.declared.PacketAt.{PacketAt}
@@ -12,16 +14,16 @@ use Rattle.bundle.specs.Bundle.{packetCount, packetsOffset, listOf, list
 use Rattle.bundle.specs.Bundle.{packetBytes, packetPeer, packetEnd, packetFits}
 
 -- The answer of the packet that starts at a place.
-unfoldable pub answerAt : List ℕ → ℕ → PacketAnswer
-answerAt b at = answerOf (packetBytes b at) (packetPeer b at) (listOf b)
+unfoldable pub answerAt : Mode → List ℕ → ℕ → PacketAnswer
+answerAt mode b at = answerIn mode (packetBytes b at) (packetPeer b at) (listOf b)
 
 -- There is a packet at a place: it fits, and so does the list.
 unfoldable pub packetLies : List ℕ → ℕ → Bool
 packetLies b at = listLies b && packetFits b at
 
 -- What is at a place: no packet, or the answer of the one that starts there, and where it ends.
-unfoldable pub packetAt : List ℕ → ℕ → PacketAt
-packetAt b at = cond (packetLies b at) (there.Packet (answerAt b at) (packetEnd b at)) there.NoPacket
+unfoldable pub packetAtIn : Mode → List ℕ → ℕ → PacketAt
+packetAtIn mode b at = cond (packetLies b at) (there.Packet (answerAt mode b at) (packetEnd b at)) there.NoPacket
 
 -- Where packet i starts.
 unfoldable pub startOf : List ℕ → ℕ → ℕ
@@ -29,19 +31,26 @@ startOf b zero = packetsOffset b
 startOf b (suc i) = packetEnd b (startOf b i)
 
 -- The answers of so many packets from a place on. A place without a packet ends the row; no bundle that passes its check has one.
-unfoldable pub answersFrom : List ℕ → ℕ → ℕ → List PacketAnswer
-answersFrom b at zero = []
-answersFrom b at (suc n) = cond (packetLies b at) (answerAt b at ∷ answersFrom b (packetEnd b at) n) []
+unfoldable pub answersFrom : Mode → List ℕ → ℕ → ℕ → List PacketAnswer
+answersFrom mode b at zero = []
+answersFrom mode b at (suc n) =
+    cond (packetLies b at) (answerAt mode b at ∷ answersFrom mode b (packetEnd b at) n) []
 
 -- The answer of a whole bundle: how its check ends, and the answers of its packets; none beside a refusal.
 pub record BundleAnswer : Type 0 where
   pub check : BundleCheck
   pub answers : List PacketAnswer
 
-abbrev pub afterBundleCheck : BundleCheck → List ℕ → BundleAnswer
-afterBundleCheck check.Good b = record { check = check.Good; answers = answersFrom b (packetsOffset b) (packetCount b) }
-afterBundleCheck check.DoesNotFit b = record { check = check.DoesNotFit; answers = [] }
-afterBundleCheck (check.List r) b = record { check = check.List r; answers = [] }
+abbrev pub afterBundleCheck : Mode → BundleCheck → List ℕ → BundleAnswer
+afterBundleCheck mode check.Good b =
+    record { check = check.Good; answers = answersFrom mode b (packetsOffset b) (packetCount b) }
+afterBundleCheck mode check.DoesNotFit b = record { check = check.DoesNotFit; answers = [] }
+afterBundleCheck mode (check.List r) b = record { check = check.List r; answers = [] }
 
-unfoldable pub bundleAnswer : List ℕ → BundleAnswer
-bundleAnswer b = afterBundleCheck (checkBundle b) b
+unfoldable pub bundleAnswer : Mode → List ℕ → BundleAnswer
+bundleAnswer mode b = afterBundleCheck mode (checkBundle b) b
+
+-- ---- the plain mode
+
+abbrev pub packetAt : List ℕ → ℕ → PacketAt
+packetAt b at = packetAtIn plainMode b at

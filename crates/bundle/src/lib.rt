@@ -5,10 +5,11 @@ ghost use lib.ListN.{length};
 ghost use Rattle.basis.specs.Bytes.{be16};
 ghost use Rattle.bundle.specs.Bundle.{ListWithin, listOf, packetEnd, packetFits, packetsFit, listLies};
 ghost use Rattle.bundle.specs.Bundle.{bundleFits, checkBundle};
-ghost use Rattle.bundle.specs.Answers.{packetAt};
+ghost use Rattle.bundle.specs.Answers.{packetAt, packetAtIn};
+use flow::Mode;
 use numbers::be16;
 use packet_answer::PacketAnswer;
-use packet_answer::answer_packet;
+use packet_answer::answer_packet_in;
 use packet_answer::peer_of;
 use refusals::ListRefusal;
 use siglist::ListAnswer;
@@ -131,9 +132,9 @@ pub fn check_bundle(bundle: &[u8]) -> BundleCheck
 
 // ---- the answers
 
-// What is at a place of a bundle, which need not have passed its check.
-pub fn packet_at(bundle: &[u8], at: usize) -> PacketAt
-    ensures { λ r. ⌜ r ≡ packetAt (now (bundle .entry)) at ⌝ }
+// What is at a place of a bundle, which need not have passed its check, in any mode.
+pub fn packet_at_in(bundle: &[u8], at: usize, mode: Mode) -> PacketAt
+    ensures { λ r. ⌜ r ≡ packetAtIn mode (now (bundle .entry)) at ⌝ }
 {
     if !list_lies(bundle) {
         return PacketAt::NoPacket;
@@ -145,7 +146,14 @@ pub fn packet_at(bundle: &[u8], at: usize) -> PacketAt
     let start = at + BEFORE;
     let end = packet_end(bundle, at);
     PacketAt::Packet(
-        answer_packet(&bundle[start..end], peer, list_of(bundle)),
+        answer_packet_in(&bundle[start..end], peer, list_of(bundle), mode),
         end,
     )
+}
+
+// The same in the plain mode.
+pub fn packet_at(bundle: &[u8], at: usize) -> PacketAt
+    ensures { λ r. ⌜ r ≡ packetAt (now (bundle .entry)) at ⌝ }
+{
+    packet_at_in(bundle, at, Mode::PLAIN)
 }

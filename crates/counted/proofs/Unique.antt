@@ -6,18 +6,25 @@ use contract.Lifetimes.{Lfts}
 use denote.Ref.{RefT, now}
 use Rattle.basis.specs.Unique.{ExactlyOne}
 use Rattle.basis.proofs.Unique.{equation}
+use Rattle.flow.specs.Modes.{modeOf}
 use Rattle.witness.specs.declared.PlainLine.{PlainLine}
 use Rattle.witness.specs.declared.PlainPacket.{PlainPacket}
 use Rattle.witness.specs.Lined.{lineRead}
-use Rattle.counted.specs.Counted.{countedAnswer, countedReading}
+use Rattle.counted.specs.Counted.{countedAnswer, countedReading, countedReadingIn}
 use Rattle.counted.proofs.counted_answer.Reads as counted-answer'
 use Rattle.counted.proofs.counted_line.Reads as counted-line'
 use Rattle.counted.proofs.counted_observe.Reads as counted-observe'
+use Rattle.counted.proofs.counted_observe_in.Reads as counted-observe-in'
 
 pub counted-observe-one
     : (κs : Lfts 1) (packet : RefT (List ℕ)) (peer : ℕ)
     → ExactlyOne PlainPacket (λ (r : PlainPacket). counted-observe'.Post κs (packet, (peer, tt)) r (packet, (peer, tt)))
 counted-observe-one κs packet peer = equation (countedReading (now packet) peer)
+
+pub counted-observe-in-one
+    : (κs : Lfts 1) (packet : RefT (List ℕ)) (peer bits : ℕ)
+    → ExactlyOne PlainPacket (λ (r : PlainPacket). counted-observe-in'.Post κs (packet, (peer, (bits, tt))) r (packet, (peer, (bits, tt))))
+counted-observe-in-one κs packet peer bits = equation (countedReadingIn (modeOf bits) (now packet) peer)
 
 pub counted-answer-one
     : (κs : Lfts 2) (packet : RefT (List ℕ)) (peer : ℕ) (list : RefT (List ℕ))

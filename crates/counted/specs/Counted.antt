@@ -2,7 +2,8 @@
 use Prim.Native.Nat.{ℕ, _+_}
 use mathlib.Core.List.{List}
 use Rattle.window_size.specs.declared.Multiplier.the-variants as multiplier
-use Rattle.flow.specs.Reading.{readPacket}
+use Rattle.flow.specs.declared.Mode.{Mode}
+use Rattle.flow.specs.Modes.{plainMode, readIn}
 use Rattle.found.specs.declared.Found.{Found}
 use Rattle.found.specs.declared.Found.the-variants as found
 use Rattle.search.specs.Search.{searchAll}
@@ -10,8 +11,11 @@ use Rattle.packet_answer.specs.Packet.{peerOf}
 use Rattle.witness.specs.declared.PlainPacket.{PlainPacket}
 use Rattle.witness.specs.Written.{plainPacket}
 
-unfoldable pub countedReading : List ℕ → ℕ → PlainPacket
-countedReading p peer = plainPacket (readPacket p (peerOf peer)) multiplier.Absent
+unfoldable pub countedReadingIn : Mode → List ℕ → ℕ → PlainPacket
+countedReadingIn mode p peer = plainPacket (readIn mode p (peerOf peer)) multiplier.Absent
+
+abbrev pub countedReading : List ℕ → ℕ → PlainPacket
+countedReading p peer = countedReadingIn plainMode p peer
 
 -- None, or exact or fuzzy with the record's label.
 abbrev pub foundCode : Found → ℕ
@@ -20,4 +24,4 @@ foundCode (found.Exact hit) = 131072 + hit .label
 foundCode (found.Fuzzy hit reason) = 196608 + hit .label
 
 unfoldable pub countedAnswer : List ℕ → ℕ → List ℕ → ℕ
-countedAnswer p peer l = foundCode (searchAll (readPacket p (peerOf peer) .observation) l)
+countedAnswer p peer l = foundCode (searchAll (readIn plainMode p (peerOf peer) .observation) l)

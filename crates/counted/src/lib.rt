@@ -1,7 +1,10 @@
 // What tools/benchmark counts, in an archive of its own; not part of the product.
 ghost use mathlib.Core.Path.{_≡_};
-ghost use Rattle.counted.specs.Counted.{countedReading, foundCode, countedAnswer};
+ghost use Rattle.flow.specs.Modes.{modeOf};
+ghost use Rattle.counted.specs.Counted.{countedReading, countedReadingIn, foundCode, countedAnswer};
 ghost use Rattle.witness.specs.Lined.{lineRead};
+use flow::Mode;
+use flow::mode_of;
 use found::Found;
 use packet_answer::peer_of;
 use window_size::Multiplier;
@@ -10,12 +13,27 @@ use witness::PlainPacket;
 use witness::witness_line;
 use witness::written::plain_packet;
 
-// The reading of a packet, whole, as a struct that C can read; the window's multiplier, which a search computes, is left out.
+// The reading of a packet in the plain mode, whole, as a struct that C can read; the window's multiplier, which a search computes, is
+// left out.
 #[no_mangle]
 pub extern "C" fn counted_observe(packet: &[u8], peer: u16) -> PlainPacket
     ensures { λ r. ⌜ r ≡ countedReading (now (packet .entry)) peer ⌝ }
 {
-    plain_packet(flow::read_packet(packet, peer_of(peer)), Multiplier::Absent)
+    plain_packet(
+        flow::read_packet_in(packet, peer_of(peer), Mode::PLAIN),
+        Multiplier::Absent,
+    )
+}
+
+// The same in a mode that is given as for C.
+#[no_mangle]
+pub extern "C" fn counted_observe_in(packet: &[u8], peer: u16, bits: u8) -> PlainPacket
+    ensures { λ r. ⌜ r ≡ countedReadingIn (modeOf bits) (now (packet .entry)) peer ⌝ }
+{
+    plain_packet(
+        flow::read_packet_in(packet, peer_of(peer), mode_of(bits)),
+        Multiplier::Absent,
+    )
 }
 
 fn found_code(found: Found) -> u64
@@ -33,7 +51,7 @@ fn found_code(found: Found) -> u64
 pub extern "C" fn counted_answer(packet: &[u8], peer: u16, list: &[u8]) -> u64
     ensures { λ r. ⌜ r ≡ countedAnswer (now (packet .entry)) peer (now (list .entry)) ⌝ }
 {
-    let reading = flow::read_packet(packet, peer_of(peer));
+    let reading = flow::read_packet_in(packet, peer_of(peer), Mode::PLAIN);
     let observation = reading.observation;
     found_code(search::search_checked(observation, list))
 }

@@ -12,10 +12,13 @@ use Rattle.flow.specs.declared.Answer.the-variants as answer
 use Rattle.ip.specs.declared.IpRead.{IpRead}
 use Rattle.ip.specs.declared.IpRead.the-variants as ip
 use Rattle.ip.specs.Ip.{IpStage, readIp}
+use Rattle.flow.specs.declared.Mode.{Mode}
 use Rattle.flow.specs.declared.Reading.{Reading}
 use Rattle.flow.specs.Flags.{flagsInvalid, isSynType, isSynAckType}
 use Rattle.flow.specs.Tcp.{observationOf, observationFrom, readTcp}
 use Rattle.flow.specs.Reading.{TcpStage, tcpPart, afterIp, readBy, readPacket}
+use Rattle.flow.specs.Strict.{contradictsItself, readTcpStrict}
+use Rattle.flow.specs.Modes.{plainMode, tcpStage, readIn}
 use Rattle.flow.specs.Peer.{peerBeside, putPeer, withPeer, TakesPeer}
 
 -- Whichever way the three tests of the TCP stage go.
@@ -36,6 +39,20 @@ unfolding readTcp withPeer peerBeside observationFrom observationOf emptyObserva
 takes-peer f t peer =
     by-tests peer (flagsInvalid (control t)) (isSynType (control t)) (isSynAckType (control t)) _ _ _ _ _ refl refl refl refl
 
+-- Whether the header is set aside or not, in any mode.
+in-mode
+    : (peer : Mss) (strict aside : Bool) (a b c : Reading)
+    → a ≡ withPeer peer a
+    → b ≡ withPeer peer c
+    → cond strict (cond aside a b) b ≡ withPeer peer (cond strict (cond aside a c) c)
+in-mode peer true true a b c x y = x
+in-mode peer true false a b c x y = y
+in-mode peer false aside a b c x y = y
+
+pub takes-peer-in : (mode : Mode) → TakesPeer (tcpStage mode)
+unfolding readTcpStrict withPeer peerBeside emptyObservation
+takes-peer-in mode f t peer = in-mode peer (mode .strict) (contradictsItself t) _ _ _ refl (takes-peer f t peer)
+
 module _ (stage : IpStage) (tcp : TcpStage) (takes : TakesPeer tcp) where
   after-ip : (r : IpRead) (p : List ℕ) (peer : Mss) → afterIp tcp r p peer ≡ withPeer peer (afterIp tcp r p mss.Absent)
   unfolding withPeer peerBeside emptyObservation
@@ -46,9 +63,13 @@ module _ (stage : IpStage) (tcp : TcpStage) (takes : TakesPeer tcp) where
   pub by-stages : (p : List ℕ) (peer : Mss) → readBy stage tcp p peer ≡ withPeer peer (readBy stage tcp p mss.Absent)
   by-stages p peer = after-ip (stage p) p peer
 
+pub with-peer-in : (mode : Mode) (p : List ℕ) (peer : Mss) → readIn mode p peer ≡ withPeer peer (readIn mode p mss.Absent)
+unfolding readIn
+with-peer-in mode = by-stages readIp (tcpStage mode) (takes-peer-in mode)
+
 pub with-peer : (p : List ℕ) (peer : Mss) → readPacket p peer ≡ withPeer peer (readPacket p mss.Absent)
-unfolding readPacket
-with-peer = by-stages readIp readTcp takes-peer
+unfolding readPacket readIn
+with-peer = with-peer-in plainMode
 
 module _ (p : List ℕ) (peer : Mss) where
   same-answer : readPacket p peer .answer ≡ readPacket p mss.Absent .answer

@@ -1,4 +1,6 @@
 pub mod Flags
+pub mod Modes
 pub mod Peer
 pub mod Reading
+pub mod Strict
 pub mod Tcp

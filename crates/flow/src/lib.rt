@@ -6,7 +6,9 @@ ghost use Rattle.basis.specs.Bytes as bytes;
 ghost use Rattle.rfc.specs.Rfc9293.{dataOffset};
 ghost use lib.ListN.{length};
 ghost use Rattle.flow.specs.Flags.{maskedType, flagsInvalid};
+ghost use Rattle.flow.specs.Modes.{modeOf, tcpStage, readIn};
 ghost use Rattle.flow.specs.Reading.{readPacket};
+ghost use Rattle.flow.specs.Strict.{contradictsItself};
 ghost use Rattle.flow.specs.Tcp.{numberQuirks, urgentQuirks, quirksOfHeaders, payloadClass, observationOf, observationFrom};
 ghost use Rattle.flow.specs.Tcp.{knownPeer, refusing, readTcp};
 use ip::IpFacts;
@@ -40,6 +42,26 @@ pub struct Reading {
     pub observation: TcpObservation,
 }
 
+// How a packet is read. The IP stage is document 01's in every mode.
+pub struct Mode {
+    // The TCP stage: a header that contradicts itself is set aside (refusal 14) instead of being read on.
+    pub strict: bool,
+}
+
+impl Mode {
+    // Document 01's reader.
+    pub const PLAIN: Self = Self { strict: false };
+}
+
+// A mode as one number, for callers in C: bit 0 is strict; the other bits are not read.
+pub fn mode_of(bits: u8) -> Mode
+    ensures { λ r. ⌜ r ≡ modeOf bits ⌝ }
+{
+    Mode {
+        strict: bits % 2 == 1,
+    }
+}
+
 // The bytes of a TCP header without options.
 const TCP_HEADER: usize = 20;
 
@@ -48,27 +70,24 @@ const SYN: u8 = 2;
 
 const SYN_ACK: u8 = 18;
 
-// Not SYN with FIN or RST, nor FIN with RST, nor none of SYN, ACK, FIN and RST.
-fn is_valid(flags: u8) -> bool
-    ensures { λ r. ⌜ r ≡ not (flagsInvalid flags) ⌝ }
-{
-    let low = flags % 8;
-    if low == 0 {
-        return flags / 16 % 2 == 1;
-    }
-    if low == 1 {
-        return true;
-    }
-    if low == 2 {
-        return true;
-    }
-    low == 4
-}
-
 fn tcp_type(flags: u8) -> u8
     ensures { λ r. ⌜ r ≡ maskedType flags ⌝ }
 {
     flags % 8 + flags / 16 % 2 * 16
+}
+
+// Not SYN with FIN or RST, nor FIN with RST, nor none of SYN, ACK, FIN and RST: one of FIN, SYN and RST, with or without ACK, or ACK.
+fn is_valid(flags: u8) -> bool
+    ensures { λ r. ⌜ r ≡ not (flagsInvalid flags) ⌝ }
+{
+    let masked = tcp_type(flags);
+    (masked == 1)
+        | (masked == 2)
+        | (masked == 4)
+        | (masked == 16)
+        | (masked == 17)
+        | (masked == 18)
+        | (masked == 20)
 }
 
 // Those of the flags, the sequence number and the acknowledgment number.
@@ -220,39 +239,69 @@ fn refuse(refusal: PacketRefusal) -> Reading
     }
 }
 
-// The TCP stage.
+// Whether the data offset points into the fixed header, or past the part.
+fn contradicts_itself(tcp: &[u8]) -> bool
+    requires { ⌜ 20 ≤ length (now tcp) ⌝ }
+    ensures { λ r. ⌜ r ≡ contradictsItself (now (tcp .entry)) ⌝ }
+{
+    let header = header_bytes(tcp) as usize;
+    (header < TCP_HEADER) | (tcp.len() < header)
+}
+
+// The plain TCP stage. A SYN and a SYN+ACK are told first: their flags are valid.
 fn visit_tcp(facts: IpFacts, tcp: &[u8], peer_mss: Mss) -> Reading
     requires { ⌜ 20 ≤ length (now tcp) ⌝ }
     ensures { λ r. ⌜ r ≡ readTcp facts (now (tcp .entry)) «peer_mss» ⌝ }
 {
     let flags = tcp[13];
+    let masked = tcp_type(flags);
+    let syn = masked == SYN;
+    if syn | (masked == SYN_ACK) {
+        return Reading {
+            answer: opening_answer(syn),
+            observation: observe(facts, tcp, syn, peer_taken(syn, peer_mss)),
+        };
+    }
     if !is_valid(flags) {
         return refuse(PacketRefusal::InvalidTcpFlags(flags));
     }
-    let masked = tcp_type(flags);
-    if (masked != SYN) & (masked != SYN_ACK) {
-        return Reading {
-            answer: Answer::Nothing,
-            observation: TcpObservation::empty(),
-        };
-    }
-    let syn = masked == SYN;
     Reading {
-        answer: opening_answer(syn),
-        observation: observe(facts, tcp, syn, peer_taken(syn, peer_mss)),
+        answer: Answer::Nothing,
+        observation: TcpObservation::empty(),
     }
 }
 
-// From a lent packet and the peer's MSS to an observation, nothing, or a refusal: the IP stage, then the TCP stage on its part.
-pub fn read_packet(packet: &[u8], peer_mss: Mss) -> Reading
-    ensures { λ r. ⌜ r ≡ readPacket (now (packet .entry)) «peer_mss» ⌝ }
+// The TCP stage of a mode: the strict one sets a header aside before its flags are looked at.
+fn visit_tcp_in(facts: IpFacts, tcp: &[u8], peer_mss: Mss, mode: Mode) -> Reading
+    requires { ⌜ 20 ≤ length (now tcp) ⌝ }
+    ensures { λ r. ⌜ r ≡ tcpStage mode facts (now (tcp .entry)) «peer_mss» ⌝ }
+{
+    if mode.strict {
+        if contradicts_itself(tcp) {
+            return refuse(PacketRefusal::DataOffset);
+        }
+    }
+    visit_tcp(facts, tcp, peer_mss)
+}
+
+// From a lent packet and the peer's MSS to an observation, nothing, or a refusal, in any mode: the IP stage, then the TCP stage on its
+// part.
+pub fn read_packet_in(packet: &[u8], peer_mss: Mss, mode: Mode) -> Reading
+    ensures { λ r. ⌜ r ≡ readIn mode (now (packet .entry)) «peer_mss» ⌝ }
 {
     match read_ip(packet) {
         IpRead::Refused(refusal) => refuse(refusal),
         IpRead::Facts(facts) => {
             let start = facts.start;
             let end = facts.end;
-            visit_tcp(facts, &packet[start..end], peer_mss)
+            visit_tcp_in(facts, &packet[start..end], peer_mss, mode)
         }
     }
+}
+
+// The same in the plain mode, which is document 01's.
+pub fn read_packet(packet: &[u8], peer_mss: Mss) -> Reading
+    ensures { λ r. ⌜ r ≡ readPacket (now (packet .entry)) «peer_mss» ⌝ }
+{
+    read_packet_in(packet, peer_mss, Mode::PLAIN)
 }

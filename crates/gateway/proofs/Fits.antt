@@ -11,7 +11,8 @@ use Rattle.tcp.specs.declared.Mss.{Mss}
 use Rattle.flow.specs.declared.Answer.{Answer}
 use Rattle.flow.specs.declared.Answer.the-variants as reading
 use Rattle.flow.specs.declared.Reading.{Reading}
-use Rattle.flow.specs.Reading.{readPacket}
+use Rattle.flow.specs.declared.Mode.{Mode}
+use Rattle.flow.specs.Modes.{readIn}
 use Rattle.matching.specs.declared.Features.{Features}
 use Rattle.matching.specs.declared.SignatureFit.{SignatureFit}
 use Rattle.matching.specs.declared.SignatureFit.the-variants as fit
@@ -26,8 +27,9 @@ use Rattle.found.specs.declared.Hit.{Hit}
 use Rattle.found.specs.Least.{Place, nowhere, at}
 use Rattle.found.specs.Rank.{foundOf}
 use Rattle.search.specs.Search.{fitAt, hitAt, candidateAt, foundAt, searchRow, searchOver, searchAll}
-use Rattle.packet_answer.specs.Packet.{peerOf, judged, answerOf}
-use Rattle.gateway.specs.Parts.{partsOf, afterList, gatewayAnswer}
+use Rattle.packet_answer.specs.declared.PacketAnswer.{PacketAnswer}
+use Rattle.packet_answer.specs.Packet.{peerOf, judged, answerIn}
+use Rattle.gateway.specs.Parts.{partsOf, afterList, gatewayIn}
 use Rattle.gateway.specs.Decode.{AllBytes}
 use Rattle.gateway.proofs.Room.{HitFits, FoundFits, PacketFits, AnswerFits}
 use Rattle.gateway.proofs.ReadBack.{injective}
@@ -84,10 +86,12 @@ judged-fits reading.SynAck r l h fits = found-fits l h r
 judged-fits reading.Nothing r l h fits = tt
 judged-fits (reading.Refused x) r l h fits = fits
 
--- The answer of a packet against a list, checked or not.
-pub packet-fits : (p : List ℕ) (peer : Mss) (l : List ℕ) → AllBytes p → AllBytes l → PacketFits (answerOf p peer l)
-unfolding answerOf
-packet-fits p peer l hp hl = judged-fits (readPacket p peer .answer) (readPacket p peer) l hl (reading-fits p peer hp)
+-- The answer of a packet against a list, checked or not, in any mode.
+pub packet-fits
+    : (mode : Mode) (p : List ℕ) (peer : Mss) (l : List ℕ) → AllBytes p → AllBytes l → PacketFits (answerIn mode p peer l)
+unfolding answerIn
+packet-fits mode p peer l hp hl =
+    judged-fits (readIn mode p peer .answer) (readIn mode p peer) l hl (reading-fits mode p peer hp)
 
 -- The index of a bad record fits two bytes.
 abbrev ListFits : ListAnswer → Type 0
@@ -108,30 +112,27 @@ list-fits l h = by-test (listFits l) refl
     by-test false e = rw (does-not-fit l e) (omega arith)
 
 -- The answer after the list is checked.
-after-list
-    : (a : ListAnswer) (p : List ℕ) (peer : Mss) (l : List ℕ)
-    → AllBytes p
-    → AllBytes l
-    → ListFits a
-    → AnswerFits (afterList a p peer l)
-after-list list.Good p peer l hp hl fits = packet-fits p peer l hp hl
-after-list (list.Refused r) p peer l hp hl fits = fits
+after-list : (c : ListAnswer) (a : PacketAnswer) → ListFits c → PacketFits a → AnswerFits (afterList c a)
+after-list list.Good a hc ha = ha
+after-list (list.Refused r) a hc ha = hc
 
 -- ---- the laws
 
--- Every answer of a gateway to byte strings fits.
-pub answers-fit : (p : List ℕ) (peer : ℕ) (l : List ℕ) → AllBytes p → AllBytes l → AnswerFits (gatewayAnswer p peer l)
-unfolding gatewayAnswer
-answers-fit p peer l hp hl = after-list (checkList l) p (peerOf peer) l hp hl (list-fits l hl)
+-- Every answer of a gateway to byte strings fits, in any mode.
+pub answers-fit
+    : (mode : Mode) (p : List ℕ) (peer : ℕ) (l : List ℕ) → AllBytes p → AllBytes l → AnswerFits (gatewayIn mode p peer l)
+unfolding gatewayIn
+answers-fit mode p peer l hp hl =
+    after-list (checkList l) (answerIn mode p (peerOf peer) l) (list-fits l hl) (packet-fits mode p (peerOf peer) l hp hl)
 
--- No two different answers of a gateway share a struct.
+-- No two different answers of a gateway share a struct, whatever the modes.
 pub structs-differ
-    : (p q : List ℕ) (m n : ℕ) (l k : List ℕ)
+    : (a b : Mode) (p q : List ℕ) (m n : ℕ) (l k : List ℕ)
     → AllBytes p
     → AllBytes q
     → AllBytes l
     → AllBytes k
-    → partsOf (gatewayAnswer p m l) ≡ partsOf (gatewayAnswer q n k)
-    → gatewayAnswer p m l ≡ gatewayAnswer q n k
-structs-differ p q m n l k hp hq hl hk e =
-    injective (gatewayAnswer p m l) (gatewayAnswer q n k) (answers-fit p m l hp hl) (answers-fit q n k hq hk) e
+    → partsOf (gatewayIn a p m l) ≡ partsOf (gatewayIn b q n k)
+    → gatewayIn a p m l ≡ gatewayIn b q n k
+structs-differ a b p q m n l k hp hq hl hk e =
+    injective (gatewayIn a p m l) (gatewayIn b q n k) (answers-fit a p m l hp hl) (answers-fit b q n k hq hk) e

@@ -18,8 +18,11 @@ use Rattle.flow.specs.declared.Answer.{Answer}
 use Rattle.flow.specs.declared.Answer.the-variants as reading
 use Rattle.flow.specs.declared.Reading.{Reading}
 use Rattle.flow.specs.Flags.{flagsInvalid, isSynType, isSynAckType}
+use Rattle.flow.specs.declared.Mode.{Mode}
 use Rattle.flow.specs.Tcp.{readTcp}
-use Rattle.flow.specs.Reading.{tcpPart, afterIp, readPacket}
+use Rattle.flow.specs.Strict.{contradictsItself, readTcpStrict}
+use Rattle.flow.specs.Modes.{tcpStage, readIn}
+use Rattle.flow.specs.Reading.{tcpPart, afterIp}
 use Rattle.gateway.specs.Decode.{AllBytes}
 
 -- ---- byte strings
@@ -79,23 +82,32 @@ either true hx hy = hx
 either false hx hy = hy
 
 -- The flags of refusal 7 are a byte of the TCP part.
-tcp-fits : (f : IpFacts) (t : List ℕ) (peer : Mss) → AllBytes t → ReadingFits (readTcp f t peer)
+plain-fits : (f : IpFacts) (t : List ℕ) (peer : Mss) → AllBytes t → ReadingFits (readTcp f t peer)
 unfolding readTcp
-tcp-fits f t peer h =
+plain-fits f t peer h =
     either (flagsInvalid (control t)) (record { reads = h 13 })
     (either (isSynType (control t)) (record { reads = tt })
     (either (isSynAckType (control t)) (record { reads = tt }) (record { reads = tt })))
 
--- The TCP part is a part of the packet.
-of-part : (f : IpFacts) (p : List ℕ) (peer : Mss) → AllBytes p → ReadingFits (readTcp f (tcpPart f p) peer)
-of-part f p peer h = tcp-fits f (tcpPart f p) peer (part-bytes (f .start) (f .end) p h)
+-- Refusal 14 gives nothing.
+tcp-fits : (mode : Mode) (f : IpFacts) (t : List ℕ) (peer : Mss) → AllBytes t → ReadingFits (tcpStage mode f t peer)
+unfolding readTcpStrict
+tcp-fits mode f t peer h =
+    either (mode .strict)
+    (either (contradictsItself t) (record { reads = omega arith }) (plain-fits f t peer h))
+    (plain-fits f t peer h)
 
-after-ip : {n : ℕ} {r : IpRead} (p : List ℕ) (peer : Mss) → AllBytes p → Given p n r → ReadingFits (afterIp readTcp r p peer)
-after-ip p peer h (Given.refused {r = r} small) = record { reads = small-fits r small }
-after-ip p peer h (Given.four long words) = of-part _ p peer h
-after-ip p peer h (Given.six long) = of-part _ p peer h
+module _ (mode : Mode) (p : List ℕ) (peer : Mss) (h : AllBytes p) where
+  -- The TCP part is a part of the packet.
+  of-part : (f : IpFacts) → ReadingFits (tcpStage mode f (tcpPart f p) peer)
+  of-part f = tcp-fits mode f (tcpPart f p) peer (part-bytes (f .start) (f .end) p h)
 
--- The refusal of a packet fits.
-pub reading-fits : (p : List ℕ) (peer : Mss) → AllBytes p → RefusedFits (readPacket p peer .answer)
-unfolding readPacket
-reading-fits p peer h = after-ip p peer h (given p) .reads
+  after-ip : {n : ℕ} {r : IpRead} → Given p n r → ReadingFits (afterIp (tcpStage mode) r p peer)
+  after-ip (Given.refused {r = r} small) = record { reads = small-fits r small }
+  after-ip (Given.four long words) = of-part _
+  after-ip (Given.six long) = of-part _
+
+  -- The refusal of a packet fits, in any mode.
+  pub reading-fits : RefusedFits (readIn mode p peer .answer)
+  unfolding readIn
+  reading-fits = after-ip (given p) .reads

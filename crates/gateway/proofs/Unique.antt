@@ -6,12 +6,15 @@ use contract.Lifetimes.{Lfts}
 use denote.Ref.{RefT, now}
 use Rattle.basis.specs.Unique.{ExactlyOne}
 use Rattle.basis.proofs.Unique.{equation}
+use Rattle.flow.specs.Modes.{modeOf}
 use Rattle.siglist.specs.List.{checkList}
-use Rattle.packet_answer.specs.Packet.{answerOf, peerOf}
+use Rattle.packet_answer.specs.Packet.{answerIn, answerOf, peerOf}
 use Rattle.gateway.specs.declared.TermreadResult.{TermreadResult}
-use Rattle.gateway.specs.Parts.{gatewayAnswer, listParts, packetParts, partsOf}
+use Rattle.gateway.specs.Parts.{gatewayAnswer, gatewayIn, listParts, packetParts, partsOf}
 use Rattle.gateway.proofs.termread_answer.Reads as termread-answer'
 use Rattle.gateway.proofs.termread_answer_checked.Reads as termread-answer-checked'
+use Rattle.gateway.proofs.termread_answer_checked_in.Reads as termread-answer-checked-in'
+use Rattle.gateway.proofs.termread_answer_in.Reads as termread-answer-in'
 use Rattle.gateway.proofs.termread_check_list.Reads as termread-check-list'
 
 pub termread-check-list-one
@@ -30,3 +33,17 @@ pub termread-answer-one
     → ExactlyOne TermreadResult
     (λ (r : TermreadResult). termread-answer'.Post κs (packet, (peer, (list, tt))) r (packet, (peer, (list, tt))))
 termread-answer-one κs packet peer list = equation (partsOf (gatewayAnswer (now packet) peer (now list)))
+
+pub termread-answer-checked-in-one
+    : (κs : Lfts 2) (packet : RefT (List ℕ)) (peer : ℕ) (list : RefT (List ℕ)) (bits : ℕ)
+    → ExactlyOne TermreadResult
+    (λ (r : TermreadResult). termread-answer-checked-in'.Post κs (packet, (peer, (list, (bits, tt)))) r
+    (packet, (peer, (list, (bits, tt)))))
+termread-answer-checked-in-one κs packet peer list bits =
+    equation (packetParts (answerIn (modeOf bits) (now packet) (peerOf peer) (now list)))
+
+pub termread-answer-in-one
+    : (κs : Lfts 2) (packet : RefT (List ℕ)) (peer : ℕ) (list : RefT (List ℕ)) (bits : ℕ)
+    → ExactlyOne TermreadResult
+    (λ (r : TermreadResult). termread-answer-in'.Post κs (packet, (peer, (list, (bits, tt)))) r (packet, (peer, (list, (bits, tt)))))
+termread-answer-in-one κs packet peer list bits = equation (partsOf (gatewayIn (modeOf bits) (now packet) peer (now list)))

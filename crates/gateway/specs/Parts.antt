@@ -3,12 +3,12 @@
 use Prim.Native.Nat.{ℕ, _%_}
 use mathlib.Core.List.{List}
 use Rattle.quirks.specs.Quirks.{bitsOf}
-use Rattle.tcp.specs.declared.Mss.{Mss}
 use Rattle.refusals.specs.declared.ListRefusal.{ListRefusal}
 use Rattle.refusals.specs.Refusals.{packetNumber, listNumber, packetValue, listValue, Verdict, listRefused}
 use Rattle.matching.specs.declared.FuzzyReason.{FuzzyReason}
 use Rattle.matching.specs.declared.Hops.{Hops}
 use Rattle.matching.specs.declared.Hops.the-variants as hops
+use Rattle.flow.specs.declared.Mode.{Mode}
 use Rattle.siglist.specs.declared.ListAnswer.{ListAnswer}
 use Rattle.siglist.specs.declared.ListAnswer.the-variants as list
 use Rattle.siglist.specs.List.{checkList}
@@ -17,7 +17,7 @@ use Rattle.found.specs.declared.Found.{Found}
 use Rattle.found.specs.declared.Found.the-variants as found
 use Rattle.packet_answer.specs.declared.PacketAnswer.{PacketAnswer}
 use Rattle.packet_answer.specs.declared.PacketAnswer.the-variants as packet
-use Rattle.packet_answer.specs.Packet.{peerOf, answerOf, packetVerdict}
+use Rattle.packet_answer.specs.Packet.{peerOf, answerOf, answerIn, packetVerdict}
 use Rattle.gateway.specs.declared.TermreadResult.{TermreadResult}
 
 -- ---- the fields
@@ -41,7 +41,8 @@ plain outcome kind label number =
       marks = 0;
     }
 
--- `refusal`: document 01's number. `value`, what it returns beside it: of 7 the flags byte, of 10 the index of the first bad record.
+-- `refusal`: its number in documents 01 and 02. `value`, what it returns beside it: of 7 the flags byte, of 10 the index of the first bad
+-- record.
 abbrev pub refused : ℕ → ℕ → TermreadResult
 refused refusal value =
     record {
@@ -114,12 +115,16 @@ partsOf (GatewayAnswer.list-refused r) = refusedList r
 -- ---- what the exported functions answer
 
 -- A list that is not checked yet is refused before its packet is read, as a bundle's is.
-abbrev pub afterList : ListAnswer → List ℕ → Mss → List ℕ → GatewayAnswer
-afterList list.Good p peer l = GatewayAnswer.answered (answerOf p peer l)
-afterList (list.Refused r) p peer l = GatewayAnswer.list-refused r
+abbrev pub afterList : ListAnswer → PacketAnswer → GatewayAnswer
+afterList list.Good a = GatewayAnswer.answered a
+afterList (list.Refused r) a = GatewayAnswer.list-refused r
 
 unfoldable pub gatewayAnswer : List ℕ → ℕ → List ℕ → GatewayAnswer
-gatewayAnswer p peer l = afterList (checkList l) p (peerOf peer) l
+gatewayAnswer p peer l = afterList (checkList l) (answerOf p (peerOf peer) l)
+
+-- The same in any mode.
+unfoldable pub gatewayIn : Mode → List ℕ → ℕ → List ℕ → GatewayAnswer
+gatewayIn mode p peer l = afterList (checkList l) (answerIn mode p (peerOf peer) l)
 
 -- Of a list: all 0 if it is well formed, or its refusal.
 unfoldable pub listParts : ListAnswer → TermreadResult

@@ -1,15 +1,18 @@
 // What a gateway in C or Rust links: each answer as a struct of sixteen bytes.
 ghost use mathlib.Core.Path.{_≡_};
 ghost use Rattle.siglist.specs.List.{checkList};
-ghost use Rattle.packet_answer.specs.Packet.{peerOf, answerOf};
+ghost use Rattle.flow.specs.Modes.{modeOf};
+ghost use Rattle.packet_answer.specs.Packet.{peerOf, answerOf, answerIn};
 ghost use Rattle.gateway.specs.Parts.{plain, refused, hopsOf, marksOf, fuzzy, foundParts, packetParts, refusedList, partsOf};
-ghost use Rattle.gateway.specs.Parts.{gatewayAnswer, listParts};
+ghost use Rattle.gateway.specs.Parts.{gatewayAnswer, gatewayIn, listParts};
+use flow::Mode;
+use flow::mode_of;
 use found::Found;
 use found::Hit;
 use matching::FuzzyReason;
 use matching::Hops;
 use packet_answer::PacketAnswer;
-use packet_answer::answer_packet;
+use packet_answer::answer_packet_in;
 use packet_answer::peer_of;
 use refusals::ListRefusal;
 use refusals::Refusal;
@@ -168,7 +171,7 @@ pub extern "C" fn termread_check_list(list: &[u8]) -> TermreadResult
 pub extern "C" fn termread_answer_checked(packet: &[u8], peer: u16, list: &[u8]) -> TermreadResult
     ensures { λ r. ⌜ r ≡ packetParts (answerOf (now (packet .entry)) (peerOf peer) (now (list .entry))) ⌝ }
 {
-    packet_parts(answer_packet(packet, peer_of(peer), list))
+    packet_parts(answer_packet_in(packet, peer_of(peer), list, Mode::PLAIN))
 }
 
 // The answer of a packet against a list that was not checked: refusals 9 and 10 come before the packet's.
@@ -177,7 +180,45 @@ pub extern "C" fn termread_answer(packet: &[u8], peer: u16, list: &[u8]) -> Term
     ensures { λ r. ⌜ r ≡ partsOf (gatewayAnswer (now (packet .entry)) peer (now (list .entry))) ⌝ }
 {
     match check_list(list) {
-        ListAnswer::Good => packet_parts(answer_packet(packet, peer_of(peer), list)),
+        ListAnswer::Good => packet_parts(answer_packet_in(
+            packet,
+            peer_of(peer),
+            list,
+            Mode::PLAIN,
+        )),
+        ListAnswer::Refused(refusal) => refused_list(refusal),
+    }
+}
+
+// Both in any mode, as one number: bit 0 is strict, and the other bits are not read.
+#[no_mangle]
+pub extern "C" fn termread_answer_checked_in(
+    packet: &[u8],
+    peer: u16,
+    list: &[u8],
+    bits: u8,
+) -> TermreadResult
+    ensures { λ r. ⌜ r ≡ packetParts (answerIn (modeOf bits) (now (packet .entry)) (peerOf peer) (now (list .entry))) ⌝ }
+{
+    packet_parts(answer_packet_in(packet, peer_of(peer), list, mode_of(bits)))
+}
+
+#[no_mangle]
+pub extern "C" fn termread_answer_in(
+    packet: &[u8],
+    peer: u16,
+    list: &[u8],
+    bits: u8,
+) -> TermreadResult
+    ensures { λ r. ⌜ r ≡ partsOf (gatewayIn (modeOf bits) (now (packet .entry)) peer (now (list .entry))) ⌝ }
+{
+    match check_list(list) {
+        ListAnswer::Good => packet_parts(answer_packet_in(
+            packet,
+            peer_of(peer),
+            list,
+            mode_of(bits),
+        )),
         ListAnswer::Refused(refusal) => refused_list(refusal),
     }
 }

@@ -9,8 +9,10 @@ use Rattle.observable.specs.declared.TcpObservation.{TcpObservation}
 use Rattle.refusals.specs.Refusals.{Verdict, packetRefused}
 use Rattle.flow.specs.declared.Answer.{Answer}
 use Rattle.flow.specs.declared.Answer.the-variants as reading
+use Rattle.flow.specs.declared.Mode.{Mode}
 use Rattle.flow.specs.declared.Reading.{Reading}
 use Rattle.flow.specs.Reading.{readPacket}
+use Rattle.flow.specs.Modes.{readIn}
 use Rattle.search.specs.Search.{searchAll}
 use Rattle.packet_answer.specs.declared.PacketAnswer.{PacketAnswer}
 use Rattle.packet_answer.specs.declared.PacketAnswer.the-variants as packet
@@ -32,6 +34,10 @@ afterReading r l = judged (r .answer) (r .observation) l
 -- The answer of a packet, with the peer's MSS, against a well-formed list.
 unfoldable pub answerOf : List ℕ → Mss → List ℕ → PacketAnswer
 answerOf p peer l = afterReading (readPacket p peer) l
+
+-- The same in any mode.
+unfoldable pub answerIn : Mode → List ℕ → Mss → List ℕ → PacketAnswer
+answerIn mode p peer l = afterReading (readIn mode p peer) l
 
 -- Which refusal of the table the answer is, if any.
 abbrev pub packetVerdict : PacketAnswer → Verdict

@@ -1,14 +1,15 @@
 // The answer of a packet: what its search finds, nothing, or a refusal. Added by the port.
 ghost use mathlib.Core.Path.{_≡_};
-ghost use Rattle.packet_answer.specs.Packet.{peerOf, answerOf};
+ghost use Rattle.packet_answer.specs.Packet.{peerOf, answerOf, answerIn};
 use flow::Answer;
-use flow::read_packet;
+use flow::Mode;
+use flow::read_packet_in;
 use found::Found;
 use refusals::PacketRefusal;
 use search::search_checked;
 use tcp::Mss;
 
-// The answer of a packet: what its search finds, nothing, or a refusal 1 to 7.
+// The answer of a packet: what its search finds, nothing, or a refusal 1 to 7 or 14.
 pub enum PacketAnswer {
     Syn(Found),
     SynAck(Found),
@@ -26,17 +27,30 @@ pub fn peer_of(number: u16) -> Mss
     Mss::Present(number)
 }
 
-// The answer of a packet against a list that was checked: what is not a well-formed record of the list does not fit.
+// The answer of a packet, in any mode, against a list that was checked: what is not a well-formed record of the list does not fit. One
+// call searches for both kinds, and only they have their observation copied (docs/DECISIONS.md, 74).
+pub fn answer_packet_in(packet: &[u8], peer: Mss, list: &[u8], mode: Mode) -> PacketAnswer
+    ensures { λ r. ⌜ r ≡ answerIn mode (now (packet .entry)) peer (now (list .entry)) ⌝ }
+{
+    let reading = read_packet_in(packet, peer, mode);
+    let answer = reading.answer;
+    match answer {
+        Answer::Nothing => PacketAnswer::Nothing,
+        Answer::Refused(refusal) => PacketAnswer::Refused(refusal),
+        Answer::Syn | Answer::SynAck => {
+            let observation = reading.observation;
+            let found = search_checked(observation, list);
+            match answer {
+                Answer::Syn => PacketAnswer::Syn(found),
+                _ => PacketAnswer::SynAck(found),
+            }
+        }
+    }
+}
+
+// The same in the plain mode.
 pub fn answer_packet(packet: &[u8], peer: Mss, list: &[u8]) -> PacketAnswer
     ensures { λ r. ⌜ r ≡ answerOf (now (packet .entry)) peer (now (list .entry)) ⌝ }
 {
-    let reading = read_packet(packet, peer);
-    let observation = reading.observation;
-    let answer = reading.answer;
-    match answer {
-        Answer::Syn => PacketAnswer::Syn(search_checked(observation, list)),
-        Answer::SynAck => PacketAnswer::SynAck(search_checked(observation, list)),
-        Answer::Nothing => PacketAnswer::Nothing,
-        Answer::Refused(refusal) => PacketAnswer::Refused(refusal),
-    }
+    answer_packet_in(packet, peer, list, Mode::PLAIN)
 }

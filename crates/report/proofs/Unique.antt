@@ -8,9 +8,26 @@ use denote.Ref.{RefT}
 use Rattle.basis.specs.Unique.{ExactlyOne}
 use Rattle.basis.proofs.Unique.{both}
 use Rattle.text.specs.Written.{left-with}
+use Rattle.flow.specs.declared.Mode.{Mode}
 use Rattle.report.specs.declared.Progress.{Progress}
 use Rattle.report.proofs.first_page.Reads as first-page'
+use Rattle.report.proofs.first_page_in.Reads as first-page-in'
 use Rattle.report.proofs.next_page.Reads as next-page'
+use Rattle.report.proofs.next_page_in.Reads as next-page-in'
+
+pub first-page-in-one
+    : (κs : Lfts 2) (bundle : RefT (List ℕ)) (longer : Bool) (page : RefT (List ℕ)) (mode : Mode)
+    → ExactlyOne (Progress × List ℕ)
+    (λ (r : Progress × List ℕ). first-page-in'.Post κs (bundle, (longer, (page, (mode, tt)))) (r .0)
+    (bundle, (longer, (left-with page (r .1), (mode, tt)))))
+first-page-in-one κs bundle longer page mode = both _ _
+
+pub next-page-in-one
+    : (κs : Lfts 2) (bundle : RefT (List ℕ)) (progress : Progress) (page : RefT (List ℕ)) (mode : Mode)
+    → ExactlyOne (Progress × List ℕ)
+    (λ (r : Progress × List ℕ). next-page-in'.Post κs (bundle, (progress, (page, (mode, tt)))) (r .0)
+    (bundle, (progress, (left-with page (r .1), (mode, tt)))))
+next-page-in-one κs bundle progress page mode = both _ _
 
 pub first-page-one
     : (κs : Lfts 2) (bundle : RefT (List ℕ)) (longer : Bool) (page : RefT (List ℕ))

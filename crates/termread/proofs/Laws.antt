@@ -7,6 +7,7 @@ use native.Mathlib.Omega.{arith}
 use native.Mathlib.Nat.{sub-zero}
 use lib.ListN.{length, take, drop, take-append-drop, length-drop, length-append}
 use lib.Seq.{length-take-le, take-all, take-append-seam, drop-append-seam, drop-append-le, drop-drop}
+use Rattle.flow.specs.Modes.{plainMode}
 use Rattle.bundle.specs.Answers.{answersFrom}
 use Rattle.text.specs.Written.{written}
 use Rattle.report.specs.Pages.{Paged, pageSize, linesOf, firstPage, nextPage, allPages, outputOfInput}
@@ -57,7 +58,7 @@ come-next output taken text rest h = (
 -- Still to come are the bytes that fill a page, and the lines of the packets that are left.
 abbrev pub Left : List ℕ → Bool → ℕ → List ℕ → Progress → Type 0
 Left b longer taken page p =
-    ToCome (outputOfInput b longer) taken (take (p .filled) page ++ linesOf (answersFrom b (p .at) (p .left)))
+    ToCome (outputOfInput b longer) taken (take (p .filled) page ++ linesOf (answersFrom plainMode b (p .at) (p .left)))
 
 -- The part of a page that is lent to be written.
 pub part-length : (page : List ℕ) (filled : ℕ) → filled ≤ length page → length (take (filled - 0) (drop 0 page)) ≡ filled
@@ -72,7 +73,7 @@ pub page-follows : (b : List ℕ) (longer : Bool) (taken : ℕ) (page : List ℕ
     → Follows (outputOfInput b longer) taken (take (p .filled - 0) (drop 0 page))
 page-follows b longer taken page p h =
     rw (sub-zero (p .filled))
-    (come-follows (outputOfInput b longer) taken (take (p .filled) page) (linesOf (answersFrom b (p .at) (p .left))) h)
+    (come-follows (outputOfInput b longer) taken (take (p .filled) page) (linesOf (answersFrom plainMode b (p .at) (p .left))) h)
 
 -- A text that was put at the start of a page is what the page begins with.
 begins : (page text : List ℕ) → take (length text) (written page 0 text) ≡ text
@@ -84,12 +85,14 @@ pub begun : (b : List ℕ) (longer : Bool) (page page' : List ℕ) (r : Progress
 unfolding allPages
 begun b longer page page' r paged =
     let p = firstPage b longer in
-    let all = sym (all-pages b longer) ∙ ap (λ (t : List ℕ). p .text ++ t) (later-pages b (p .left) (p .left) (p .at) (omega arith)) in
+    let all =
+    sym (all-pages plainMode b longer)
+    ∙ ap (λ (t : List ℕ). p .text ++ t) (later-pages plainMode b (p .left) (p .left) (p .at) (omega arith)) in
     (omega arith, rw (paged .0, paged .1, begins page (p .text)) all)
 
 pub begun-fits : (b : List ℕ) (longer : Bool) (page page' : List ℕ) (r : Progress) → Paged page (firstPage b longer) r page'
     → r .filled ≤ pageSize
-begun-fits b longer page page' r paged = rw (paged .0) (first-page-within b longer)
+begun-fits b longer page page' r paged = rw (paged .0) (first-page-within plainMode b longer)
 
 -- The next page, when all of a page was taken.
 pub turned : (b : List ℕ) (longer : Bool) (taken : ℕ) (page page' : List ℕ) (p r : Progress) → p .filled ≤ length page
@@ -97,21 +100,21 @@ pub turned : (b : List ℕ) (longer : Bool) (taken : ℕ) (page page' : List ℕ
 turned b longer taken page page' p r fits h paged =
     let next = nextPage b (p .left) (p .at) in
     let output = outputOfInput b longer in
-    let rest = linesOf (answersFrom b (p .at) (p .left)) in
+    let rest = linesOf (answersFrom plainMode b (p .at) (p .left)) in
     let after =
     subst (λ (n : ℕ). ToCome output (taken + n) rest) (length-take-le (p .filled) page fits)
     (come-next output taken (take (p .filled) page) rest h) in
-    (after .0, after .1 ∙ rw (paged .0, paged .1, begins page (next .text)) (sym (page-and-rest b 0 (p .at) (p .left))))
+    (after .0, after .1 ∙ rw (paged .0, paged .1, begins page (next .text)) (sym (page-and-rest plainMode b 0 (p .at) (p .left))))
 
 pub turned-fits : (b : List ℕ) (page page' : List ℕ) (p r : Progress) → Paged page (nextPage b (p .left) (p .at)) r page'
     → r .filled ≤ pageSize
-turned-fits b page page' p r paged = rw (paged .0) (next-page-within b (p .left) (p .at))
+turned-fits b page page' p r paged = rw (paged .0) (next-page-within plainMode b (p .left) (p .at))
 
 -- Where no packet is left, the output ends with the page.
 pub ended : (b : List ℕ) (longer : Bool) (taken : ℕ) (page : List ℕ) (p : Progress) → p .filled ≤ length page → p .left ≡ 0
     → Left b longer taken page p → taken + p .filled ≡ length (outputOfInput b longer)
 unfolding answersFrom linesOf
 ended b longer taken page p fits none h =
-    let rest = linesOf (answersFrom b (p .at) (p .left)) in
+    let rest = linesOf (answersFrom plainMode b (p .at) (p .left)) in
     let nothing : length rest ≡ 0 = rw none in
     omega (arith, nothing, length-take-le (p .filled) page fits, come-length (outputOfInput b longer) taken (take (p .filled) page) rest h)

@@ -28,9 +28,9 @@ use Rattle.witness.proofs.witness_search.Reads as witness-search'
 use Rattle.witness.proofs.written.plain_packet.Reads as plain-packet'
 
 pub witness-packet-one
-    : (κs : Lfts 1) (packet : RefT (List ℕ)) (peer : ℕ)
-    → ExactlyOne PlainPacket (λ (r : PlainPacket). witness-packet'.Post κs (packet, (peer, tt)) r (packet, (peer, tt)))
-witness-packet-one κs packet peer = equation (packetRead (now packet) peer)
+    : (κs : Lfts 1) (packet : RefT (List ℕ)) (peer bits : ℕ)
+    → ExactlyOne PlainPacket (λ (r : PlainPacket). witness-packet'.Post κs (packet, (peer, (bits, tt))) r (packet, (peer, (bits, tt))))
+witness-packet-one κs packet peer bits = equation (packetRead bits (now packet) peer)
 
 pub witness-options-one
     : (κs : Lfts 1) (options : RefT (List ℕ))
@@ -51,17 +51,18 @@ pub witness-hops-one : (κs : Lfts 1) (ttls : RefT (List ℕ)) → ExactlyOne �
 witness-hops-one κs ttls = equation (hopsRead (now ttls))
 
 pub witness-first-page-one
-    : (κs : Lfts 2) (bundle page : RefT (List ℕ))
+    : (κs : Lfts 2) (bundle page : RefT (List ℕ)) (bits : ℕ)
     → ExactlyOne (PlainProgress × List ℕ)
-    (λ (r : PlainProgress × List ℕ). witness-first-page'.Post κs (bundle, (page, tt)) (r .0) (bundle, (left-with page (r .1), tt)))
-witness-first-page-one κs bundle page = both _ _
+    (λ (r : PlainProgress × List ℕ). witness-first-page'.Post κs (bundle, (page, (bits, tt))) (r .0)
+    (bundle, (left-with page (r .1), (bits, tt))))
+witness-first-page-one κs bundle page bits = both _ _
 
 pub witness-next-page-one
-    : (κs : Lfts 2) (bundle : RefT (List ℕ)) (progress : PlainProgress) (page : RefT (List ℕ))
+    : (κs : Lfts 2) (bundle : RefT (List ℕ)) (progress : PlainProgress) (page : RefT (List ℕ)) (bits : ℕ)
     → ExactlyOne (PlainProgress × List ℕ)
-    (λ (r : PlainProgress × List ℕ). witness-next-page'.Post κs (bundle, (progress, (page, tt))) (r .0)
-    (bundle, (progress, (left-with page (r .1), tt))))
-witness-next-page-one κs bundle progress page = both _ _
+    (λ (r : PlainProgress × List ℕ). witness-next-page'.Post κs (bundle, (progress, (page, (bits, tt)))) (r .0)
+    (bundle, (progress, (left-with page (r .1), (bits, tt)))))
+witness-next-page-one κs bundle progress page bits = both _ _
 
 pub plain-packet-one
     : (reading : Reading) (multiplier : Multiplier)

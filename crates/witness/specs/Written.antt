@@ -27,7 +27,7 @@ use Rattle.syn_options.specs.Walk.{parseOptionsRaw}
 use Rattle.flow.specs.declared.Answer.{Answer}
 use Rattle.flow.specs.declared.Answer.the-variants as answer
 use Rattle.flow.specs.declared.Reading.{Reading}
-use Rattle.flow.specs.Reading.{readPacket}
+use Rattle.flow.specs.Modes.{modeOf, readIn}
 use Rattle.matching.specs.declared.Hops.{Hops}
 use Rattle.matching.specs.declared.Hops.the-variants as hops
 use Rattle.found.specs.declared.Found.{Found}
@@ -37,7 +37,7 @@ use Rattle.refusals.specs.Refusals.{number, packetValue, listValue}
 use Rattle.search.specs.declared.SearchAnswer.{SearchAnswer}
 use Rattle.search.specs.declared.SearchAnswer.the-variants as search
 use Rattle.packet_answer.specs.Packet.{peerOf}
-use Rattle.report.specs.Pages.{Page, progressOf, firstPage, nextPage}
+use Rattle.report.specs.Pages.{Page, progressOf, firstPageIn, nextPageIn}
 use Rattle.report.specs.declared.Progress.{Progress}
 use Rattle.witness.specs.declared.PlainObservation.{PlainObservation}
 use Rattle.witness.specs.declared.PlainPacket.{PlainPacket}
@@ -146,8 +146,10 @@ plainPacket r m =
       flags = answerFlags (r .answer);
     }
 
-unfoldable pub packetRead : List ℕ → ℕ → PlainPacket
-packetRead p peer = plainPacket (readPacket p (peerOf peer)) (windowMultiplier (readPacket p (peerOf peer) .observation))
+unfoldable pub packetRead : ℕ → List ℕ → ℕ → PlainPacket
+packetRead bits p peer =
+    let read = readIn (modeOf bits) p (peerOf peer) in
+    plainPacket read (windowMultiplier (read .observation))
 
 -- ---- an option string
 
@@ -223,11 +225,11 @@ plainSearch (search.List r) = outcomeOf 5 0 0 (number (refusal.List r)) (listVal
 abbrev pub plainProgress : Progress → PlainProgress
 plainProgress p = record { filled = p .filled; left = p .left; at = p .at }
 
-abbrev pub firstOf : List ℕ → Page
-firstOf b = firstPage b false
+abbrev pub firstOf : ℕ → List ℕ → Page
+firstOf bits b = firstPageIn (modeOf bits) b false
 
-abbrev pub nextOf : List ℕ → PlainProgress → Page
-nextOf b p = nextPage b (p .left) (p .at)
+abbrev pub nextOf : ℕ → List ℕ → PlainProgress → Page
+nextOf bits b p = nextPageIn (modeOf bits) b (p .left) (p .at)
 
 -- A page's text was put at the start of the page, and the progress is the page's.
 abbrev pub Paged : List ℕ → Page → PlainProgress → List ℕ → Type 0

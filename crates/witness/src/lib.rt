@@ -3,6 +3,7 @@ ghost use mathlib.Core.Path.{_≡_};
 ghost use Rattle.witness.specs.Written.{packetRead, optionsRead, plainProgress, firstOf, nextOf, Paged};
 ghost use Rattle.witness.specs.Taken.{searchRead, hopsRead};
 ghost use Rattle.witness.specs.Lined.{lineRead};
+use flow::mode_of;
 use lined::plain_line;
 use packet_answer::peer_of;
 use report::PAGE;
@@ -94,12 +95,12 @@ pub struct PlainProgress {
     pub at: usize,
 }
 
-// The reading of a packet; a peer's MSS of 0 is an absent one.
+// The reading of a packet, in a mode that is given as for C; a peer's MSS of 0 is an absent one.
 #[no_mangle]
-pub extern "C" fn witness_packet(packet: &[u8], peer: u16) -> PlainPacket
-    ensures { λ r. ⌜ r ≡ packetRead (now (packet .entry)) peer ⌝ }
+pub extern "C" fn witness_packet(packet: &[u8], peer: u16, bits: u8) -> PlainPacket
+    ensures { λ r. ⌜ r ≡ packetRead bits (now (packet .entry)) peer ⌝ }
 {
-    let reading = flow::read_packet(packet, peer_of(peer));
+    let reading = flow::read_packet_in(packet, peer_of(peer), mode_of(bits));
     let observation = reading.observation;
     plain_packet(reading, observation.window_multiplier())
 }
@@ -150,12 +151,16 @@ fn plain_progress(progress: report::Progress) -> PlainProgress
     }
 }
 
-// The first page of a bundle's output, and the next one after a progress.
+// The first page of a bundle's output in such a mode, and the next one after a progress.
 #[no_mangle]
-pub extern "C" fn witness_first_page(bundle: &[u8], page: &mut [u8; PAGE]) -> PlainProgress
-    ensures { λ r. ⌜ Paged (now (page .entry)) (firstOf (now (bundle .entry))) r (now (page .exit)) ⌝ }
+pub extern "C" fn witness_first_page(
+    bundle: &[u8],
+    page: &mut [u8; PAGE],
+    bits: u8,
+) -> PlainProgress
+    ensures { λ r. ⌜ Paged (now (page .entry)) (firstOf bits (now (bundle .entry))) r (now (page .exit)) ⌝ }
 {
-    plain_progress(report::first_page(bundle, false, page))
+    plain_progress(report::first_page_in(bundle, false, page, mode_of(bits)))
 }
 
 #[no_mangle]
@@ -163,13 +168,14 @@ pub extern "C" fn witness_next_page(
     bundle: &[u8],
     progress: PlainProgress,
     page: &mut [u8; PAGE],
+    bits: u8,
 ) -> PlainProgress
-    ensures { λ r. ⌜ Paged (now (page .entry)) (nextOf (now (bundle .entry)) progress) r (now (page .exit)) ⌝ }
+    ensures { λ r. ⌜ Paged (now (page .entry)) (nextOf bits (now (bundle .entry)) progress) r (now (page .exit)) ⌝ }
 {
     let from = report::Progress {
         filled: 0,
         left: progress.left,
         at: progress.at,
     };
-    plain_progress(report::next_page(bundle, from, page))
+    plain_progress(report::next_page_in(bundle, from, page, mode_of(bits)))
 }

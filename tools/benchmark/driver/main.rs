@@ -7,6 +7,7 @@
 mod bundle;
 mod lines;
 mod lists;
+mod modes;
 mod original;
 mod packets;
 mod port;
@@ -26,6 +27,7 @@ fn main() {
         [] => {
             rows::all(&lines);
             lines::all(&[&lines[..], &lists::section(&text, "tcp:response")].concat());
+            modes::all(&lines);
         }
         [word, count, file] if word == "bundle" => {
             let bytes = bundle::of(&lines, count.parse().expect("a number"));

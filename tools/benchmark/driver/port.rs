@@ -1,4 +1,4 @@
-//! The port, by the static library of the crate `counted`.
+//! The port: the static library of the crate `counted`, and that of the crate `gateway`, which ships.
 
 /// `witness::PlainObservation`: an observation as numbers (tools/witness/witness.h).
 #[repr(C)]
@@ -46,16 +46,45 @@ pub struct Line {
     pub bytes: [u8; 40],
 }
 
+/// `termread_result` of include/termread.h: sixteen bytes, in two registers.
+#[repr(C)]
+#[derive(Clone, Copy)]
+pub struct Given {
+    pub outcome: u8,
+    pub kind: u8,
+    pub refusal: u8,
+    pub tolerated: u8,
+    pub label: u16,
+    pub number: u16,
+    pub examined: u16,
+    pub value: u16,
+    pub added: u8,
+    pub missing: u8,
+    pub hops: u8,
+    pub marks: u8,
+}
+
 unsafe extern "C" {
     fn counted_line(line: *const u8, size: usize) -> Line;
     fn counted_observe(packet: *const u8, size: usize, peer: u16) -> Reading;
+    fn counted_observe_in(packet: *const u8, size: usize, peer: u16, mode: u8) -> Reading;
     fn counted_answer(packet: *const u8, size: usize, peer: u16, list: *const u8, length: usize) -> u64;
+    fn termread_answer(packet: *const u8, size: usize, peer: u16, list: *const u8, length: usize) -> Given;
+    fn termread_answer_in(packet: *const u8, size: usize, peer: u16, list: *const u8, length: usize, mode: u8) -> Given;
+    fn termread_answer_checked(packet: *const u8, size: usize, peer: u16, list: *const u8, length: usize) -> Given;
+    fn termread_answer_checked_in(packet: *const u8, size: usize, peer: u16, list: *const u8, length: usize, mode: u8) -> Given;
 }
 
 /// A peer's MSS of 0 is an absent one.
 #[inline(always)]
 pub fn observe(packet: &[u8], peer: u16) -> Reading {
     unsafe { counted_observe(packet.as_ptr(), packet.len(), peer) }
+}
+
+/// In a mode, which is a number of bits.
+#[inline(always)]
+pub fn observe_in(packet: &[u8], peer: u16, mode: u8) -> Reading {
+    unsafe { counted_observe_in(packet.as_ptr(), packet.len(), peer, mode) }
 }
 
 #[inline(always)]
@@ -66,4 +95,26 @@ pub fn answer(packet: &[u8], peer: u16, list: &[u8]) -> u64 {
 #[inline(always)]
 pub fn line(text: &[u8]) -> Line {
     unsafe { counted_line(text.as_ptr(), text.len()) }
+}
+
+/// What the library answers against a list that was checked before, and the same in a mode.
+#[inline(always)]
+pub fn checked(packet: &[u8], peer: u16, list: &[u8]) -> Given {
+    unsafe { termread_answer_checked(packet.as_ptr(), packet.len(), peer, list.as_ptr(), list.len()) }
+}
+
+#[inline(always)]
+pub fn checked_in(packet: &[u8], peer: u16, list: &[u8], mode: u8) -> Given {
+    unsafe { termread_answer_checked_in(packet.as_ptr(), packet.len(), peer, list.as_ptr(), list.len(), mode) }
+}
+
+/// What it answers against a list that it checks first, and the same in a mode.
+#[inline(always)]
+pub fn unchecked(packet: &[u8], peer: u16, list: &[u8]) -> Given {
+    unsafe { termread_answer(packet.as_ptr(), packet.len(), peer, list.as_ptr(), list.len()) }
+}
+
+#[inline(always)]
+pub fn unchecked_in(packet: &[u8], peer: u16, list: &[u8], mode: u8) -> Given {
+    unsafe { termread_answer_in(packet.as_ptr(), packet.len(), peer, list.as_ptr(), list.len(), mode) }
 }

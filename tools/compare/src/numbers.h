@@ -19,7 +19,8 @@ typedef struct {
     uint64_t n[NUMBERS];
 } Numbers;
 
-void port_packet(const uint8_t *p, size_t size, uint16_t peer, Numbers *out);
+/* mode: its bits (tools/witness/witness.h). */
+void port_packet(const uint8_t *p, size_t size, uint16_t peer, uint8_t mode, Numbers *out);
 void port_options(const uint8_t *s, size_t size, Numbers *out);
 void port_search(const uint8_t *observation, const uint8_t *list, size_t size, Numbers *out);
 
@@ -34,8 +35,9 @@ void oracle_search(const uint8_t *observation, const uint8_t *list, size_t size,
 
 void oracle_hops(const uint8_t ttls[6], Numbers *out);
 
-/* Document 01's tables in C, written from its text alone. */
+/* The documents' tables in C, written from their text alone. */
 int table_packet(const uint8_t *p, size_t size, uint8_t *flags);
+int table_strict(const uint8_t *p, size_t size);
 int table_list(const uint8_t *list, size_t size, size_t *index);
 void tcp_part(const uint8_t *p, size_t size, size_t *start, size_t *end);
 

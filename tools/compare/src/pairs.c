@@ -1,7 +1,8 @@
-/* Demand 3: pairs of packets that differ only in the free bytes that document 01 lists. */
+/* Demand 3, in both modes: pairs of packets that differ only in the free bytes that document 01 lists. */
 #include "families.h"
 #include "make.h"
 #include "tally.h"
+#include "../../witness/witness.h"
 
 #include <string.h>
 
@@ -79,8 +80,11 @@ static void one_pair(Random *r, int damaged) {
     if (damaged) size = damage_packet(r, p, size);
     memcpy(q, p, sizeof q);
     free_bytes(r, q, size);
-    port_packet(p, size, peer, &a);
-    port_packet(q, size, peer, &b);
+    port_packet(p, size, peer, WITNESS_STRICT, &a);
+    port_packet(q, size, peer, WITNESS_STRICT, &b);
+    try_strict_pair(&a, &b, p, size);
+    port_packet(p, size, peer, WITNESS_PLAIN, &a);
+    port_packet(q, size, peer, WITNESS_PLAIN, &b);
     try_pair(&a, &b, p, size);
     if (a.n[0] > 2) return;
     oracle_packet(p, size, peer, 0, &first, o[0]);

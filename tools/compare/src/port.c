@@ -18,8 +18,8 @@ static void layout_numbers(uint64_t count, const uint8_t *kinds, const uint8_t *
     }
 }
 
-void port_packet(const uint8_t *p, size_t size, uint16_t peer, Numbers *out) {
-    witness_packet_read read = witness_packet(p, size, peer);
+void port_packet(const uint8_t *p, size_t size, uint16_t peer, uint8_t mode, Numbers *out) {
+    witness_packet_read read = witness_packet(p, size, peer, mode);
     const witness_observation *o = &read.observation;
     memset(out, 0, sizeof *out);
     out->n[0] = read.answer == 4 ? 256u * read.refusal + read.flags : read.answer;

@@ -1,4 +1,4 @@
-/* Document 01's tables of refusals, written from its text alone. */
+/* The documents' tables of refusals, written from their text alone. */
 #include "numbers.h"
 
 static size_t min_size(size_t a, size_t b) { return a < b ? a : b; }
@@ -38,6 +38,19 @@ int table_packet(const uint8_t *p, size_t size, uint8_t *flags) {
         return 7;
     }
     return 0;
+}
+
+/* Whether the strict mode refuses a packet by 14: "after 6 and before 7, exactly when data offset is under 5 or 4 x data offset exceeds
+   the TCP part" (document 02, Wish 2). */
+int table_strict(const uint8_t *p, size_t size) {
+    size_t start, end;
+    uint8_t flags;
+    unsigned offset;
+    int row = table_packet(p, size, &flags);
+    if (row >= 1 && row <= 6) return 0;
+    tcp_part(p, size, &start, &end);
+    offset = p[start + 12] >> 4;
+    return offset < 5 || 4 * offset > end - start;
 }
 
 static int bad_scalars(const uint8_t *r) {

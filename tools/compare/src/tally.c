@@ -1,49 +1,22 @@
-#include "tally.h"
-#include "linetext.h"
+#include "counts.h"
 #include "original.h"
+#include "../../witness/witness.h"
 
-#include <stdio.h>
 #include <stdlib.h>
 #include <string.h>
 
-enum { FAMILIES = 64, ANSWERS = 23, KINDS = 6, MOST = 4096 };
+static const Numbers refused_14 = {{256 * 14, 4}}; /* the empty observation beside it */
 
-static const char *const answer_names[ANSWERS] = {
-    "SYN", "SYN+ACK", "nothing", "refused 1", "refused 2", "refused 3", "refused 4", "refused 5", "refused 6", "refused 7",
-    "parsed", "malformed", "refused 8", "exact", "fuzzy", "none", "refused 9", "refused 10", "refused 11", "pairs", "hops",
-    "line", "refused 13",
-};
-
-static const char *const class_names[LINE_CLASSES] = {
-    "alike", "empty layout", "`?n`, a named kind", "`?n` over 255", "over 40 entries", "over 512 bytes", "not UTF-8", "otherwise",
-};
-
-typedef struct {
-    const char *name;
-    Kind kind;
-    uint64_t inputs, differences, answers[ANSWERS], classes[LINE_CLASSES];
-} Family;
-
-typedef struct {
-    uint64_t times;
-    size_t first_size, least_size;
-    uint8_t first[MOST], least[MOST];
-    Numbers port, original;
-} Difference;
-
-static Family families[FAMILIES];
-static int last = -1;
-static uint64_t quirks_seen[32], divisors_seen[13], ttl_forms[4], reasons[5];
-static Difference *differences[KINDS][NUMBERS];
-static uint8_t least_line[LINE_CLASSES][MOST];
-static size_t least_line_size[LINE_CLASSES];
+Counts counts;
 
 void family(const char *name, Kind kind) {
-    if (last + 1 >= FAMILIES) exit(2);
-    last++;
-    families[last].name = name;
-    families[last].kind = kind;
+    if (counts.used == FAMILIES) exit(2);
+    counts.families[counts.used].name = name;
+    counts.families[counts.used].kind = kind;
+    counts.used++;
 }
+
+static Family *tried(void) { return &counts.families[counts.used - 1]; }
 
 static int answer_of(Kind kind, const Numbers *a) {
     uint64_t n = a->n[0];
@@ -60,10 +33,10 @@ static int smaller(const uint8_t *a, size_t m, const uint8_t *b, size_t n) {
 }
 
 static void note(Kind kind, int which, const uint8_t *input, size_t size, const Numbers *port, const Numbers *original) {
-    Difference *d = differences[kind][which];
+    Difference *d = counts.differences[kind][which];
     if (size > MOST) size = MOST;
     if (!d) {
-        d = differences[kind][which] = calloc(1, sizeof *d);
+        d = counts.differences[kind][which] = calloc(1, sizeof *d);
         if (!d) exit(2);
         d->first_size = d->least_size = size;
         memcpy(d->first, input, size);
@@ -77,31 +50,40 @@ static void note(Kind kind, int which, const uint8_t *input, size_t size, const 
     d->times++;
 }
 
+static void hold(Kind kind, const uint8_t *input, size_t size, const Numbers *port, const Numbers *expected) {
+    int i;
+    for (i = 0; i < NUMBERS && port->n[i] == expected->n[i]; i++) {}
+    if (i == NUMBERS) return;
+    tried()->differences++;
+    note(kind, i, input, size, port, expected);
+}
+
+static void count_answer(uint64_t *answers, Kind kind, const Numbers *a) {
+    int answer = answer_of(kind, a);
+    if (answer >= 0 && answer < ANSWERS) answers[answer]++;
+}
+
 static void settle(Kind kind, const uint8_t *input, size_t size, const Numbers *port, const Numbers *original) {
-    Family *f = &families[last];
-    int i, answer = answer_of(kind, original);
-    f->inputs++;
-    if (answer >= 0 && answer < ANSWERS) f->answers[answer]++;
-    for (i = 0; i < NUMBERS && port->n[i] == original->n[i]; i++) {}
-    if (i < NUMBERS) {
-        f->differences++;
-        note(kind, i, input, size, port, original);
-    }
+    tried()->inputs++;
+    count_answer(tried()->answers, kind, original);
+    hold(kind, input, size, port, original);
 }
 
 static void look(const uint8_t *o) {
     uint32_t quirks = be32_at(o + 95);
     int i;
-    for (i = 0; i < 32; i++) quirks_seen[i] += quirks >> i & 1;
-    divisors_seen[first_divisor(o)]++;
-    ttl_forms[o[1] & 3]++;
+    for (i = 0; i < 32; i++) counts.quirks[i] += quirks >> i & 1;
+    counts.divisors[first_divisor(o)]++;
+    counts.ttl_forms[o[1] & 3]++;
 }
 
 Numbers try_packet(const uint8_t *p, size_t size, uint16_t peer, uint8_t *observation) {
-    Numbers port, original;
+    Numbers port, original, strict;
     uint8_t own[OBSERVATION], input[MOST];
+    int refused = table_strict(p, size);
     oracle_packet(p, size, peer, (int)(size & 1), &original, own);
-    port_packet(p, size, peer, &port);
+    port_packet(p, size, peer, WITNESS_PLAIN, &port);
+    port_packet(p, size, peer, WITNESS_STRICT, &strict);
     if (original.n[0] < 3) {
         look(own);
         if (observation) memcpy(observation, own, OBSERVATION);
@@ -110,6 +92,10 @@ Numbers try_packet(const uint8_t *p, size_t size, uint16_t peer, uint8_t *observ
     if (size > MOST - 2) size = MOST - 2;
     memcpy(input + 2, p, size);
     settle(PACKET, input, size + 2, &port, &original);
+    tried()->strict++;
+    tried()->refused_14 += (uint64_t)refused;
+    if (refused) count_answer(counts.replaced, PACKET, &original);
+    hold(STRICT_PACKET, input, size + 2, &strict, refused ? &refused_14 : &port);
     return original;
 }
 
@@ -126,11 +112,11 @@ Numbers try_search(const uint8_t *o, const uint8_t *list, size_t size) {
     oracle_search(o, list, size, &original);
     port_search(o, list, size, &port);
     if (original.n[0] >= 196608) {
-        reasons[0] += original.n[2] != 0;
-        reasons[1] += original.n[3] & 1;
-        reasons[2] += original.n[3] >> 3 & 1;
-        reasons[3] += original.n[4] >> 1 & 1;
-        reasons[4] += original.n[4] >> 2 & 1;
+        counts.reasons[0] += original.n[2] != 0;
+        counts.reasons[1] += original.n[3] & 1;
+        counts.reasons[2] += original.n[3] >> 3 & 1;
+        counts.reasons[3] += original.n[4] >> 1 & 1;
+        counts.reasons[4] += original.n[4] >> 2 & 1;
     }
     if (size > MOST - OBSERVATION) size = MOST - OBSERVATION;
     memcpy(input, o, OBSERVATION);
@@ -173,7 +159,7 @@ static uint64_t word_at(const uint8_t *p) { return (uint64_t)be32_at(p) << 32 | 
 
 void try_line(const uint8_t *s, size_t size) {
     static LineText here;
-    Family *f = &families[last];
+    Family *f = tried();
     Numbers port, expected;
     LineClass class;
     int i;
@@ -190,9 +176,9 @@ void try_line(const uint8_t *s, size_t size) {
     if (size > MOST) size = MOST;
     f->classes[class]++;
     f->differences += class == OTHERWISE;
-    if (!least_line_size[class] || smaller(s, size, least_line[class], least_line_size[class] - 1)) {
-        memcpy(least_line[class], s, size);
-        least_line_size[class] = size + 1;
+    if (!counts.least_line_size[class] || smaller(s, size, counts.least_line[class], counts.least_line_size[class] - 1)) {
+        memcpy(counts.least_line[class], s, size);
+        counts.least_line_size[class] = size + 1;
     }
 }
 
@@ -200,99 +186,8 @@ void try_pair(const Numbers *a, const Numbers *b, const uint8_t *p, size_t size)
     settle(PAIR, p, size, a, b);
 }
 
-static void hex(const char *name, const uint8_t *p, size_t size) {
-    size_t i;
-    printf("  %s (%zu bytes): ", name, size);
-    for (i = 0; i < size; i++) printf("%02x", p[i]);
-    printf("\n");
-}
-
-static void show_difference(int kind, int which, const Difference *d) {
-    static const char *const names[KINDS] = {"packet (peer MSS before it)", "options", "search (observation, list)", "pair",
-                                             "hops (two TTLs)", "line (the grammar's answer for the original's)"};
-    int i;
-    printf("\ndifference in number %d of %s, %llu times\n", which, names[kind], (unsigned long long)d->times);
-    hex("first", d->first, d->first_size);
-    hex("smallest", d->least, d->least_size);
-    for (i = 0; i < NUMBERS; i++)
-        if (d->port.n[i] != d->original.n[i])
-            printf("  number %d: port %llx, original %llx\n", i, (unsigned long long)d->port.n[i], (unsigned long long)d->original.n[i]);
-}
-
-static void show_line(const uint8_t *s, size_t size) {
-    size_t i;
-    for (i = 0; i < size && i < 100; i++) {
-        if (s[i] < 32 || s[i] > 126 || s[i] == '\\') printf("\\x%02x", s[i]);
-        else putchar(s[i]);
-    }
-    if (size > i) printf("..");
-}
-
-/* Lines by family: where the original answers as the port does, and the classes of the others, each with the smallest line. */
-static void report_lines(void) {
-    uint64_t sums[LINE_CLASSES] = {0}, all = 0;
-    int i, j;
-    printf("\n| Lines: the original's answer |");
-    for (j = 0; j < LINE_CLASSES; j++) printf(" %s |", class_names[j]);
-    printf("\n|---|");
-    for (j = 0; j < LINE_CLASSES; j++) printf("---|");
-    printf("\n");
-    for (i = 0; i <= last; i++) {
-        Family *f = &families[i];
-        if (f->kind != LINE) continue;
-        printf("| %s |", f->name);
-        for (j = 0; j < LINE_CLASSES; j++) {
-            printf(" %llu |", (unsigned long long)f->classes[j]);
-            sums[j] += f->classes[j], all += f->classes[j];
-        }
-        printf("\n");
-    }
-    printf("| in all |");
-    for (j = 0; j < LINE_CLASSES; j++) printf(" %llu |", (unsigned long long)sums[j]);
-    printf("\n\nlines %llu; the smallest of each class:\n", (unsigned long long)all);
-    for (j = 0; j < LINE_CLASSES; j++)
-        if (least_line_size[j]) {
-            printf("  %s (%zu bytes): ", class_names[j], least_line_size[j] - 1);
-            show_line(least_line[j], least_line_size[j] - 1);
-            printf("\n");
-        }
-}
-
-static void row(const char *name, const uint64_t *counts, int n) {
-    int i;
-    printf("%s:", name);
-    for (i = 0; i < n; i++) printf(" %llu", (unsigned long long)counts[i]);
-    printf("\n");
-}
-
-uint64_t report(void) {
-    uint64_t all[KINDS] = {0}, wrong = 0, sums[ANSWERS] = {0}, bits[17];
-    static const int places[17] = {0, 1, 2, 3, 4, 5, 12, 13, 14, 15, 16, 17, 24, 25, 26, 27, 28};
-    int i, j;
-    printf("| Family | Inputs | Answers | Differences |\n|---|---|---|---|\n");
-    for (i = 0; i <= last; i++) {
-        Family *f = &families[i];
-        printf("| %s | %llu |", f->name, (unsigned long long)f->inputs);
-        for (j = 0; j < ANSWERS; j++) {
-            sums[j] += f->answers[j];
-            if (f->answers[j]) printf(" %s %llu;", answer_names[j], (unsigned long long)f->answers[j]);
-        }
-        printf(" | %llu |\n", (unsigned long long)f->differences);
-        all[f->kind] += f->inputs;
-        wrong += f->differences;
-    }
-    printf("\npackets %llu, option strings %llu, searches %llu, pairs %llu, hop distances %llu, lines %llu, differences %llu\n",
-           (unsigned long long)all[PACKET], (unsigned long long)all[OPTIONS], (unsigned long long)all[SEARCH],
-           (unsigned long long)all[PAIR], (unsigned long long)all[HOPS], (unsigned long long)all[LINE], (unsigned long long)wrong);
-    for (j = 0; j < ANSWERS; j++) printf("%s %llu%s", answer_names[j], (unsigned long long)sums[j], j + 1 < ANSWERS ? ", " : "\n");
-    for (i = 0; i < 17; i++) bits[i] = quirks_seen[places[i]];
-    row("quirks from the lowest bit up", bits, 17);
-    row("TTL forms Value, Distance, Guess, Bad", ttl_forms, 4);
-    row("no multiplier, then by divisor 1 to 12", divisors_seen, 13);
-    row("fuzzy with hops, added ecn, added id-, missing df, missing id+", reasons, 5);
-    if (all[LINE]) report_lines();
-    for (i = 0; i < KINDS; i++)
-        for (j = 0; j < NUMBERS; j++)
-            if (differences[i][j]) show_difference(i, j, differences[i][j]);
-    return wrong;
+void try_strict_pair(const Numbers *a, const Numbers *b, const uint8_t *p, size_t size) {
+    tried()->strict++;
+    tried()->refused_14 += a->n[0] == refused_14.n[0] && b->n[0] == refused_14.n[0];
+    hold(STRICT_PAIR, p, size, a, b);
 }

@@ -4,11 +4,13 @@
 
 #include "numbers.h"
 
-typedef enum { PACKET, OPTIONS, SEARCH, PAIR, HOPS, LINE } Kind;
+/* The strict kinds are of differences alone: what is tried is also asked in the strict mode, and counted beside. */
+typedef enum { PACKET, OPTIONS, SEARCH, PAIR, HOPS, LINE, STRICT_PACKET, STRICT_PAIR, KINDS } Kind;
 
 void family(const char *name, Kind kind);
 
-/* Ask both sides, count the answer, and note a difference; the original's answer is handed back. */
+/* Ask both sides, count the answer, and note a difference; the original's answer is handed back. A packet is asked of the port in the
+   strict mode too, where its answer must be refusal 14 if the table says so, and else the plain one. */
 Numbers try_packet(const uint8_t *p, size_t size, uint16_t peer, uint8_t *observation);
 void try_options(const uint8_t *s, size_t size);
 Numbers try_search(const uint8_t *observation, const uint8_t *list, size_t size);
@@ -20,6 +22,9 @@ void try_line(const uint8_t *s, size_t size);
 
 /* Two answers of the port that should be one; p is the input that is shown if they are not. */
 void try_pair(const Numbers *a, const Numbers *b, const uint8_t *p, size_t size);
+
+/* The same of two answers in the strict mode. */
+void try_strict_pair(const Numbers *a, const Numbers *b, const uint8_t *p, size_t size);
 
 /* The place, 1 to 12, of the divisor that gives an observation's multiplier; 0 if there is none. */
 int first_divisor(const uint8_t *observation);

@@ -50,7 +50,7 @@ static unsigned hops(const witness_observation *o, const uint8_t *list, unsigned
 static unsigned present(uint8_t has, unsigned value) { return has * 65536u + value; }
 
 static void answer(const uint8_t *packet, size_t size, unsigned list, uint16_t peer) {
-    witness_packet_read read = witness_packet(packet, size, peer);
+    witness_packet_read read = witness_packet(packet, size, peer, WITNESS_PLAIN);
     const witness_observation *o = &read.observation;
     witness_search_read found = {0};
     uint64_t i;

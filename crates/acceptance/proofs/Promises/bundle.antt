@@ -9,5 +9,6 @@ pub promises : Promises
 promises =
     record {
       check-bundle-one = λ κs bundle. answered tt (unique.check-bundle-one κs bundle) (λ m. m) refl;
+      packet-at-in-one = λ κs bundle at mode. answered tt (unique.packet-at-in-one κs bundle at mode) (λ m. m) refl;
       packet-at-one = λ κs bundle at. answered tt (unique.packet-at-one κs bundle at) (λ m. m) refl;
     }

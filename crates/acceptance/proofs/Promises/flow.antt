@@ -8,5 +8,7 @@ use Rattle.acceptance.proofs.Promised.{answered}
 pub promises : Promises
 promises =
     record {
+      mode-of-one = λ bits. answered tt (unique.mode-of-one bits) (λ m. m) refl;
+      read-packet-in-one = λ κs packet peer-mss mode. answered tt (unique.read-packet-in-one κs packet peer-mss mode) (λ m. m) refl;
       read-packet-one = λ κs packet peer-mss. answered tt (unique.read-packet-one κs packet peer-mss) (λ m. m) refl;
     }

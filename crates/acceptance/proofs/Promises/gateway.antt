@@ -12,4 +12,8 @@ promises =
       termread-answer-checked-one =
           λ κs packet peer list. answered tt (unique.termread-answer-checked-one κs packet peer list) (λ m. m) refl;
       termread-answer-one = λ κs packet peer list. answered tt (unique.termread-answer-one κs packet peer list) (λ m. m) refl;
+      termread-answer-checked-in-one =
+          λ κs packet peer list bits. answered tt (unique.termread-answer-checked-in-one κs packet peer list bits) (λ m. m) refl;
+      termread-answer-in-one =
+          λ κs packet peer list bits. answered tt (unique.termread-answer-in-one κs packet peer list bits) (λ m. m) refl;
     }

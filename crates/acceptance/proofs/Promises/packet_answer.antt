@@ -9,5 +9,6 @@ pub promises : Promises
 promises =
     record {
       peer-of-one = λ number. answered tt (unique.peer-of-one number) (λ m. m) refl;
+      answer-packet-in-one = λ κs packet peer list mode. answered tt (unique.answer-packet-in-one κs packet peer list mode) (λ m. m) refl;
       answer-packet-one = λ κs packet peer list. answered tt (unique.answer-packet-one κs packet peer list) (λ m. m) refl;
     }

@@ -8,6 +8,10 @@ use Rattle.acceptance.proofs.Promised.{page-answered}
 pub promises : Promises
 promises =
     record {
+      first-page-in-one =
+          λ κs bundle longer page mode. page-answered tt (unique.first-page-in-one κs bundle longer page mode) (λ m. m) refl;
+      next-page-in-one =
+          λ κs bundle progress page mode. page-answered tt (unique.next-page-in-one κs bundle progress page mode) (λ m. m) refl;
       first-page-one = λ κs bundle longer page. page-answered tt (unique.first-page-one κs bundle longer page) (λ m. m) refl;
       next-page-one = λ κs bundle progress page. page-answered tt (unique.next-page-one κs bundle progress page) (λ m. m) refl;
     }

@@ -4,11 +4,14 @@ use mathlib.Core.List.{List}
 use Prim.Native.Nat.{ℕ}
 use contract.Lifetimes.{Lfts}
 use denote.Ref.{RefT, now}
+use Rattle.flow.specs.Modes.{modeOf}
 use Rattle.siglist.specs.List.{checkList}
-use Rattle.packet_answer.specs.Packet.{answerOf, peerOf}
-use Rattle.gateway.specs.Parts.{gatewayAnswer, listParts, packetParts, partsOf}
+use Rattle.packet_answer.specs.Packet.{answerIn, answerOf, peerOf}
+use Rattle.gateway.specs.Parts.{gatewayAnswer, gatewayIn, listParts, packetParts, partsOf}
 use Rattle.gateway.proofs.termread_answer as termread-answer'
 use Rattle.gateway.proofs.termread_answer_checked as termread-answer-checked'
+use Rattle.gateway.proofs.termread_answer_checked_in as termread-answer-checked-in'
+use Rattle.gateway.proofs.termread_answer_in as termread-answer-in'
 use Rattle.gateway.proofs.termread_check_list as termread-check-list'
 use Rattle.acceptance.specs.Promised.{Answers}
 
@@ -25,3 +28,12 @@ pub record Promises : Type 0 where
       : (κs : Lfts 2) (packet : RefT (List ℕ)) (peer : ℕ) (list : RefT (List ℕ))
       → Answers termread-answer'.signature κs (termread-answer'.Reads.Pre κs) (termread-answer'.Reads.Post κs)
       (packet, (peer, (list, tt))) (partsOf (gatewayAnswer (now packet) peer (now list)))
+  pub termread-answer-checked-in-one
+      : (κs : Lfts 2) (packet : RefT (List ℕ)) (peer : ℕ) (list : RefT (List ℕ)) (bits : ℕ)
+      → Answers termread-answer-checked-in'.signature κs (termread-answer-checked-in'.Reads.Pre κs)
+      (termread-answer-checked-in'.Reads.Post κs)
+      (packet, (peer, (list, (bits, tt)))) (packetParts (answerIn (modeOf bits) (now packet) (peerOf peer) (now list)))
+  pub termread-answer-in-one
+      : (κs : Lfts 2) (packet : RefT (List ℕ)) (peer : ℕ) (list : RefT (List ℕ)) (bits : ℕ)
+      → Answers termread-answer-in'.signature κs (termread-answer-in'.Reads.Pre κs) (termread-answer-in'.Reads.Post κs)
+      (packet, (peer, (list, (bits, tt)))) (partsOf (gatewayIn (modeOf bits) (now packet) peer (now list)))

@@ -6,13 +6,26 @@ use Prim.Native.Nat.{ℕ}
 use contract.Lifetimes.{Lfts}
 use denote.Ref.{RefT, now}
 use Rattle.text.specs.Written.{left-with}
+use Rattle.flow.specs.declared.Mode.{Mode}
 use Rattle.report.specs.declared.Progress.{Progress}
-use Rattle.report.specs.Pages.{firstPage, pageAfter}
+use Rattle.report.specs.Pages.{firstPage, firstPageIn, pageAfter, pageAfterIn}
 use Rattle.report.proofs.first_page as first-page'
+use Rattle.report.proofs.first_page_in as first-page-in'
 use Rattle.report.proofs.next_page as next-page'
+use Rattle.report.proofs.next_page_in as next-page-in'
 use Rattle.acceptance.specs.Promised.{PageAnswers}
 
 pub record Promises : Type 0 where
+  pub first-page-in-one
+      : (κs : Lfts 2) (bundle : RefT (List ℕ)) (longer : Bool) (page : RefT (List ℕ)) (mode : Mode)
+      → PageAnswers first-page-in'.signature κs (first-page-in'.Reads.Pre κs) (first-page-in'.Reads.Post κs)
+      (bundle, (longer, (page, (mode, tt)))) (λ bytes. (bundle, (longer, (left-with page bytes, (mode, tt))))) (now page)
+      (firstPageIn mode (now bundle) longer)
+  pub next-page-in-one
+      : (κs : Lfts 2) (bundle : RefT (List ℕ)) (progress : Progress) (page : RefT (List ℕ)) (mode : Mode)
+      → PageAnswers next-page-in'.signature κs (next-page-in'.Reads.Pre κs) (next-page-in'.Reads.Post κs)
+      (bundle, (progress, (page, (mode, tt)))) (λ bytes. (bundle, (progress, (left-with page bytes, (mode, tt))))) (now page)
+      (pageAfterIn mode (now bundle) progress)
   pub first-page-one
       : (κs : Lfts 2) (bundle : RefT (List ℕ)) (longer : Bool) (page : RefT (List ℕ))
       → PageAnswers first-page'.signature κs (first-page'.Reads.Pre κs) (first-page'.Reads.Post κs)

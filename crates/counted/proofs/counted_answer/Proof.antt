@@ -9,7 +9,7 @@ unfolding countedAnswer
 returns c =
     simp (
       ← c .before .before .before .before .peer-of .ensures,
-      ← c .before .before .before .read-packet .ensures,
+      ← c .before .before .before .read-packet-in .ensures,
       ← c .before .search-checked .ensures,
       ← c .found-code .ensures,
     )

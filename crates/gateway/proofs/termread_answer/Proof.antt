@@ -1,22 +1,25 @@
 use mathlib.Core.Path.{sym, _∙_}
 use Rattle.gateway.specs.Parts.{gatewayAnswer}
+use Rattle.flow.specs.Reading.{readPacket}
+use Rattle.flow.specs.Modes.{readIn}
+use Rattle.packet_answer.specs.Packet.{answerOf, answerIn}
 use borrow.Author.Needs.{needs}
 use Rattle.gateway.proofs.termread_answer.Statement.{statement}
 use Rattle.gateway.proofs.termread_answer.Tie as tie
 
 returns : tie.Need-returns
-unfolding gatewayAnswer
+unfolding gatewayAnswer answerOf answerIn readPacket readIn
 returns c =
     let at = c .before .before .before in
     rw (
       sym (at .before .before .check-list .ensures) ∙ at .enum-told .given .1,
       c .packet-parts .ensures,
-      c .before .answer-packet .ensures,
+      c .before .answer-packet-in .ensures,
       c .before .before .peer-of .ensures,
     )
 
 returns-2 : tie.Need-returns-2
-unfolding gatewayAnswer
+unfolding gatewayAnswer answerOf answerIn readPacket readIn
 returns-2 c =
     let at = c .before .before in
     rw (sym (at .before .before .check-list .ensures) ∙ at .refusal .given .1, c .refused-list .ensures)

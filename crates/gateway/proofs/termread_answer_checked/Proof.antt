@@ -1,9 +1,13 @@
+use Rattle.flow.specs.Reading.{readPacket}
+use Rattle.flow.specs.Modes.{readIn}
+use Rattle.packet_answer.specs.Packet.{answerOf, answerIn}
 use borrow.Author.Needs.{needs}
 use Rattle.gateway.proofs.termread_answer_checked.Statement.{statement}
 use Rattle.gateway.proofs.termread_answer_checked.Tie as tie
 
 returns : tie.Need-returns
-returns c = rw (c .packet-parts .ensures, c .before .answer-packet .ensures, c .before .before .peer-of .ensures)
+unfolding answerOf answerIn readPacket readIn
+returns c = rw (c .packet-parts .ensures, c .before .answer-packet-in .ensures, c .before .before .peer-of .ensures)
 
 pub termread-answer-checked-spec : {M : Type 1} → statement M
 termread-answer-checked-spec =

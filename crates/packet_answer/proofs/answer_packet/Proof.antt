@@ -1,29 +1,14 @@
 -- `packet_answer::answer_packet` meets its contract.
-use Rattle.packet_answer.specs.Packet.{answerOf}
+use Rattle.flow.specs.Reading.{readPacket}
+use Rattle.flow.specs.Modes.{readIn}
+use Rattle.packet_answer.specs.Packet.{answerOf, answerIn}
 use borrow.Author.Needs.{needs}
 use Rattle.packet_answer.proofs.answer_packet.Statement.{statement}
 use Rattle.packet_answer.proofs.answer_packet.Tie as tie
 
 returns : tie.Need-returns
-unfolding answerOf
-returns c =
-    rw (c .search-checked .ensures, ← c .before .before .before .before .read-packet .ensures, c .before .enum-told .given .1)
-
-returns-2 : tie.Need-returns-2
-unfolding answerOf
-returns-2 c =
-    rw (c .search-checked2 .ensures, ← c .before .before .before .before .read-packet .ensures, c .before .enum-told2 .given .1)
-
-returns-3 : tie.Need-returns-3
-unfolding answerOf
-returns-3 c = rw (← c .before .before .before .read-packet .ensures, c .enum-told3 .given .1)
-
-returns-4 : tie.Need-returns-4
-unfolding answerOf
-returns-4 c = rw (← c .before .before .before .before .read-packet .ensures, c .before .answer .given .1)
+unfolding answerOf answerIn readPacket readIn
+returns c = c .answer-packet-in .ensures
 
 pub answer-packet-spec : {M : Type 1} → statement M
-answer-packet-spec =
-    tie.close
-    (tie.spec (λ c κs. search needs) (λ c. search needs) (λ c κs. search needs) (λ c. search needs)
-    (λ c κs. search needs) (λ c. search needs) (λ c. search needs) returns returns-2 returns-3 returns-4)
+answer-packet-spec = tie.close (tie.spec (λ c κs. search needs) returns)

@@ -21,9 +21,9 @@ returns c =
     let offset = c .before .before in
     let put = offset .before .before .before in
     let count = put .before .before .before in
-    let b = count .before .before .before .before .args .bundle .now in
+    let a = count .before .before .before .before .args in
     let line = numbered-put _ _ packetsWord _ _ _ (search needs) (put .put-numbered .ensures) in
-    head-paged b _ _ _ _ _ _ _ (search needs) (count .be16 .ensures) (offset .be162 .ensures)
+    head-paged (a .mode) (a .bundle .now) _ _ _ _ _ _ _ (search needs) (count .be16 .ensures) (offset .be162 .ensures)
     (line .0 ∙ zero-add _) (line .1) (c .put-lines .ensures)
 
 pub head-page-spec : {M : Type 1} → statement M

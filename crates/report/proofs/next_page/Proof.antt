@@ -1,11 +1,6 @@
-use Rattle.report.proofs.Turns.{paged}
 use borrow.Author.Needs.{needs}
 use Rattle.report.proofs.next_page.Statement.{statement}
 use Rattle.report.proofs.next_page.Tie as tie
 
-returns : tie.Need-returns
-returns c = paged _ _ _ _ (c .put-lines .ensures)
-
 pub next-page-spec : {M : Type 1} → statement M
-next-page-spec =
-    tie.close (tie.spec (λ c κs. search needs) returns)
+next-page-spec = tie.close (tie.spec (λ c κs. search needs) (λ c. search needs))

@@ -17,14 +17,14 @@ use Rattle.report.proofs.put_lines.Statement.{statement}
 use Rattle.report.proofs.put_lines.Tie as tie
 
 abbrev Inv-loop : tie.InvT-loop
-Inv-loop bundle page₀ filled₀ left₀ at₀ page filled left at =
+Inv-loop bundle page₀ mode filled₀ left₀ at₀ page filled left at =
     (filled ≤ pageSize)
     × ((r : Progress) (p : List ℕ)
-    → Filled page filled (pageFrom bundle filled at left) r p
-    → Filled page₀ filled₀ (pageFrom bundle filled₀ at₀ left₀) r p)
+    → Filled page filled (pageFrom mode bundle filled at left) r p
+    → Filled page₀ filled₀ (pageFrom mode bundle filled₀ at₀ left₀) r p)
 
 abbrev μ-loop : tie.MeasureT-loop
-μ-loop bundle page₀ filled₀ left₀ at₀ page filled left at = left
+μ-loop bundle page₀ mode filled₀ left₀ at₀ page filled left at = left
 
 loop-holds : tie.Need-loop-holds Inv-loop μ-loop
 loop-holds c = (search needs, λ r p h. h)
@@ -32,9 +32,10 @@ loop-holds c = (search needs, λ r p h. h)
 returns : tie.Need-returns Inv-loop μ-loop
 returns c =
     let at = c .before .before in
-    let b = at .before .before .args .bundle .now in
+    let a = at .before .before .args in
+    let b = a .bundle .now in
     let l = at .loop in
-    let full = no-room b (l .page) (l .filled) (l .at) (l .left) (c .before .loop-test .taken) (c .if1 .taken) in
+    let full = no-room (a .mode) b (l .page) (l .filled) (l .at) (l .left) (c .before .loop-test .taken) (c .if1 .taken) in
     l .inv .1 _ _ (rw full (filled-full (l .page) (l .filled) (l .left) (l .at)))
 
 returns-2 : tie.Need-returns-2 Inv-loop μ-loop
@@ -42,11 +43,12 @@ returns-2 c =
     let call = c .before .before in
     let test = call .before .before in
     let at = test .before in
-    let b = at .before .before .args .bundle .now in
+    let a = at .before .before .args in
+    let b = a .bundle .now in
     let l = at .loop in
-    let none = none-there b (l .at) (sym (call .packet-at .ensures) ∙ c .enum-told .given .1) in
+    let none = none-there (a .mode) b (l .at) (sym (call .packet-at-in .ensures) ∙ c .enum-told .given .1) in
     let room : 19 ≤ pageSize - l .filled = omega (arith, call .before .if1 .left) in
-    let ended = no-packet b (l .page) (l .filled) (l .at) (l .left) (test .loop-test .taken) room none in
+    let ended = no-packet (a .mode) b (l .page) (l .filled) (l .at) (l .left) (test .loop-test .taken) room none in
     l .inv .1 _ _ (rw ended (filled-full (l .page) (l .filled) 0 (l .at)))
 
 loop-again : tie.Need-loop-again Inv-loop μ-loop
@@ -55,11 +57,12 @@ loop-again c =
     let call = told .before .before in
     let test = call .before .before in
     let at = test .before in
-    let b = at .before .before .args .bundle .now in
+    let a = at .before .before .args in
+    let b = a .bundle .now in
     let l = at .loop in
     let put = c .put-line in
-    let found = packet-there b (l .at) _ _ (sym (call .packet-at .ensures) ∙ told .answer .given .1) in
-    let line = answerAt b (l .at) in
+    let found = packet-there (a .mode) b (l .at) _ _ (sym (call .packet-at-in .ensures) ∙ told .answer .given .1) in
+    let line = answerAt (a .mode) b (l .at) in
     let room : 19 ≤ pageSize - l .filled = omega (arith, call .before .if1 .left) in
     let whole : length (l .page) ≡ pageSize = search needs in
     let done : PutAll (l .page) (l .filled) (lineOf line) (put .result) (put .last .0) =
@@ -67,15 +70,16 @@ loop-again c =
     let next : l .filled + length (lineOf line) ≤ pageSize = omega (arith, line-length line) in (
       rw (done .0) next,
       λ r p h. l .inv .1 r p
-          (one-line b (l .page) (l .filled) (l .at) (l .left) (test .loop-test .taken) room (found .lies) whole (put .last .0) p
+          (one-line (a .mode) b (l .page) (l .filled) (l .at) (l .left) (test .loop-test .taken) room (found .lies) whole (put .last .0) p
           (put .result) r done (rw (sym (found .ends)) h)),
     )
 
 returns-3 : tie.Need-returns-3 Inv-loop μ-loop
 returns-3 c =
-    let b = c .before .before .before .args .bundle .now in
+    let a = c .before .before .before .args in
+    let b = a .bundle .now in
     let l = c .before .loop in
-    let none-left = no-more b (l .filled) (l .at) (l .left) (c .loop-test .left) in
+    let none-left = no-more (a .mode) b (l .filled) (l .at) (l .left) (c .loop-test .left) in
     l .inv .1 _ _ (rw none-left (filled-full (l .page) (l .filled) 0 (l .at)))
 
 pub put-lines-spec : {M : Type 1} → statement M

@@ -5,6 +5,7 @@ use native.Mathlib.Omega.{arith}
 use denote.Ref.{now}
 use borrow.Author.Needs.{needs}
 use borrow.Author.Tests.{not-false}
+use Rattle.flow.specs.Modes.{plainMode}
 use Rattle.report.proofs.Whole.{first-page-kept, next-page-kept}
 use Rattle.termread.specs.Reached.{Reached, none-yet}
 use Rattle.termread.proofs.Laws.{Left, page-follows, part-length, begun, begun-fits, turned, turned-fits, ended, page-reached}
@@ -26,7 +27,7 @@ loop-holds c =
     let b = now (start .args .bundle) in
     let page = replicate {A = ℕ} 4096 0 in (
       omega arith,
-      first-page-kept b page (call .last .1 .1 .0) (start .args .longer) (call .result) refl (call .ensures),
+      first-page-kept plainMode b page (call .last .1 .1 .0) (start .args .longer) (call .result) refl (call .ensures),
       begun-fits b (start .args .longer) page (call .last .1 .1 .0) (call .result) (call .ensures),
       omega arith,
       none-yet,
@@ -81,7 +82,7 @@ loop-again c =
     let fits : p .filled ≤ length page = omega (arith, held .1, held .2) in
     let b = now (start .args .bundle) in (
       search needs,
-      next-page-kept b page page' (p .left) (p .at) (call .result) (held .1) (call .ensures),
+      next-page-kept plainMode b page page' (p .left) (p .at) (call .result) (held .1) (call .ensures),
       turned-fits b page page' p (call .result) (call .ensures),
       omega (arith, held .2, held .3),
       page-reached (sent .result) (at .loop .taken) page (p .filled) fits (not-false (sent .result) (at-if .if1 .left)) (sent .ensures),

@@ -1,0 +1,31 @@
+-- A mode says which two stages read a packet: the field `strict` chooses the TCP stage; the IP stage is document 01's in every mode.
+use Prim.Native.Nat.{ℕ, _%_}
+use mathlib.Core.Bool.{true, false, cond}
+use mathlib.Core.List.{List}
+use lib.Dec.{eqb}
+use Rattle.tcp.specs.declared.Mss.{Mss}
+use Rattle.ip.specs.Ip.{readIp}
+use Rattle.flow.specs.declared.Mode.{Mode}
+use Rattle.flow.specs.declared.Reading.{Reading}
+use Rattle.flow.specs.Tcp.{readTcp}
+use Rattle.flow.specs.Strict.{readTcpStrict}
+use Rattle.flow.specs.Reading.{TcpStage, readBy}
+
+-- "a strict entry beside the present one" (document 02, Wish 2).
+abbrev pub tcpStage : Mode → TcpStage
+tcpStage mode f t peer = cond (mode .strict) (readTcpStrict f t peer) (readTcp f t peer)
+
+-- The reader of a mode.
+unfoldable pub readIn : Mode → List ℕ → Mss → Reading
+readIn mode p peer = readBy readIp (tcpStage mode) p peer
+
+-- The present entry, and the strict one.
+abbrev pub plainMode : Mode
+plainMode = record { strict = false }
+
+abbrev pub strictMode : Mode
+strictMode = record { strict = true }
+
+-- A mode as one number: bit 0 is strict; the other bits mean nothing, so that every number is a mode.
+abbrev pub modeOf : ℕ → Mode
+modeOf bits = record { strict = eqb (bits % 2) 1 }

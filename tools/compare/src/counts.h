@@ -1,0 +1,36 @@
+/* What tally.c counts and report.c prints. */
+#ifndef COUNTS_H
+#define COUNTS_H
+
+#include "linetext.h"
+#include "tally.h"
+
+enum { FAMILIES = 64, ANSWERS = 23, MOST = 4096 };
+
+typedef struct {
+    const char *name;
+    Kind kind;
+    uint64_t inputs, differences, answers[ANSWERS], classes[LINE_CLASSES];
+    uint64_t strict, refused_14; /* what was asked in the strict mode too; of it, what is refused by 14 there, of a pair both */
+} Family;
+
+typedef struct {
+    uint64_t times;
+    size_t first_size, least_size;
+    uint8_t first[MOST], least[MOST];
+    Numbers port, original;
+} Difference;
+
+typedef struct {
+    Family families[FAMILIES];
+    int used; /* families; the last of them is tried */
+    uint64_t quirks[32], divisors[13], ttl_forms[4], reasons[5];
+    uint64_t replaced[ANSWERS]; /* packets by their plain answer, where the strict one is 14 */
+    Difference *differences[KINDS][NUMBERS];
+    uint8_t least_line[LINE_CLASSES][MOST];
+    size_t least_line_size[LINE_CLASSES];
+} Counts;
+
+extern Counts counts;
+
+#endif
