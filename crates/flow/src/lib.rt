@@ -1,16 +1,17 @@
 // flow.rs: from a lent packet to an observation. The IP stage hands on facts and the TCP part; the TCP stage sees nothing else.
 ghost use mathlib.Core.Path.{_≡_};
-ghost use mathlib.Core.Bool.{not, cond};
+ghost use mathlib.Core.Bool.{not, cond, _&&_, _||_};
 ghost use Prim.Native.Nat.{_+_, _*_, _≤_, min, max};
 ghost use Rattle.basis.specs.Bytes as bytes;
 ghost use Rattle.rfc.specs.Rfc9293.{dataOffset};
+ghost use lib.Dec.{ltb};
 ghost use lib.ListN.{length};
+ghost use Rattle.observable.specs.Observation.{emptyObservation};
 ghost use Rattle.flow.specs.Flags.{maskedType, flagsInvalid};
-ghost use Rattle.flow.specs.Modes.{modeOf, tcpStage, readIn};
+ghost use Rattle.flow.specs.Modes.{modeOf, readIn};
 ghost use Rattle.flow.specs.Reading.{readPacket};
-ghost use Rattle.flow.specs.Strict.{contradictsItself};
 ghost use Rattle.flow.specs.Tcp.{numberQuirks, urgentQuirks, quirksOfHeaders, payloadClass, observationOf, observationFrom};
-ghost use Rattle.flow.specs.Tcp.{knownPeer, refusing, readTcp};
+ghost use Rattle.flow.specs.Tcp.{knownPeer, refusing};
 use ip::IpFacts;
 use ip::IpRead;
 use ip::read_ip;
@@ -239,62 +240,67 @@ fn refuse(refusal: PacketRefusal) -> Reading
     }
 }
 
-// Whether the data offset points into the fixed header, or past the part.
-fn contradicts_itself(tcp: &[u8]) -> bool
-    requires { ⌜ 20 ≤ length (now tcp) ⌝ }
-    ensures { λ r. ⌜ r ≡ contradictsItself (now (tcp .entry)) ⌝ }
+// Valid flags that are neither SYN nor SYN+ACK give no observation.
+fn nothing() -> Reading
+    ensures { λ r. ⌜ r ≡ record { answer = Answer.Nothing; observation = emptyObservation } ⌝ }
 {
-    let header = header_bytes(tcp) as usize;
-    (header < TCP_HEADER) | (tcp.len() < header)
-}
-
-// The plain TCP stage. A SYN and a SYN+ACK are told first: their flags are valid.
-fn visit_tcp(facts: IpFacts, tcp: &[u8], peer_mss: Mss) -> Reading
-    requires { ⌜ 20 ≤ length (now tcp) ⌝ }
-    ensures { λ r. ⌜ r ≡ readTcp facts (now (tcp .entry)) «peer_mss» ⌝ }
-{
-    let flags = tcp[13];
-    let masked = tcp_type(flags);
-    let syn = masked == SYN;
-    if syn | (masked == SYN_ACK) {
-        return Reading {
-            answer: opening_answer(syn),
-            observation: observe(facts, tcp, syn, peer_taken(syn, peer_mss)),
-        };
-    }
-    if !is_valid(flags) {
-        return refuse(PacketRefusal::InvalidTcpFlags(flags));
-    }
     Reading {
         answer: Answer::Nothing,
         observation: TcpObservation::empty(),
     }
 }
 
-// The TCP stage of a mode: the strict one sets a header aside before its flags are looked at.
-fn visit_tcp_in(facts: IpFacts, tcp: &[u8], peer_mss: Mss, mode: Mode) -> Reading
+// The reading of a SYN or a SYN+ACK.
+fn opened(facts: IpFacts, tcp: &[u8], syn: bool, peer_mss: Mss) -> Reading
     requires { ⌜ 20 ≤ length (now tcp) ⌝ }
-    ensures { λ r. ⌜ r ≡ tcpStage mode facts (now (tcp .entry)) «peer_mss» ⌝ }
+    ensures { λ r. ⌜ r ≡ record {
+      answer = cond syn Answer.Syn Answer.SynAck;
+      observation = observationFrom facts (now (tcp .entry)) syn (cond syn Mss.Absent (knownPeer «peer_mss»));
+    } ⌝ }
+{
+    Reading {
+        answer: opening_answer(syn),
+        observation: observe(facts, tcp, syn, peer_taken(syn, peer_mss)),
+    }
+}
+
+// Whether the mode sets a header of these bytes aside: its data offset points into the fixed header, or past the part.
+fn sets_aside(mode: Mode, header: usize, part: usize) -> bool
+    ensures { λ r. ⌜ r ≡ mode .strict && (ltb header 20 || ltb part header) ⌝ }
 {
     if mode.strict {
-        if contradicts_itself(tcp) {
-            return refuse(PacketRefusal::DataOffset);
-        }
+        return (header < TCP_HEADER) | (part < header);
     }
-    visit_tcp(facts, tcp, peer_mss)
+    false
 }
 
 // From a lent packet and the peer's MSS to an observation, nothing, or a refusal, in any mode: the IP stage, then the TCP stage on its
-// part.
+// part. Each answer leaves by a `return` of its own, and the header's length is asked for before the mode (docs/DECISIONS.md, 74).
 pub fn read_packet_in(packet: &[u8], peer_mss: Mss, mode: Mode) -> Reading
     ensures { λ r. ⌜ r ≡ readIn mode (now (packet .entry)) «peer_mss» ⌝ }
 {
     match read_ip(packet) {
-        IpRead::Refused(refusal) => refuse(refusal),
+        IpRead::Refused(refusal) => {
+            return refuse(refusal);
+        }
         IpRead::Facts(facts) => {
             let start = facts.start;
             let end = facts.end;
-            visit_tcp_in(facts, &packet[start..end], peer_mss, mode)
+            let tcp = &packet[start..end];
+            let header = header_bytes(tcp) as usize;
+            if sets_aside(mode, header, tcp.len()) {
+                return refuse(PacketRefusal::DataOffset);
+            }
+            let flags = tcp[13];
+            let masked = tcp_type(flags);
+            let syn = masked == SYN;
+            if syn | (masked == SYN_ACK) {
+                return opened(facts, tcp, syn, peer_mss);
+            }
+            if is_valid(flags) {
+                return nothing();
+            }
+            return refuse(PacketRefusal::InvalidTcpFlags(flags));
         }
     }
 }
