@@ -9,6 +9,7 @@ use Rattle.acceptance.proofs.Promises.ttl as ttl'
 use Rattle.acceptance.proofs.Promises.window_size as window-size'
 use Rattle.acceptance.proofs.Promises.ip_options as ip-options'
 use Rattle.acceptance.proofs.Promises.observable as observable'
+use Rattle.acceptance.proofs.Promises.tcp_header as tcp-header'
 use Rattle.acceptance.proofs.Promises.one_option as one-option'
 use Rattle.acceptance.proofs.Promises.syn_options as syn-options'
 use Rattle.acceptance.proofs.Promises.ip as ip'
@@ -33,6 +34,7 @@ pub mod ttl
 pub mod window_size
 pub mod ip_options
 pub mod observable
+pub mod tcp_header
 pub mod one_option
 pub mod syn_options
 pub mod ip
@@ -61,6 +63,7 @@ each-crate =
       window-size = window-size'.promises;
       ip-options = ip-options'.promises;
       observable = observable'.promises;
+      tcp-header = tcp-header'.promises;
       one-option = one-option'.promises;
       syn-options = syn-options'.promises;
       ip = ip'.promises;

@@ -8,6 +8,7 @@ use Rattle.acceptance.specs.Promises.ttl as ttl'
 use Rattle.acceptance.specs.Promises.window_size as window-size'
 use Rattle.acceptance.specs.Promises.ip_options as ip-options'
 use Rattle.acceptance.specs.Promises.observable as observable'
+use Rattle.acceptance.specs.Promises.tcp_header as tcp-header'
 use Rattle.acceptance.specs.Promises.one_option as one-option'
 use Rattle.acceptance.specs.Promises.syn_options as syn-options'
 use Rattle.acceptance.specs.Promises.ip as ip'
@@ -32,6 +33,7 @@ pub mod ttl
 pub mod window_size
 pub mod ip_options
 pub mod observable
+pub mod tcp_header
 pub mod one_option
 pub mod syn_options
 pub mod ip
@@ -58,6 +60,7 @@ pub record EachCrate : Type 0 where
   pub window-size : window-size'.Promises
   pub ip-options : ip-options'.Promises
   pub observable : observable'.Promises
+  pub tcp-header : tcp-header'.Promises
   pub one-option : one-option'.Promises
   pub syn-options : syn-options'.Promises
   pub ip : ip'.Promises

@@ -1,4 +1,3 @@
-pub mod Flags
 pub mod Observed
 pub mod Opening
 mod Stage

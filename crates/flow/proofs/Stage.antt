@@ -20,12 +20,12 @@ use Rattle.refusals.specs.declared.PacketRefusal.the-variants as refusal
 use Rattle.flow.specs.declared.Answer.the-variants as answer
 use Rattle.flow.specs.declared.Mode.{Mode}
 use Rattle.flow.specs.declared.Reading.{Reading}
-use Rattle.flow.specs.Flags.{maskedType, flagsInvalid, isSynType, isSynAckType}
+use Rattle.tcp_header.specs.Flags.{maskedType, flagsInvalid, isSynType, isSynAckType}
 use Rattle.flow.specs.Tcp.{readTcp, refusing, knownPeer, observationFrom}
 use Rattle.flow.specs.Strict.{contradictsItself, readTcpStrict}
 use Rattle.flow.specs.Reading.{tcpPart}
 use Rattle.flow.specs.Modes.{readIn}
-use Rattle.flow.proofs.Flags.{opening-valid}
+use Rattle.tcp_header.proofs.Flags.{opening-valid}
 use Rattle.flow.proofs.Opening.{opens, neither-first, neither-second}
 
 -- ---- the part

@@ -7,10 +7,9 @@ ghost use Rattle.rfc.specs.Rfc9293.{dataOffset};
 ghost use lib.Dec.{ltb};
 ghost use lib.ListN.{length};
 ghost use Rattle.observable.specs.Observation.{emptyObservation};
-ghost use Rattle.flow.specs.Flags.{maskedType, flagsInvalid};
 ghost use Rattle.flow.specs.Modes.{modeOf, readIn};
 ghost use Rattle.flow.specs.Reading.{readPacket};
-ghost use Rattle.flow.specs.Tcp.{numberQuirks, urgentQuirks, quirksOfHeaders, payloadClass, observationOf, observationFrom};
+ghost use Rattle.flow.specs.Tcp.{quirksOfHeaders, payloadClass, observationOf, observationFrom};
 ghost use Rattle.flow.specs.Tcp.{knownPeer, refusing};
 use ip::IpFacts;
 use ip::IpRead;
@@ -21,13 +20,16 @@ use numbers::least;
 use numbers::saturating_add;
 use numbers::wide;
 use observable::TcpObservation;
-use quirks::Quirk;
 use quirks::QuirkSet;
 use refusals::PacketRefusal;
 use syn_options::Walked;
 use syn_options::walk_options;
 use tcp::Mss;
 use tcp::PayloadSize;
+use tcp_header::is_valid;
+use tcp_header::number_quirks;
+use tcp_header::tcp_type;
+use tcp_header::urgent_quirks;
 
 pub enum Answer {
     Syn,
@@ -70,50 +72,6 @@ const TCP_HEADER: usize = 20;
 const SYN: u8 = 2;
 
 const SYN_ACK: u8 = 18;
-
-fn tcp_type(flags: u8) -> u8
-    ensures { λ r. ⌜ r ≡ maskedType flags ⌝ }
-{
-    flags % 8 + flags / 16 % 2 * 16
-}
-
-// Not SYN with FIN or RST, nor FIN with RST, nor none of SYN, ACK, FIN and RST: one of FIN, SYN and RST, with or without ACK, or ACK.
-fn is_valid(flags: u8) -> bool
-    ensures { λ r. ⌜ r ≡ not (flagsInvalid flags) ⌝ }
-{
-    let masked = tcp_type(flags);
-    (masked == 1)
-        | (masked == 2)
-        | (masked == 4)
-        | (masked == 16)
-        | (masked == 17)
-        | (masked == 18)
-        | (masked == 20)
-}
-
-// Those of the flags, the sequence number and the acknowledgment number.
-fn number_quirks(flags: u8, sequence: u32, acknowledgment: u32, quirks: QuirkSet) -> QuirkSet
-    ensures { λ r. ⌜ r ≡ numberQuirks flags sequence acknowledgment quirks ⌝ }
-{
-    let rst = flags / 4 % 2 == 1;
-    let ack = flags / 16 % 2 == 1;
-    quirks
-        .add_if((flags / 64 % 2 == 1) | (flags / 128 % 2 == 1), Quirk::Ecn)
-        .add_if(sequence == 0, Quirk::SeqNumZero)
-        .add_if(ack & (acknowledgment == 0), Quirk::AckNumZero)
-        .add_if(!ack & (acknowledgment != 0) & !rst, Quirk::AckNumNonZero)
-}
-
-// Those of the urgent pointer, and PSH.
-fn urgent_quirks(flags: u8, urgent: u16, quirks: QuirkSet) -> QuirkSet
-    ensures { λ r. ⌜ r ≡ urgentQuirks flags urgent quirks ⌝ }
-{
-    let urg = flags / 32 % 2 == 1;
-    quirks
-        .add_if(urg, Quirk::Urg)
-        .add_if(!urg & (urgent != 0), Quirk::NonZeroURG)
-        .add_if(flags / 8 % 2 == 1, Quirk::Push)
-}
 
 // The four-byte number at a place of the header.
 fn word(tcp: &[u8], at: usize) -> u32
@@ -197,13 +155,13 @@ fn options_end(tcp: &[u8]) -> usize
 // The observation of a SYN or SYN+ACK: the options are a further part, and the walk goes on after clipping.
 fn observe(facts: IpFacts, tcp: &[u8], syn: bool, peer_mss: Mss) -> TcpObservation
     requires { ⌜ 20 ≤ length (now tcp) ⌝ }
-    ensures { λ r. ⌜ r ≡ observationFrom facts (now (tcp .entry)) syn «peer_mss» ⌝ }
+    ensures { λ r. ⌜ r ≡ observationFrom facts (now (tcp .entry)) syn (cond syn Mss.Absent (knownPeer «peer_mss»)) ⌝ }
 {
     let end = options_end(tcp);
     let before = facts.quirks;
     let quirks = shown_quirks(tcp, before);
     let walked = walk_options(&tcp[20..end], false, syn, quirks);
-    tcp_observation(facts, tcp, walked, peer_mss)
+    tcp_observation(facts, tcp, walked, peer_taken(syn, peer_mss))
 }
 
 fn opening_answer(syn: bool) -> Answer
@@ -250,20 +208,6 @@ fn nothing() -> Reading
     }
 }
 
-// The reading of a SYN or a SYN+ACK.
-fn opened(facts: IpFacts, tcp: &[u8], syn: bool, peer_mss: Mss) -> Reading
-    requires { ⌜ 20 ≤ length (now tcp) ⌝ }
-    ensures { λ r. ⌜ r ≡ record {
-      answer = cond syn Answer.Syn Answer.SynAck;
-      observation = observationFrom facts (now (tcp .entry)) syn (cond syn Mss.Absent (knownPeer «peer_mss»));
-    } ⌝ }
-{
-    Reading {
-        answer: opening_answer(syn),
-        observation: observe(facts, tcp, syn, peer_taken(syn, peer_mss)),
-    }
-}
-
 // Whether the mode sets a header of these bytes aside: its data offset points into the fixed header, or past the part.
 fn sets_aside(mode: Mode, header: usize, part: usize) -> bool
     ensures { λ r. ⌜ r ≡ mode .strict && (ltb header 20 || ltb part header) ⌝ }
@@ -295,7 +239,10 @@ pub fn read_packet_in(packet: &[u8], peer_mss: Mss, mode: Mode) -> Reading
             let masked = tcp_type(flags);
             let syn = masked == SYN;
             if syn | (masked == SYN_ACK) {
-                return opened(facts, tcp, syn, peer_mss);
+                return Reading {
+                    answer: opening_answer(syn),
+                    observation: observe(facts, tcp, syn, peer_mss),
+                };
             }
             if is_valid(flags) {
                 return nothing();

@@ -59,26 +59,27 @@ shared-slice-read-flags c =
     in
     search needs
 
-opened-requires : tie.Need-opened-requires
-opened-requires c κs =
-    let at-header = c .before .before .before .before .before in
+observe-requires : tie.Need-observe-requires
+observe-requires c κs =
+    let at-header = c .before .before .before .before .before .before in
     part-long _ _
     (sym (at-header .before .before .before .before .before .read-ip .ensures) ∙ at-header .before .before .before .facts .given .1)
 
 returns-3 : tie.Need-returns-3
 returns-3 c =
-    let at-type = c .before .before in
+    let at-type = c .before .before .before in
     let at-header = at-type .before .before .before .before in
     let facts = at-header .before .before .before .facts in
     let a = at-header .before .before .before .before .before .before .before .args in
     let byte = at-type .before .shared-slice-known2 .given 13 in
     rw (
-      c .opened .ensures,
+      c .observe .ensures,
+      c .before .opening-answer .ensures,
       at-type .tcp-type .ensures,
       read-on (a .mode) _ _ (a .peer-mss) _ (sym (at-header .before .before .before .before .before .read-ip .ensures) ∙ facts .given .1)
           (at-header .header-bytes .ensures) (sym (at-type .before .before .before .sets-aside .ensures) ∙ at-type .before .before .if1 .left),
     )
-    (opening-read (facts .given .0 .0) _ _ (omega arith) (rw (← at-type .tcp-type .ensures) (c .before .if2 .taken)))
+    (opening-read (facts .given .0 .0) _ _ (omega arith) (rw (← at-type .tcp-type .ensures) (c .before .before .if2 .taken)))
 
 returns-4 : tie.Need-returns-4
 returns-4 c =
@@ -114,5 +115,5 @@ read-packet-in-spec =
     tie.close
     (tie.spec (λ c κs. search needs) (λ c. search needs) (λ c κs. search needs) returns (λ c. search needs) sub-tcp part-tcp-start
     part-tcp-end header-bytes-requires (λ c. search needs) (λ c κs. search needs) (λ c κs. search needs) returns-2 shared-slice-read-flags
-    (λ c κs. search needs) opened-requires returns-3 (λ c κs. search needs) (λ c κs. search needs) returns-4 (λ c κs. search needs)
+    (λ c κs. search needs) (λ c κs. search needs) observe-requires returns-3 (λ c κs. search needs) (λ c κs. search needs) returns-4 (λ c κs. search needs)
     returns-5)

@@ -1,8 +1,8 @@
 -- `flow::is_valid` meets its contract.
-use Rattle.flow.proofs.Flags.{validByType, valid-flags}
+use Rattle.tcp_header.proofs.Flags.{validByType, valid-flags}
 use borrow.Author.Needs.{needs}
-use Rattle.flow.proofs.is_valid.Statement.{statement}
-use Rattle.flow.proofs.is_valid.Tie as tie
+use Rattle.tcp_header.proofs.is_valid.Statement.{statement}
+use Rattle.tcp_header.proofs.is_valid.Tie as tie
 
 returns : tie.Need-returns
 unfolding validByType

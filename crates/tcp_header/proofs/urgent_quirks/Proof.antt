@@ -1,7 +1,7 @@
 -- `flow::urgent_quirks` meets its contract.
 use borrow.Author.Needs.{needs}
-use Rattle.flow.proofs.urgent_quirks.Statement.{statement}
-use Rattle.flow.proofs.urgent_quirks.Tie as tie
+use Rattle.tcp_header.proofs.urgent_quirks.Statement.{statement}
+use Rattle.tcp_header.proofs.urgent_quirks.Tie as tie
 
 returns : tie.Need-returns
 returns c = rw (c .add-if3 .ensures, c .before .add-if2 .ensures, c .before .before .add-if .ensures)

@@ -6,7 +6,7 @@ use lib.Dec.{eqb}
 use borrow.Author.Tests.{eqb-true, not-true}
 use Rattle.basis.specs.Tests.{allBelow}
 use Rattle.basis.proofs.Tests.{below}
-use Rattle.flow.specs.Flags.{maskedType, flagsInvalid}
+use Rattle.tcp_header.specs.Flags.{maskedType, flagsInvalid}
 
 -- One computed test over all bytes.
 every-type : allBelow (λ (flags : ℕ). eqb (flags % 8 + flags / 16 % 2 * 16) (maskedType flags)) 256 ≡ true

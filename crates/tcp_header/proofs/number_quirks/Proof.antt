@@ -1,7 +1,7 @@
 -- `flow::number_quirks` meets its contract.
 use borrow.Author.Needs.{needs}
-use Rattle.flow.proofs.number_quirks.Statement.{statement}
-use Rattle.flow.proofs.number_quirks.Tie as tie
+use Rattle.tcp_header.proofs.number_quirks.Statement.{statement}
+use Rattle.tcp_header.proofs.number_quirks.Tie as tie
 
 returns : tie.Need-returns
 returns c =

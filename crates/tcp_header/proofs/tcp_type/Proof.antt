@@ -1,8 +1,8 @@
 -- `flow::tcp_type` meets its contract.
-use Rattle.flow.proofs.Flags.{masked-type}
+use Rattle.tcp_header.proofs.Flags.{masked-type}
 use borrow.Author.Needs.{needs}
-use Rattle.flow.proofs.tcp_type.Statement.{statement}
-use Rattle.flow.proofs.tcp_type.Tie as tie
+use Rattle.tcp_header.proofs.tcp_type.Statement.{statement}
+use Rattle.tcp_header.proofs.tcp_type.Tie as tie
 
 returns : tie.Need-returns
 returns c = masked-type _ (search needs)
