@@ -33,25 +33,29 @@ fn put_found(page: &mut [u8], at: usize, found: Found) -> usize
 {
     match found {
         Found::None => put_word(page, at, b"none\n"),
-        Found::Exact(hit) => put_numbered(page, at, b"exact ", hit.label),
-        Found::Fuzzy(hit, _) => put_numbered(page, at, b"fuzzy ", hit.label),
+        Found::Exact(hit) => {
+            let next = put_word(page, at, b"exact ");
+            put_number(page, next, hit.label)
+        }
+        Found::Fuzzy(hit, _) => {
+            let next = put_word(page, at, b"fuzzy ");
+            put_number(page, next, hit.label)
+        }
     }
-}
-
-// A word, what was found behind it, and the end of the line.
-fn put_found_behind(page: &mut [u8], at: usize, word: &[u8], found: Found) -> usize
-    ensures { λ r. ⌜ Put (now (page .entry)) at (now (word .entry) ++ foundText found ++ newline) r (now (page .exit)) ⌝ }
-{
-    let next = put_word(page, at, word);
-    put_found(page, next, found)
 }
 
 pub(crate) fn put_line(page: &mut [u8], at: usize, answer: PacketAnswer) -> usize
     ensures { λ r. ⌜ Put (now (page .entry)) at (lineOf answer) r (now (page .exit)) ⌝ }
 {
     match answer {
-        PacketAnswer::Syn(found) => put_found_behind(page, at, b"syn ", found),
-        PacketAnswer::SynAck(found) => put_found_behind(page, at, b"synack ", found),
+        PacketAnswer::Syn(found) => {
+            let next = put_word(page, at, b"syn ");
+            put_found(page, next, found)
+        }
+        PacketAnswer::SynAck(found) => {
+            let next = put_word(page, at, b"synack ");
+            put_found(page, next, found)
+        }
         PacketAnswer::Nothing => put_word(page, at, b"nothing\n"),
         PacketAnswer::Refused(refusal) => put_numbered(
             page,
