@@ -1,5 +1,5 @@
 pub mod BehindWord
+pub mod LetterLaws
 pub mod NumberLaws
 pub mod PlaceLaws
 pub mod Unique
-pub mod WordLaws

@@ -1,7 +1,7 @@
 -- What the fields' functions give: the readings of `signature_line`, from a place of the line on, with the place where they end.
 use Prim.Native.Nat.{ℕ, _+_}
 use mathlib.Core.Bool.{Bool, true, false, cond, _&&_}
-use mathlib.Core.List.{List, [], _∷_, _++_}
+use mathlib.Core.List.{List, [], _∷_}
 use lib.Dec.{eqb, ltb}
 use lib.ListN.{length, take, drop}
 use Rattle.basis.specs.Ascii.{ascii}
@@ -79,9 +79,6 @@ numeralAt max wanted form = stateAt (letters [] form (numeral max wanted) ∷ []
 abbrev pub wordAt : List ℕ → ℕ → List ℕ → ℕ → Piece
 wordAt word form = stateAt (letters word form nothing ∷ [])
 
-abbrev pub wordByteAt : List ℕ → ℕ → List ℕ → ℕ → Piece
-wordByteAt word form = stateAt (letters word form upTo255 ∷ [])
-
 abbrev pub eitherAt : List ℕ → ℕ → List ℕ → ℕ → List ℕ → ℕ → Piece
 eitherAt one form other other-form = stateAt (letters one form nothing ∷ letters other other-form nothing ∷ [])
 
@@ -93,10 +90,23 @@ plusAt = stateAt (letters [] 1 upTo255 ∷ letters (ascii "?") 2 nothing ∷ [])
 abbrev pub multipleAt : List ℕ → ℕ → Piece
 multipleAt = stateAt (letters (ascii "ss*") 3 upTo255 ∷ letters (ascii "tu*") 4 upTo255 ∷ [])
 
--- A word, then `+` or `-`.
-abbrev pub signedAt : List ℕ → ℕ → ℕ → List ℕ → ℕ → Piece
-signedAt word plus minus = eitherAt (word ++ ascii "+") plus (word ++ ascii "-") minus
+-- Behind the first `s` of an entry, and behind an `e` and a `u` of a quirk's name.
+abbrev pub behindS : List ℕ → ℕ → Piece
+behindS = eitherAt (ascii "ok") 4 (ascii "ack") 5
+
+abbrev pub behindE : List ℕ → ℕ → Piece
+behindE = eitherAt (ascii "cn") (bitOf quirk.Ecn) (ascii "xws") (bitOf quirk.ExcessiveWindowScaling)
+
+abbrev pub behindU : List ℕ → ℕ → Piece
+behindU = eitherAt (ascii "ptr+") (bitOf quirk.NonZeroURG) (ascii "rgf+") (bitOf quirk.Urg)
 
 -- Behind the `t` of a timestamp's quirk.
 abbrev pub stampAt : List ℕ → ℕ → Piece
 stampAt = eitherAt (ascii "s1-") (bitOf quirk.OwnTimestampZero) (ascii "s2+") (bitOf quirk.PeerTimestampNonZero)
+
+-- Behind a word that was read: a number up to 255; `+` or `-`.
+abbrev pub numberBehind : ℕ → List ℕ → Piece → Piece
+numberBehind form s word = cond (word .good) (numeralAt 255 any form s (word .at)) (noPiece (word .at))
+
+abbrev pub signBehind : ℕ → ℕ → List ℕ → Piece → Piece
+signBehind plus minus s word = cond (word .good) (eitherAt (ascii "+") plus (ascii "-") minus s (word .at)) (noPiece (word .at))
