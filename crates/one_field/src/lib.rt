@@ -15,12 +15,12 @@ use quirk_names::read_behind_e;
 use quirk_names::read_behind_u;
 use quirk_names::read_stamp;
 use quirk_names::sign_behind;
+use quirks::bits;
 use words::number_behind;
 use words::read_behind_s;
 use words::read_multiple;
 use words::read_ttl_form;
 
-mod bits;
 mod letters;
 mod numerals;
 mod quirk_names;
@@ -247,7 +247,7 @@ pub fn parse_quirk(s: &[u8], from: usize) -> Piece
         b'u' => read_behind_u(s, next),
         b'p' => five_letters(s, next, b'u', b's', b'h', b'f', b'+', bits::PUSH),
         b't' => read_stamp(s, next),
-        b'o' => three_letters(s, next, b'p', b't', b'+', bits::TRAILING_NON_ZERO),
+        b'o' => three_letters(s, next, b'p', b't', b'+', bits::TRAILINIG_NON_ZERO),
         b'b' => two_letters(s, next, b'a', b'd', bits::OPT_BAD),
         _ => no_piece(from),
     }

@@ -2,7 +2,6 @@
 ghost use mathlib.Core.Path.{_≡_};
 ghost use Rattle.one_field.specs.Places.{behindE, behindU, stampAt, signBehind};
 use crate::Piece;
-use crate::bits;
 use crate::letters::four_letters;
 use crate::letters::one_letter;
 use crate::letters::stands;
@@ -10,6 +9,7 @@ use crate::letters::three_letters;
 use crate::letters::two_letters;
 use crate::no_piece;
 use crate::whole;
+use quirks::bits;
 
 // `+` or `-`, behind a word that was read.
 pub(crate) fn sign_behind(s: &[u8], word: Piece, plus: u32, minus: u32) -> Piece
