@@ -41,10 +41,11 @@ returns-2 : tie.Need-returns-2
 returns-2 c =
     let at-header = c .before .before .before in
     let facts = at-header .before .before .before .facts in
+    let handed = sym (at-header .before .before .before .before .before .read-ip .ensures) ∙ facts .given .1 in
     let a = at-header .before .before .before .before .before .before .before .args in
     rw (
       c .refuse2 .ensures,
-      refused-14 (a .mode) _ _ (a .peer-mss) _ (sym (at-header .before .before .before .before .before .read-ip .ensures) ∙ facts .given .1)
+      refused-14 (a .mode) _ _ (a .peer-mss) _ handed
           (at-header .header-bytes .ensures) (sym (c .before .before .sets-aside .ensures) ∙ c .before .if1 .taken),
     )
 
@@ -70,14 +71,15 @@ returns-3 c =
     let at-type = c .before .before .before in
     let at-header = at-type .before .before .before .before in
     let facts = at-header .before .before .before .facts in
+    let handed = sym (at-header .before .before .before .before .before .read-ip .ensures) ∙ facts .given .1 in
     let a = at-header .before .before .before .before .before .before .before .args in
     let byte = at-type .before .shared-slice-known2 .given 13 in
+    let kept = sym (at-type .before .before .before .sets-aside .ensures) ∙ at-type .before .before .if1 .left in
     rw (
       c .observe .ensures,
       c .before .opening-answer .ensures,
       at-type .tcp-type .ensures,
-      read-on (a .mode) _ _ (a .peer-mss) _ (sym (at-header .before .before .before .before .before .read-ip .ensures) ∙ facts .given .1)
-          (at-header .header-bytes .ensures) (sym (at-type .before .before .before .sets-aside .ensures) ∙ at-type .before .before .if1 .left),
+      read-on (a .mode) _ _ (a .peer-mss) _ handed (at-header .header-bytes .ensures) kept,
     )
     (opening-read (facts .given .0 .0) _ _ (omega arith) (rw (← at-type .tcp-type .ensures) (c .before .before .if2 .taken)))
 
@@ -86,12 +88,13 @@ returns-4 c =
     let at-type = c .before .before .before .before in
     let at-header = at-type .before .before .before .before in
     let facts = at-header .before .before .before .facts in
+    let handed = sym (at-header .before .before .before .before .before .read-ip .ensures) ∙ facts .given .1 in
     let a = at-header .before .before .before .before .before .before .before .args in
     let valid = c .before .before .is-valid in
+    let kept = sym (at-type .before .before .before .sets-aside .ensures) ∙ at-type .before .before .if1 .left in
     rw (
       c .nothing .ensures,
-      read-on (a .mode) _ _ (a .peer-mss) _ (sym (at-header .before .before .before .before .before .read-ip .ensures) ∙ facts .given .1)
-          (at-header .header-bytes .ensures) (sym (at-type .before .before .before .sets-aside .ensures) ∙ at-type .before .before .if1 .left),
+      read-on (a .mode) _ _ (a .peer-mss) _ handed (at-header .header-bytes .ensures) kept,
     )
     (nothing-read _ _ _ (not-true _ (sym (valid .ensures) ∙ c .before .if3 .taken))
     (rw (← at-type .tcp-type .ensures) (c .before .before .before .if2 .left)))
@@ -101,12 +104,13 @@ returns-5 c =
     let at-type = c .before .before .before .before in
     let at-header = at-type .before .before .before .before in
     let facts = at-header .before .before .before .facts in
+    let handed = sym (at-header .before .before .before .before .before .read-ip .ensures) ∙ facts .given .1 in
     let a = at-header .before .before .before .before .before .before .before .args in
     let valid = c .before .before .is-valid in
+    let kept = sym (at-type .before .before .before .sets-aside .ensures) ∙ at-type .before .before .if1 .left in
     rw (
       c .refuse3 .ensures,
-      read-on (a .mode) _ _ (a .peer-mss) _ (sym (at-header .before .before .before .before .before .read-ip .ensures) ∙ facts .given .1)
-          (at-header .header-bytes .ensures) (sym (at-type .before .before .before .sets-aside .ensures) ∙ at-type .before .before .if1 .left),
+      read-on (a .mode) _ _ (a .peer-mss) _ handed (at-header .header-bytes .ensures) kept,
     )
     (refused-7 _ _ _ (not-false _ (sym (valid .ensures) ∙ c .before .if3 .left)))
 
@@ -115,5 +119,5 @@ read-packet-in-spec =
     tie.close
     (tie.spec (λ c κs. search needs) (λ c. search needs) (λ c κs. search needs) returns (λ c. search needs) sub-tcp part-tcp-start
     part-tcp-end header-bytes-requires (λ c. search needs) (λ c κs. search needs) (λ c κs. search needs) returns-2 shared-slice-read-flags
-    (λ c κs. search needs) (λ c κs. search needs) observe-requires returns-3 (λ c κs. search needs) (λ c κs. search needs) returns-4 (λ c κs. search needs)
-    returns-5)
+    (λ c κs. search needs) (λ c κs. search needs) observe-requires returns-3 (λ c κs. search needs) (λ c κs. search needs) returns-4
+    (λ c κs. search needs) returns-5)
