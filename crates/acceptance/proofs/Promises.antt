@@ -20,6 +20,7 @@ use Rattle.acceptance.proofs.Promises.matching as matching'
 use Rattle.acceptance.proofs.Promises.siglist as siglist'
 use Rattle.acceptance.proofs.Promises.found as found'
 use Rattle.acceptance.proofs.Promises.search as search'
+use Rattle.acceptance.proofs.Promises.numerals as numerals'
 use Rattle.acceptance.proofs.Promises.one_field as one-field'
 use Rattle.acceptance.proofs.Promises.parse_tcp as parse-tcp'
 use Rattle.acceptance.proofs.Promises.packet_answer as packet-answer'
@@ -45,6 +46,7 @@ pub mod matching
 pub mod siglist
 pub mod found
 pub mod search
+pub mod numerals
 pub mod one_field
 pub mod parse_tcp
 pub mod packet_answer
@@ -74,6 +76,7 @@ each-crate =
       siglist = siglist'.promises;
       found = found'.promises;
       search = search'.promises;
+      numerals = numerals'.promises;
       one-field = one-field'.promises;
       parse-tcp = parse-tcp'.promises;
       packet-answer = packet-answer'.promises;

@@ -19,6 +19,7 @@ use Rattle.acceptance.specs.Promises.matching as matching'
 use Rattle.acceptance.specs.Promises.siglist as siglist'
 use Rattle.acceptance.specs.Promises.found as found'
 use Rattle.acceptance.specs.Promises.search as search'
+use Rattle.acceptance.specs.Promises.numerals as numerals'
 use Rattle.acceptance.specs.Promises.one_field as one-field'
 use Rattle.acceptance.specs.Promises.parse_tcp as parse-tcp'
 use Rattle.acceptance.specs.Promises.packet_answer as packet-answer'
@@ -44,6 +45,7 @@ pub mod matching
 pub mod siglist
 pub mod found
 pub mod search
+pub mod numerals
 pub mod one_field
 pub mod parse_tcp
 pub mod packet_answer
@@ -71,6 +73,7 @@ pub record EachCrate : Type 0 where
   pub siglist : siglist'.Promises
   pub found : found'.Promises
   pub search : search'.Promises
+  pub numerals : numerals'.Promises
   pub one-field : one-field'.Promises
   pub parse-tcp : parse-tcp'.Promises
   pub packet-answer : packet-answer'.Promises

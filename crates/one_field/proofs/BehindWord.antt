@@ -11,8 +11,9 @@ use borrow.Author.Tests.{not-true, not-false}
 use Rattle.grammar.specs.Reading.{Read, later}
 use Rattle.grammar.specs.States.{Awaited, letters, after, run, left, done, statesRead}
 use Rattle.grammar.specs.Table.{Tail, nothing, Row, row, Said, said}
-use Rattle.one_field.specs.declared.Piece.{Piece}
-use Rattle.one_field.specs.Places.{piece, noPiece, pieceOf, stateAt, wordAt}
+use Rattle.numerals.specs.declared.Piece.{Piece}
+use Rattle.numerals.specs.Pieces.{piece, noPiece, pieceOf, stateAt}
+use Rattle.one_field.specs.Places.{wordAt}
 
 -- Rows that all begin with a word.
 abbrev pub prefixed : List ℕ → List Row → List Awaited

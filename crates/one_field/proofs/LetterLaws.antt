@@ -12,8 +12,9 @@ use Rattle.basis.specs.Bytes.{byteAt}
 use Rattle.basis.proofs.Tests.{and-left, and-right}
 use Rattle.grammar.specs.States.{Awaited, letters, after, isNil, done}
 use Rattle.grammar.specs.Table.{nothing}
-use Rattle.one_field.specs.declared.Piece.{Piece}
-use Rattle.one_field.specs.Places.{noPiece, wholePiece, stateAt, wordAt, eitherAt}
+use Rattle.numerals.specs.declared.Piece.{Piece}
+use Rattle.numerals.specs.Pieces.{noPiece, stateAt}
+use Rattle.one_field.specs.Places.{wholePiece, wordAt, eitherAt}
 use Rattle.one_field.proofs.PlaceLaws.{ends, stays, narrow-here, goes-on, one-byte}
 
 none : (s : List ℕ) (at : ℕ) → stateAt [] s at ≡ noPiece at

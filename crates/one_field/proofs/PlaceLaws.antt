@@ -15,9 +15,10 @@ use Rattle.grammar.specs.Reading.{Read, later}
 use Rattle.grammar.specs.States.{Awaited, letters, after, isNil, run, left, Done, done, statesRead}
 use Rattle.grammar.specs.Table.{nothing, Row, Said}
 use Rattle.signature_line.specs.Words.{bareByte, ttlForm}
-use Rattle.one_field.specs.declared.Piece.{Piece}
+use Rattle.numerals.specs.declared.Piece.{Piece}
 use Rattle.one_field.specs.declared.LinePlace.{LinePlace}
-use Rattle.one_field.specs.Places.{piece, noPiece, pieceOf, stateAt, pieceAt, wordAt}
+use Rattle.numerals.specs.Pieces.{piece, noPiece, pieceOf, stateAt}
+use Rattle.one_field.specs.Places.{pieceAt, wordAt}
 use Rattle.one_field.specs.Places.{place, fieldAt, behindAt, noTtl, ttlPiece, ttlAt}
 
 -- ---- a reading, one byte at a time

@@ -3,38 +3,24 @@ use Prim.Native.Nat.{ℕ, _+_}
 use mathlib.Core.Bool.{Bool, true, false, cond, _&&_}
 use mathlib.Core.List.{List, [], _∷_}
 use lib.Dec.{eqb, ltb}
-use lib.ListN.{length, take, drop}
+use lib.ListN.{length}
 use Rattle.basis.specs.Ascii.{ascii}
 use Rattle.basis.specs.Bytes.{byteAt}
 use Rattle.quirks.specs.declared.Quirk.the-variants as quirk
 use Rattle.quirks.specs.Quirks.{bitOf}
-use Rattle.grammar.specs.Numeral.{any, decimalValue}
-use Rattle.grammar.specs.Reading.{Read}
-use Rattle.grammar.specs.States.{Awaited, letters, start, span, statesRead}
-use Rattle.grammar.specs.Table.{nothing, numeral, Row, row, Said}
+use Rattle.grammar.specs.Numeral.{any}
+use Rattle.grammar.specs.States.{letters, start}
+use Rattle.grammar.specs.Table.{nothing, numeral, Row, row}
 use Rattle.signature_line.specs.Words.{upTo255, bareByte, ttlForm}
-use Rattle.one_field.specs.declared.Piece.{Piece}
+use Rattle.numerals.specs.Pieces.{piece, noPiece, stateAt, numeralAt}
+use Rattle.numerals.specs.declared.Piece.{Piece}
 use Rattle.one_field.specs.declared.LinePlace.{LinePlace}
 use Rattle.one_field.specs.declared.TtlPiece.{TtlPiece}
-use Rattle.one_field.specs.declared.numerals.Taken.{Taken}
 
 -- ---- a field
 
-abbrev pub piece : ℕ → Bool → ℕ → ℕ → Piece
-piece at good form number = record { at = at; good = good; form = form; number = number }
-
-abbrev pub noPiece : ℕ → Piece
-noPiece at = piece at false 0 0
-
 abbrev pub wholePiece : ℕ → ℕ → Piece
 wholePiece at form = piece at true form 0
-
-unfoldable pub pieceOf : ℕ → Read Said → Piece
-pieceOf at x = piece (at + x .count) (x .good) (x .value .form) (x .value .number)
-
--- What is awaited at a place, and a table.
-unfoldable pub stateAt : List Awaited → List ℕ → ℕ → Piece
-stateAt states s at = pieceOf at (statesRead states (drop at s))
 
 abbrev pub pieceAt : List Row → List ℕ → ℕ → Piece
 pieceAt rows = stateAt (start rows)
@@ -67,14 +53,6 @@ ttlAt s from =
     cond (ttl .good) (ttlPiece ttl (pieceAt ttlForm s (ttl .at))) (noTtl (ttl .at))
 
 -- ---- parts of a field
-
--- A number that is n so far: where it stops, and the number.
-unfoldable pub numberFrom : ℕ → ℕ → List ℕ → ℕ → Taken
-numberFrom max n s i =
-    record { at = i + span max n (drop i s); value = decimalValue n (take (span max n (drop i s)) (drop i s)) }
-
-abbrev pub numeralAt : ℕ → (ℕ → Bool) → ℕ → List ℕ → ℕ → Piece
-numeralAt max wanted form = stateAt (letters [] form (numeral max wanted) ∷ [])
 
 abbrev pub wordAt : List ℕ → ℕ → List ℕ → ℕ → Piece
 wordAt word form = stateAt (letters word form nothing ∷ [])

@@ -6,9 +6,9 @@ ghost use lib.Dec.{eqb, ltb};
 ghost use lib.ListN.{length};
 ghost use Rattle.basis.specs.Bytes.{byteAt};
 ghost use Rattle.one_field.specs.Places.{wordAt};
-use crate::Piece;
-use crate::no_piece;
 use crate::whole;
+use numerals::Piece;
+use numerals::no_piece;
 
 // A byte stands at a place.
 pub(crate) fn stands(s: &[u8], at: usize, byte: u8) -> bool

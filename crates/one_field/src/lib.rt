@@ -1,14 +1,15 @@
 // The fields of a signature line, one by one (parse/tcp.rs): each read from a place on, in one pass and with no way back. `nom` becomes an
 // index walk; a number is held against its field digit by digit, and refuses where it stands.
 ghost use mathlib.Core.Path.{_≡_};
-ghost use Prim.Native.Nat.{_≤_};
 ghost use Rattle.signature_line.specs.Words.{version, bareByte, mss, window, scale, entry, quirkWord, payload};
-ghost use Rattle.one_field.specs.Places.{noPiece, wholePiece, starred, behindAt, pieceAt, fieldAt, ttlAt};
+ghost use Rattle.one_field.specs.Places.{wholePiece, starred, behindAt, pieceAt, fieldAt, ttlAt};
 use letters::five_letters;
 use letters::one_letter;
 use letters::stands;
 use letters::three_letters;
 use letters::two_letters;
+use numerals::Piece;
+use numerals::no_piece;
 use numerals::read_numeral;
 use numerals::read_unnamed;
 use quirk_names::read_behind_e;
@@ -22,7 +23,6 @@ use words::read_multiple;
 use words::read_ttl_form;
 
 mod letters;
-mod numerals;
 mod quirk_names;
 mod words;
 
@@ -32,15 +32,6 @@ pub struct LinePlace {
     pub good: bool,
 }
 
-// What a field says: where it ends, whether it means something, its code in a record, and the number that stands with it. A field that
-// means nothing ends where no line goes on.
-pub struct Piece {
-    pub at: usize,
-    pub good: bool,
-    pub form: u32,
-    pub number: u32,
-}
-
 // A TTL: its number, and its form with the distance.
 pub struct TtlPiece {
     pub at: usize,
@@ -48,18 +39,6 @@ pub struct TtlPiece {
     pub ttl: u32,
     pub form: u32,
     pub distance: u32,
-}
-
-// Nothing is meant up to this place.
-pub(crate) fn no_piece(at: usize) -> Piece
-    ensures { λ r. ⌜ r ≡ noPiece at ⌝ }
-{
-    Piece {
-        at: at,
-        good: false,
-        form: 0,
-        number: 0,
-    }
 }
 
 // A word that ends at this place.
@@ -148,8 +127,7 @@ pub fn parse_ttl(s: &[u8], from: LinePlace) -> TtlPiece
 }
 
 // `*`, or a number up to a bound.
-fn read_starred(s: &[u8], from: LinePlace, max: u32) -> Piece
-    requires { ⌜ max ≤ 65535 ⌝ }
+fn read_starred(s: &[u8], from: LinePlace, max: u16) -> Piece
     ensures { λ r. ⌜ r ≡ fieldAt (starred max) (now (s .entry)) from ⌝ }
 {
     let at = from.at;

@@ -1,14 +1,14 @@
 // Names of quirks that begin alike.
 ghost use mathlib.Core.Path.{_≡_};
 ghost use Rattle.one_field.specs.Places.{behindE, behindU, stampAt, signBehind};
-use crate::Piece;
 use crate::letters::four_letters;
 use crate::letters::one_letter;
 use crate::letters::stands;
 use crate::letters::three_letters;
 use crate::letters::two_letters;
-use crate::no_piece;
 use crate::whole;
+use numerals::Piece;
+use numerals::no_piece;
 use quirks::bits;
 
 // `+` or `-`, behind a word that was read.

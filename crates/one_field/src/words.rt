@@ -2,14 +2,14 @@
 ghost use mathlib.Core.Path.{_≡_};
 ghost use Rattle.signature_line.specs.Words.{ttlForm};
 ghost use Rattle.one_field.specs.Places.{pieceAt, numberBehind, behindS, plusAt, multipleAt};
-use crate::Piece;
 use crate::letters::one_letter;
 use crate::letters::stands;
 use crate::letters::three_letters;
 use crate::letters::two_letters;
-use crate::no_piece;
-use crate::numerals::read_numeral;
 use crate::whole;
+use numerals::Piece;
+use numerals::no_piece;
+use numerals::read_numeral;
 
 // A number up to 255, behind a word that was read.
 pub(crate) fn number_behind(s: &[u8], word: Piece, form: u32) -> Piece

@@ -4,7 +4,7 @@ use mathlib.Core.Bool.{true}
 use mathlib.Core.List.{List, [], _∷_}
 use Rattle.signature_line.specs.Line.{colon, comma}
 use Rattle.signature_line.specs.Words.{version, bareByte, mss, window, scale, payload}
-use Rattle.one_field.specs.declared.Piece.{Piece}
+use Rattle.numerals.specs.declared.Piece.{Piece}
 use Rattle.one_field.specs.declared.TtlPiece.{TtlPiece}
 use Rattle.one_field.specs.Places.{place, behindAt, fieldAt, ttlAt}
 use Rattle.parse_tcp.specs.declared.layout.LayoutPiece.{LayoutPiece}

@@ -1,10 +1,10 @@
--- `one_field::numerals::read_numeral` meets its contract.
+-- `numerals::read_numeral` meets its contract.
 use mathlib.Core.Path.{_∙_}
 use Rattle.grammar.specs.Numeral.{any}
-use Rattle.one_field.proofs.NumberLaws.{gave-none, gave-wanted, all-wanted}
+use Rattle.numerals.proofs.NumberLaws.{gave-none, gave-wanted, all-wanted}
 use borrow.Author.Needs.{needs}
-use Rattle.one_field.proofs.numerals.read_numeral.Statement.{statement}
-use Rattle.one_field.proofs.numerals.read_numeral.Tie as tie
+use Rattle.numerals.proofs.read_numeral.Statement.{statement}
+use Rattle.numerals.proofs.read_numeral.Tie as tie
 
 returns : tie.Need-returns
 returns c =

@@ -1,8 +1,8 @@
--- `one_field::numerals::is_unnamed` meets its contract.
+-- `numerals::is_unnamed` meets its contract.
 use Rattle.basis.proofs.Rules.{cases}
 use Rattle.signature_line.specs.Words.{unnamed}
-use Rattle.one_field.proofs.numerals.is_unnamed.Statement.{statement}
-use Rattle.one_field.proofs.numerals.is_unnamed.Tie as tie
+use Rattle.numerals.proofs.is_unnamed.Statement.{statement}
+use Rattle.numerals.proofs.is_unnamed.Tie as tie
 
 returns : tie.Need-returns
 unfolding unnamed

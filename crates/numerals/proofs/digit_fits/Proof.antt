@@ -1,9 +1,9 @@
--- `one_field::numerals::digit_fits` meets its contract.
+-- `numerals::digit_fits` meets its contract.
 use Rattle.basis.proofs.Rules.{cases}
 use Rattle.grammar.specs.States.{fits}
 use borrow.Author.Needs.{needs}
-use Rattle.one_field.proofs.numerals.digit_fits.Statement.{statement}
-use Rattle.one_field.proofs.numerals.digit_fits.Tie as tie
+use Rattle.numerals.proofs.digit_fits.Statement.{statement}
+use Rattle.numerals.proofs.digit_fits.Tie as tie
 
 returns : tie.Need-returns
 unfolding fits

@@ -1,14 +1,14 @@
--- `one_field::numerals::read_number` meets its contract.
+-- `numerals::read_number` meets its contract.
 use Prim.Native.Nat.{_≤_, _-_}
 use mathlib.Core.Path.{_≡_, refl, _∙_}
 use native.Mathlib.Omega.{arith}
 use lib.ListN.{length}
 use Rattle.basis.specs.Bytes.{byteAt}
-use Rattle.one_field.specs.Places.{numberFrom}
-use Rattle.one_field.proofs.NumberLaws.{turn, stop, finish, passed, failed, bounds}
+use Rattle.numerals.specs.Pieces.{numberFrom}
+use Rattle.numerals.proofs.NumberLaws.{turn, stop, finish, passed, failed, bounds}
 use borrow.Author.Needs.{needs}
-use Rattle.one_field.proofs.numerals.read_number.Statement.{statement}
-use Rattle.one_field.proofs.numerals.read_number.Tie as tie
+use Rattle.numerals.proofs.read_number.Statement.{statement}
+use Rattle.numerals.proofs.read_number.Tie as tie
 
 abbrev Inv-loop : tie.InvT-loop
 Inv-loop s from max i₀ n₀ i n = (n ≤ max) × (numberFrom max n s i ≡ numberFrom max 0 s from)

@@ -14,8 +14,8 @@ use Rattle.grammar.specs.Reading.{Read}
 use Rattle.grammar.specs.States.{fits, span, Awaited, letters, digits, after, run, left, Done, done, statesRead}
 use Rattle.grammar.specs.Table.{numeral, Said, said}
 use Rattle.grammar.proofs.Numerals.{fits-digit}
-use Rattle.one_field.specs.declared.numerals.Taken.{Taken}
-use Rattle.one_field.specs.Places.{piece, noPiece, pieceOf, stateAt, numberFrom, numeralAt}
+use Rattle.numerals.specs.declared.Taken.{Taken}
+use Rattle.numerals.specs.Pieces.{piece, noPiece, pieceOf, stateAt, numberFrom, numeralAt}
 
 -- ---- the loop
 

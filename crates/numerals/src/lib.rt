@@ -1,12 +1,31 @@
-// Numbers in decimal, held against their bound digit by digit.
+// The numbers of a signature line (parse/tcp.rs), in decimal, held against their bound digit by digit.
 ghost use mathlib.Core.Path.{_≡_};
 ghost use Prim.Native.Nat.{_≤_};
 ghost use Rattle.grammar.specs.States.{fits};
 ghost use Rattle.signature_line.specs.Words.{unnamed};
-ghost use Rattle.one_field.specs.Places.{numberFrom, numeralAt};
+ghost use Rattle.numerals.specs.Pieces.{noPiece, numberFrom, numeralAt};
 ghost use Rattle.grammar.specs.Numeral.{any};
-use crate::Piece;
-use crate::no_piece;
+
+// What a field of a line, or a part of one, says: where it ends, whether it means something, its code in a record, and the number that
+// stands with it. What means nothing ends where no line goes on.
+pub struct Piece {
+    pub at: usize,
+    pub good: bool,
+    pub form: u32,
+    pub number: u32,
+}
+
+// Nothing is meant up to this place.
+pub fn no_piece(at: usize) -> Piece
+    ensures { λ r. ⌜ r ≡ noPiece at ⌝ }
+{
+    Piece {
+        at: at,
+        good: false,
+        form: 0,
+        number: 0,
+    }
+}
 
 // Where a number stopped, and the number.
 pub struct Taken {
@@ -47,11 +66,10 @@ fn read_number(s: &[u8], from: usize, max: u32) -> Taken
 }
 
 // A number up to a bound, at least one digit of it.
-pub(crate) fn read_numeral(s: &[u8], from: usize, max: u32, form: u32) -> Piece
-    requires { ⌜ max ≤ 65535 ⌝ }
+pub fn read_numeral(s: &[u8], from: usize, max: u16, form: u32) -> Piece
     ensures { λ r. ⌜ r ≡ numeralAt max any form (now (s .entry)) from ⌝ }
 {
-    let number = read_number(s, from, max);
+    let number = read_number(s, from, max as u32);
     if number.at == from {
         return no_piece(from);
     }
@@ -74,7 +92,7 @@ fn is_unnamed(kind: u32) -> bool
 }
 
 // A kind without a name. A named one is refused behind its digits: `?2` goes on to `?20`.
-pub(crate) fn read_unnamed(s: &[u8], from: usize) -> Piece
+pub fn read_unnamed(s: &[u8], from: usize) -> Piece
     ensures { λ r. ⌜ r ≡ numeralAt 255 unnamed 6 (now (s .entry)) from ⌝ }
 {
     let number = read_number(s, from, 255);

@@ -1,11 +1,11 @@
--- `one_field::numerals::read_unnamed` meets its contract.
+-- `numerals::read_unnamed` meets its contract.
 use mathlib.Core.Path.{sym, _∙_}
 use borrow.Author.Tests.{not-true, not-false}
 use Rattle.signature_line.specs.Words.{unnamed}
-use Rattle.one_field.proofs.NumberLaws.{gave-none, gave-unwanted, gave-wanted}
+use Rattle.numerals.proofs.NumberLaws.{gave-none, gave-unwanted, gave-wanted}
 use borrow.Author.Needs.{needs}
-use Rattle.one_field.proofs.numerals.read_unnamed.Statement.{statement}
-use Rattle.one_field.proofs.numerals.read_unnamed.Tie as tie
+use Rattle.numerals.proofs.read_unnamed.Statement.{statement}
+use Rattle.numerals.proofs.read_unnamed.Tie as tie
 
 returns : tie.Need-returns
 returns c =
