@@ -34,8 +34,9 @@ use Rattle.ip.proofs.Ip.{Given, given}
 use Rattle.flow.specs.declared.Answer.{Answer}
 use Rattle.flow.specs.declared.Answer.the-variants as answer
 use Rattle.flow.specs.declared.Reading.{Reading}
-use Rattle.flow.specs.Flags.{flagsInvalid, isSynType, isSynAckType}
-use Rattle.flow.specs.Tcp.{headerQuirks, quirksOfHeaders, observationOf, observationFrom, knownPeer, readTcp}
+use Rattle.tcp_header.specs.Flags.{flagsInvalid, isSynType, isSynAckType}
+use Rattle.flow.specs.Tcp.{quirksOfHeaders, observationOf, observationFrom, knownPeer, readTcp}
+use Rattle.tcp_header.specs.HeaderQuirks.{headerQuirks}
 use Rattle.flow.specs.Reading.{afterIp, readPacket}
 use Rattle.flow.specs.Peer.{peerBeside}
 use Rattle.flow.proofs.Observed.{sound}

@@ -16,8 +16,9 @@ use Rattle.one_option.specs.See.{laterMss, laterScale, trailingNonzero, excessi
 use Rattle.one_option.specs.See.{laterQuirks, seeOption}
 use Rattle.syn_options.specs.Walk.{entryByte, putEntry, walkFrom, walkOf}
 use Rattle.ip.specs.Ip.{ipv4Quirks, ipv4Facts, readIpv4, readIp}
-use Rattle.flow.specs.Flags.{maskedType, flagsInvalid, isSynType}
-use Rattle.flow.specs.Tcp.{headerQuirks, quirksOfHeaders, payloadClass, observationOf, observationFrom, readTcp}
+use Rattle.tcp_header.specs.Flags.{maskedType, flagsInvalid, isSynType}
+use Rattle.flow.specs.Tcp.{quirksOfHeaders, payloadClass, observationOf, observationFrom, readTcp}
+use Rattle.tcp_header.specs.HeaderQuirks.{headerQuirks}
 use Rattle.flow.specs.Modes.{readIn}
 use Rattle.distances.specs.DistanceGates.{versionMatches, windowMatches, payloadMatches}
 use Rattle.distances.specs.Distances.{ttlFit}

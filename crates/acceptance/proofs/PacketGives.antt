@@ -19,7 +19,7 @@ use Rattle.ip.specs.Ip.{ipv4Facts, ipv6Facts}
 use Rattle.ip.proofs.Ip.{Given, given}
 use Rattle.flow.specs.declared.Answer.the-variants as answer
 use Rattle.flow.specs.declared.Reading.{Reading}
-use Rattle.flow.specs.Flags.{maskedType, flagsInvalid, isSynType, isSynAckType}
+use Rattle.tcp_header.specs.Flags.{maskedType, flagsInvalid, isSynType, isSynAckType}
 use Rattle.flow.specs.declared.Mode.{Mode}
 use Rattle.flow.specs.Tcp.{readTcp}
 use Rattle.flow.specs.Strict.{contradictsItself, readTcpStrict}

@@ -14,7 +14,7 @@ use Rattle.rfc.specs.Rfc791 as v4
 use Rattle.rfc.specs.Rfc8200 as v6
 use Rattle.rfc.specs.Rfc9293 as tcp
 use Rattle.tcp.specs.declared.Mss.{Mss}
-use Rattle.flow.specs.Flags.{maskedType, flagsInvalid}
+use Rattle.tcp_header.specs.Flags.{maskedType, flagsInvalid}
 use Rattle.flow.specs.declared.Mode.{Mode}
 use Rattle.flow.specs.Strict.{contradictsItself}
 use Rattle.flow.specs.Modes.{plainMode, readIn}

@@ -14,7 +14,7 @@ use Rattle.refusals.specs.declared.ListRefusal.the-variants as why
 use Rattle.refusals.specs.Refusals.{packetNumber, packetRefused}
 use Rattle.ip.specs.Ip.{readIp}
 use Rattle.ip.proofs.Ip.{Given, given}
-use Rattle.flow.specs.Flags.{flagsInvalid}
+use Rattle.tcp_header.specs.Flags.{flagsInvalid}
 use Rattle.flow.specs.Tcp.{readTcp}
 use Rattle.flow.specs.Modes.{plainMode}
 use Rattle.flow.specs.Reading.{tcpPart, afterIp, readPacket, refusalOf}

@@ -9,6 +9,7 @@ use Rattle.acceptance.proofs.Promises.ttl as ttl'
 use Rattle.acceptance.proofs.Promises.window_size as window-size'
 use Rattle.acceptance.proofs.Promises.ip_options as ip-options'
 use Rattle.acceptance.proofs.Promises.observable as observable'
+use Rattle.acceptance.proofs.Promises.tcp_header as tcp-header'
 use Rattle.acceptance.proofs.Promises.one_option as one-option'
 use Rattle.acceptance.proofs.Promises.syn_options as syn-options'
 use Rattle.acceptance.proofs.Promises.ip as ip'
@@ -19,6 +20,7 @@ use Rattle.acceptance.proofs.Promises.matching as matching'
 use Rattle.acceptance.proofs.Promises.siglist as siglist'
 use Rattle.acceptance.proofs.Promises.found as found'
 use Rattle.acceptance.proofs.Promises.search as search'
+use Rattle.acceptance.proofs.Promises.numerals as numerals'
 use Rattle.acceptance.proofs.Promises.one_field as one-field'
 use Rattle.acceptance.proofs.Promises.parse_tcp as parse-tcp'
 use Rattle.acceptance.proofs.Promises.packet_answer as packet-answer'
@@ -33,6 +35,7 @@ pub mod ttl
 pub mod window_size
 pub mod ip_options
 pub mod observable
+pub mod tcp_header
 pub mod one_option
 pub mod syn_options
 pub mod ip
@@ -43,6 +46,7 @@ pub mod matching
 pub mod siglist
 pub mod found
 pub mod search
+pub mod numerals
 pub mod one_field
 pub mod parse_tcp
 pub mod packet_answer
@@ -61,6 +65,7 @@ each-crate =
       window-size = window-size'.promises;
       ip-options = ip-options'.promises;
       observable = observable'.promises;
+      tcp-header = tcp-header'.promises;
       one-option = one-option'.promises;
       syn-options = syn-options'.promises;
       ip = ip'.promises;
@@ -71,6 +76,7 @@ each-crate =
       siglist = siglist'.promises;
       found = found'.promises;
       search = search'.promises;
+      numerals = numerals'.promises;
       one-field = one-field'.promises;
       parse-tcp = parse-tcp'.promises;
       packet-answer = packet-answer'.promises;

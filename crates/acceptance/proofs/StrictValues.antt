@@ -2,7 +2,7 @@
 use mathlib.Core.Path.{refl}
 use Rattle.basis.specs.Bytes.{be16, be32}
 use Rattle.ip.specs.Ip.{ipv4Facts, readIpv4, ipv6Facts, readIpv6, readIp}
-use Rattle.flow.specs.Flags.{maskedType, flagsInvalid, isSynType, isSynAckType}
+use Rattle.tcp_header.specs.Flags.{maskedType, flagsInvalid, isSynType, isSynAckType}
 use Rattle.flow.specs.Tcp.{readTcp}
 use Rattle.flow.specs.Strict.{contradictsItself, readTcpStrict}
 use Rattle.flow.specs.Modes.{readIn}

@@ -8,6 +8,7 @@ use Rattle.acceptance.specs.Promises.ttl as ttl'
 use Rattle.acceptance.specs.Promises.window_size as window-size'
 use Rattle.acceptance.specs.Promises.ip_options as ip-options'
 use Rattle.acceptance.specs.Promises.observable as observable'
+use Rattle.acceptance.specs.Promises.tcp_header as tcp-header'
 use Rattle.acceptance.specs.Promises.one_option as one-option'
 use Rattle.acceptance.specs.Promises.syn_options as syn-options'
 use Rattle.acceptance.specs.Promises.ip as ip'
@@ -18,6 +19,7 @@ use Rattle.acceptance.specs.Promises.matching as matching'
 use Rattle.acceptance.specs.Promises.siglist as siglist'
 use Rattle.acceptance.specs.Promises.found as found'
 use Rattle.acceptance.specs.Promises.search as search'
+use Rattle.acceptance.specs.Promises.numerals as numerals'
 use Rattle.acceptance.specs.Promises.one_field as one-field'
 use Rattle.acceptance.specs.Promises.parse_tcp as parse-tcp'
 use Rattle.acceptance.specs.Promises.packet_answer as packet-answer'
@@ -32,6 +34,7 @@ pub mod ttl
 pub mod window_size
 pub mod ip_options
 pub mod observable
+pub mod tcp_header
 pub mod one_option
 pub mod syn_options
 pub mod ip
@@ -42,6 +45,7 @@ pub mod matching
 pub mod siglist
 pub mod found
 pub mod search
+pub mod numerals
 pub mod one_field
 pub mod parse_tcp
 pub mod packet_answer
@@ -58,6 +62,7 @@ pub record EachCrate : Type 0 where
   pub window-size : window-size'.Promises
   pub ip-options : ip-options'.Promises
   pub observable : observable'.Promises
+  pub tcp-header : tcp-header'.Promises
   pub one-option : one-option'.Promises
   pub syn-options : syn-options'.Promises
   pub ip : ip'.Promises
@@ -68,6 +73,7 @@ pub record EachCrate : Type 0 where
   pub siglist : siglist'.Promises
   pub found : found'.Promises
   pub search : search'.Promises
+  pub numerals : numerals'.Promises
   pub one-field : one-field'.Promises
   pub parse-tcp : parse-tcp'.Promises
   pub packet-answer : packet-answer'.Promises

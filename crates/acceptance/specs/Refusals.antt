@@ -25,7 +25,7 @@ use Rattle.refusals.specs.Refusals.{packetNumber}
 use Rattle.flow.specs.declared.Answer.the-variants as answer
 use Rattle.flow.specs.declared.Mode.{Mode}
 use Rattle.flow.specs.declared.Reading.{Reading}
-use Rattle.flow.specs.Flags.{maskedType}
+use Rattle.tcp_header.specs.Flags.{maskedType}
 use Rattle.flow.specs.Modes.{plainMode, readIn}
 use Rattle.flow.specs.Reading.{readPacket, refusalOf}
 use Rattle.siglist.specs.declared.ListAnswer.the-variants as listAnswer

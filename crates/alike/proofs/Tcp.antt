@@ -11,7 +11,8 @@ use Rattle.tcp.specs.declared.Mss.the-variants as mss
 use Rattle.syn_options.specs.declared.Walked.{Walked}
 use Rattle.syn_options.specs.Walk.{walkOf}
 use Rattle.ip.specs.declared.IpFacts.{IpFacts}
-use Rattle.flow.specs.Tcp.{headerQuirks, quirksOfHeaders, payloadClass, observationOf, observationFrom, knownPeer, readTcp}
+use Rattle.flow.specs.Tcp.{quirksOfHeaders, payloadClass, observationOf, observationFrom, knownPeer, readTcp}
+use Rattle.tcp_header.specs.HeaderQuirks.{headerQuirks}
 use Rattle.flow.specs.declared.Mode.{Mode}
 use Rattle.flow.specs.Strict.{contradictsItself, readTcpStrict}
 use Rattle.flow.specs.Modes.{tcpStage}

@@ -17,7 +17,7 @@ use Rattle.flow.specs.declared.Mode.{Mode}
 use Rattle.flow.specs.declared.Reading.{Reading}
 use Rattle.refusals.specs.declared.PacketRefusal.{PacketRefusal}
 use Rattle.refusals.specs.declared.PacketRefusal.the-variants as refusal
-use Rattle.flow.specs.Flags.{flagsInvalid, isSynType, isSynAckType}
+use Rattle.tcp_header.specs.Flags.{flagsInvalid, isSynType, isSynAckType}
 use Rattle.ip.specs.Ip.{ipv4Facts, readIpv4, ipv6Facts, readIpv6, readIp}
 use Rattle.flow.specs.Tcp.{refusing, readTcp}
 use Rattle.flow.specs.Strict.{contradictsItself, readTcpStrict}

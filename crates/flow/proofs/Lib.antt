@@ -1,6 +1,6 @@
-pub mod Flags
 pub mod Observed
 pub mod Opening
+mod Stage
 pub mod Parts
 pub mod Peer
 pub mod FirstRow

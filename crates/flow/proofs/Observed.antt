@@ -21,10 +21,11 @@ use Rattle.syn_options.proofs.Entries.{Tidy, at-most-forty, past-count, zero-ro
 use Rattle.ip.specs.declared.IpFacts.{IpFacts}
 use Rattle.ip.specs.declared.IpRead.{IpRead}
 use Rattle.flow.specs.declared.Reading.{Reading}
-use Rattle.flow.specs.Flags.{flagsInvalid, isSynType, isSynAckType}
+use Rattle.tcp_header.specs.Flags.{flagsInvalid, isSynType, isSynAckType}
 use Rattle.ip.specs.Ip.{ipv4Quirks, ipv4Facts, ipv6Quirks, ipv6Facts}
 use Rattle.ip.proofs.Ip.{Given, given}
-use Rattle.flow.specs.Tcp.{headerQuirks, quirksOfHeaders, observationOf, observationFrom, knownPeer, readTcp}
+use Rattle.flow.specs.Tcp.{quirksOfHeaders, observationOf, observationFrom, knownPeer, readTcp}
+use Rattle.tcp_header.specs.HeaderQuirks.{headerQuirks}
 use Rattle.flow.specs.Reading.{afterIp, readPacket}
 
 -- What a reader may rely on in an observation.

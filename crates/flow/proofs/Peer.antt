@@ -14,7 +14,7 @@ use Rattle.ip.specs.declared.IpRead.the-variants as ip
 use Rattle.ip.specs.Ip.{IpStage, readIp}
 use Rattle.flow.specs.declared.Mode.{Mode}
 use Rattle.flow.specs.declared.Reading.{Reading}
-use Rattle.flow.specs.Flags.{flagsInvalid, isSynType, isSynAckType}
+use Rattle.tcp_header.specs.Flags.{flagsInvalid, isSynType, isSynAckType}
 use Rattle.flow.specs.Tcp.{observationOf, observationFrom, readTcp}
 use Rattle.flow.specs.Reading.{TcpStage, tcpPart, afterIp, readBy, readPacket}
 use Rattle.flow.specs.Strict.{contradictsItself, readTcpStrict}

@@ -1,4 +1,3 @@
-pub mod Flags
 pub mod Modes
 pub mod Peer
 pub mod Reading

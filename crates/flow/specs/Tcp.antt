@@ -1,11 +1,9 @@
 -- The TCP stage: from the facts of the IP header, the TCP part and the peer's MSS to an observation, "nothing", or refusal 7.
 use Prim.Native.Nat.{ℕ, _+_, _*_, min}
-use mathlib.Core.Bool.{Bool, true, false, cond, not, _&&_, _||_}
+use mathlib.Core.Bool.{Bool, true, false, cond}
 use mathlib.Core.List.{List}
 use lib.Dec.{eqb}
-use Rattle.quirks.specs.declared.Quirk.the-variants as quirk
 use Rattle.quirks.specs.declared.QuirkSet.{QuirkSet}
-use Rattle.quirks.specs.Quirks.{addIf}
 use Rattle.rfc.specs.Rfc9293 as tcp
 use Rattle.tcp.specs.declared.Mss.{Mss}
 use Rattle.tcp.specs.declared.Mss.the-variants as mss
@@ -20,27 +18,8 @@ use Rattle.flow.specs.declared.Answer.the-variants as answer
 use Rattle.flow.specs.declared.Reading.{Reading}
 use Rattle.refusals.specs.declared.PacketRefusal.{PacketRefusal}
 use Rattle.refusals.specs.declared.PacketRefusal.the-variants as refusal
-use Rattle.flow.specs.Flags.{isSet, flagsInvalid, isSynType, isSynAckType}
-
--- The quirks of a TCP header (document 01, module 6; flow.rs), added to those of the IP header. By its flags, sequence and acknowledgment
--- number: ecn (ECE or CWR); seq- (sequence number 0); ack- (ACK with number 0) and ack+ (a number without ACK or RST).
-abbrev pub numberQuirks : ℕ → ℕ → ℕ → QuirkSet → QuirkSet
-numberQuirks flags sequence acknowledgment q =
-    addIf (not (isSet (tcp.ack flags)) && not (eqb acknowledgment 0) && not (isSet (tcp.rst flags))) quirk.AckNumNonZero
-    (addIf (isSet (tcp.ack flags) && eqb acknowledgment 0) quirk.AckNumZero
-    (addIf (eqb sequence 0) quirk.SeqNumZero
-    (addIf (isSet (tcp.ece flags) || isSet (tcp.cwr flags)) quirk.Ecn
-    q)))
-
--- By its flags and urgent pointer: urgf+ (URG) and uptr+ (a pointer without URG); pushf+ (PSH).
-abbrev pub urgentQuirks : ℕ → ℕ → QuirkSet → QuirkSet
-urgentQuirks flags urgent q =
-    addIf (isSet (tcp.psh flags)) quirk.Push
-    (addIf (not (isSet (tcp.urg flags)) && not (eqb urgent 0)) quirk.NonZeroURG
-    (addIf (isSet (tcp.urg flags)) quirk.Urg q))
-
-unfoldable pub headerQuirks : ℕ → ℕ → ℕ → ℕ → QuirkSet → QuirkSet
-headerQuirks flags sequence acknowledgment urgent q = urgentQuirks flags urgent (numberQuirks flags sequence acknowledgment q)
+use Rattle.tcp_header.specs.Flags.{flagsInvalid, isSynType, isSynAckType}
+use Rattle.tcp_header.specs.HeaderQuirks.{headerQuirks}
 
 -- The quirks that both headers of a packet show.
 unfoldable pub quirksOfHeaders : List ℕ → QuirkSet → QuirkSet

@@ -1,16 +1,16 @@
 // flow.rs: from a lent packet to an observation. The IP stage hands on facts and the TCP part; the TCP stage sees nothing else.
 ghost use mathlib.Core.Path.{_≡_};
-ghost use mathlib.Core.Bool.{not, cond};
+ghost use mathlib.Core.Bool.{not, cond, _&&_, _||_};
 ghost use Prim.Native.Nat.{_+_, _*_, _≤_, min, max};
 ghost use Rattle.basis.specs.Bytes as bytes;
 ghost use Rattle.rfc.specs.Rfc9293.{dataOffset};
+ghost use lib.Dec.{ltb};
 ghost use lib.ListN.{length};
-ghost use Rattle.flow.specs.Flags.{maskedType, flagsInvalid};
-ghost use Rattle.flow.specs.Modes.{modeOf, tcpStage, readIn};
+ghost use Rattle.observable.specs.Observation.{emptyObservation};
+ghost use Rattle.flow.specs.Modes.{modeOf, readIn};
 ghost use Rattle.flow.specs.Reading.{readPacket};
-ghost use Rattle.flow.specs.Strict.{contradictsItself};
-ghost use Rattle.flow.specs.Tcp.{numberQuirks, urgentQuirks, quirksOfHeaders, payloadClass, observationOf, observationFrom};
-ghost use Rattle.flow.specs.Tcp.{knownPeer, refusing, readTcp};
+ghost use Rattle.flow.specs.Tcp.{quirksOfHeaders, payloadClass, observationOf, observationFrom};
+ghost use Rattle.flow.specs.Tcp.{knownPeer, refusing};
 use ip::IpFacts;
 use ip::IpRead;
 use ip::read_ip;
@@ -20,13 +20,16 @@ use numbers::least;
 use numbers::saturating_add;
 use numbers::wide;
 use observable::TcpObservation;
-use quirks::Quirk;
 use quirks::QuirkSet;
 use refusals::PacketRefusal;
 use syn_options::Walked;
 use syn_options::walk_options;
 use tcp::Mss;
 use tcp::PayloadSize;
+use tcp_header::is_valid;
+use tcp_header::number_quirks;
+use tcp_header::tcp_type;
+use tcp_header::urgent_quirks;
 
 pub enum Answer {
     Syn,
@@ -69,50 +72,6 @@ const TCP_HEADER: usize = 20;
 const SYN: u8 = 2;
 
 const SYN_ACK: u8 = 18;
-
-fn tcp_type(flags: u8) -> u8
-    ensures { λ r. ⌜ r ≡ maskedType flags ⌝ }
-{
-    flags % 8 + flags / 16 % 2 * 16
-}
-
-// Not SYN with FIN or RST, nor FIN with RST, nor none of SYN, ACK, FIN and RST: one of FIN, SYN and RST, with or without ACK, or ACK.
-fn is_valid(flags: u8) -> bool
-    ensures { λ r. ⌜ r ≡ not (flagsInvalid flags) ⌝ }
-{
-    let masked = tcp_type(flags);
-    (masked == 1)
-        | (masked == 2)
-        | (masked == 4)
-        | (masked == 16)
-        | (masked == 17)
-        | (masked == 18)
-        | (masked == 20)
-}
-
-// Those of the flags, the sequence number and the acknowledgment number.
-fn number_quirks(flags: u8, sequence: u32, acknowledgment: u32, quirks: QuirkSet) -> QuirkSet
-    ensures { λ r. ⌜ r ≡ numberQuirks flags sequence acknowledgment quirks ⌝ }
-{
-    let rst = flags / 4 % 2 == 1;
-    let ack = flags / 16 % 2 == 1;
-    quirks
-        .add_if((flags / 64 % 2 == 1) | (flags / 128 % 2 == 1), Quirk::Ecn)
-        .add_if(sequence == 0, Quirk::SeqNumZero)
-        .add_if(ack & (acknowledgment == 0), Quirk::AckNumZero)
-        .add_if(!ack & (acknowledgment != 0) & !rst, Quirk::AckNumNonZero)
-}
-
-// Those of the urgent pointer, and PSH.
-fn urgent_quirks(flags: u8, urgent: u16, quirks: QuirkSet) -> QuirkSet
-    ensures { λ r. ⌜ r ≡ urgentQuirks flags urgent quirks ⌝ }
-{
-    let urg = flags / 32 % 2 == 1;
-    quirks
-        .add_if(urg, Quirk::Urg)
-        .add_if(!urg & (urgent != 0), Quirk::NonZeroURG)
-        .add_if(flags / 8 % 2 == 1, Quirk::Push)
-}
 
 // The four-byte number at a place of the header.
 fn word(tcp: &[u8], at: usize) -> u32
@@ -196,13 +155,13 @@ fn options_end(tcp: &[u8]) -> usize
 // The observation of a SYN or SYN+ACK: the options are a further part, and the walk goes on after clipping.
 fn observe(facts: IpFacts, tcp: &[u8], syn: bool, peer_mss: Mss) -> TcpObservation
     requires { ⌜ 20 ≤ length (now tcp) ⌝ }
-    ensures { λ r. ⌜ r ≡ observationFrom facts (now (tcp .entry)) syn «peer_mss» ⌝ }
+    ensures { λ r. ⌜ r ≡ observationFrom facts (now (tcp .entry)) syn (cond syn Mss.Absent (knownPeer «peer_mss»)) ⌝ }
 {
     let end = options_end(tcp);
     let before = facts.quirks;
     let quirks = shown_quirks(tcp, before);
     let walked = walk_options(&tcp[20..end], false, syn, quirks);
-    tcp_observation(facts, tcp, walked, peer_mss)
+    tcp_observation(facts, tcp, walked, peer_taken(syn, peer_mss))
 }
 
 fn opening_answer(syn: bool) -> Answer
@@ -239,62 +198,56 @@ fn refuse(refusal: PacketRefusal) -> Reading
     }
 }
 
-// Whether the data offset points into the fixed header, or past the part.
-fn contradicts_itself(tcp: &[u8]) -> bool
-    requires { ⌜ 20 ≤ length (now tcp) ⌝ }
-    ensures { λ r. ⌜ r ≡ contradictsItself (now (tcp .entry)) ⌝ }
+// Valid flags that are neither SYN nor SYN+ACK give no observation.
+fn nothing() -> Reading
+    ensures { λ r. ⌜ r ≡ record { answer = Answer.Nothing; observation = emptyObservation } ⌝ }
 {
-    let header = header_bytes(tcp) as usize;
-    (header < TCP_HEADER) | (tcp.len() < header)
-}
-
-// The plain TCP stage. A SYN and a SYN+ACK are told first: their flags are valid.
-fn visit_tcp(facts: IpFacts, tcp: &[u8], peer_mss: Mss) -> Reading
-    requires { ⌜ 20 ≤ length (now tcp) ⌝ }
-    ensures { λ r. ⌜ r ≡ readTcp facts (now (tcp .entry)) «peer_mss» ⌝ }
-{
-    let flags = tcp[13];
-    let masked = tcp_type(flags);
-    let syn = masked == SYN;
-    if syn | (masked == SYN_ACK) {
-        return Reading {
-            answer: opening_answer(syn),
-            observation: observe(facts, tcp, syn, peer_taken(syn, peer_mss)),
-        };
-    }
-    if !is_valid(flags) {
-        return refuse(PacketRefusal::InvalidTcpFlags(flags));
-    }
     Reading {
         answer: Answer::Nothing,
         observation: TcpObservation::empty(),
     }
 }
 
-// The TCP stage of a mode: the strict one sets a header aside before its flags are looked at.
-fn visit_tcp_in(facts: IpFacts, tcp: &[u8], peer_mss: Mss, mode: Mode) -> Reading
-    requires { ⌜ 20 ≤ length (now tcp) ⌝ }
-    ensures { λ r. ⌜ r ≡ tcpStage mode facts (now (tcp .entry)) «peer_mss» ⌝ }
+// Whether the mode sets a header of these bytes aside: its data offset points into the fixed header, or past the part.
+fn sets_aside(mode: Mode, header: usize, part: usize) -> bool
+    ensures { λ r. ⌜ r ≡ mode .strict && (ltb header 20 || ltb part header) ⌝ }
 {
     if mode.strict {
-        if contradicts_itself(tcp) {
-            return refuse(PacketRefusal::DataOffset);
-        }
+        return (header < TCP_HEADER) | (part < header);
     }
-    visit_tcp(facts, tcp, peer_mss)
+    false
 }
 
 // From a lent packet and the peer's MSS to an observation, nothing, or a refusal, in any mode: the IP stage, then the TCP stage on its
-// part.
+// part. Each answer leaves by a `return` of its own, and the header's length is asked for before the mode (docs/DECISIONS.md, 74).
 pub fn read_packet_in(packet: &[u8], peer_mss: Mss, mode: Mode) -> Reading
     ensures { λ r. ⌜ r ≡ readIn mode (now (packet .entry)) «peer_mss» ⌝ }
 {
     match read_ip(packet) {
-        IpRead::Refused(refusal) => refuse(refusal),
+        IpRead::Refused(refusal) => {
+            return refuse(refusal);
+        }
         IpRead::Facts(facts) => {
             let start = facts.start;
             let end = facts.end;
-            visit_tcp_in(facts, &packet[start..end], peer_mss, mode)
+            let tcp = &packet[start..end];
+            let header = header_bytes(tcp) as usize;
+            if sets_aside(mode, header, tcp.len()) {
+                return refuse(PacketRefusal::DataOffset);
+            }
+            let flags = tcp[13];
+            let masked = tcp_type(flags);
+            let syn = masked == SYN;
+            if syn | (masked == SYN_ACK) {
+                return Reading {
+                    answer: opening_answer(syn),
+                    observation: observe(facts, tcp, syn, peer_mss),
+                };
+            }
+            if is_valid(flags) {
+                return nothing();
+            }
+            return refuse(PacketRefusal::InvalidTcpFlags(flags));
         }
     }
 }

@@ -17,7 +17,7 @@ use Rattle.ip.proofs.Ip.{Given, given}
 use Rattle.flow.specs.declared.Answer.{Answer}
 use Rattle.flow.specs.declared.Answer.the-variants as reading
 use Rattle.flow.specs.declared.Reading.{Reading}
-use Rattle.flow.specs.Flags.{flagsInvalid, isSynType, isSynAckType}
+use Rattle.tcp_header.specs.Flags.{flagsInvalid, isSynType, isSynAckType}
 use Rattle.flow.specs.declared.Mode.{Mode}
 use Rattle.flow.specs.Tcp.{readTcp}
 use Rattle.flow.specs.Strict.{contradictsItself, readTcpStrict}

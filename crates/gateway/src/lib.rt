@@ -1,5 +1,6 @@
 // What a gateway in C or Rust links: each answer as a struct of sixteen bytes.
 ghost use mathlib.Core.Path.{_≡_};
+ghost use Rattle.refusals.specs.Refusals.{packetNumber, packetValue};
 ghost use Rattle.siglist.specs.List.{checkList};
 ghost use Rattle.flow.specs.Modes.{modeOf};
 ghost use Rattle.packet_answer.specs.Packet.{peerOf, answerOf, answerIn};
@@ -15,6 +16,7 @@ use packet_answer::PacketAnswer;
 use packet_answer::answer_packet_in;
 use packet_answer::peer_of;
 use refusals::ListRefusal;
+use refusals::PacketRefusal;
 use refusals::Refusal;
 use refusals::list_value;
 use refusals::packet_value;
@@ -130,6 +132,15 @@ fn found_parts(kind: u8, found: Found) -> TermreadResult
     }
 }
 
+fn refused_packet(refusal: PacketRefusal) -> TermreadResult
+    ensures { λ r. ⌜ r ≡ refused (packetNumber refusal) (packetValue refusal) ⌝ }
+{
+    refused(
+        refusal_number(Refusal::Packet(refusal)),
+        packet_value(refusal) as u16,
+    )
+}
+
 fn packet_parts(answer: PacketAnswer) -> TermreadResult
     ensures { λ r. ⌜ r ≡ packetParts answer ⌝ }
 {
@@ -137,10 +148,7 @@ fn packet_parts(answer: PacketAnswer) -> TermreadResult
         PacketAnswer::Syn(found) => found_parts(1, found),
         PacketAnswer::SynAck(found) => found_parts(2, found),
         PacketAnswer::Nothing => plain(4, 0, 0, 0),
-        PacketAnswer::Refused(refusal) => refused(
-            refusal_number(Refusal::Packet(refusal)),
-            packet_value(refusal) as u16,
-        ),
+        PacketAnswer::Refused(refusal) => refused_packet(refusal),
     }
 }
 
@@ -151,6 +159,13 @@ fn refused_list(refusal: ListRefusal) -> TermreadResult
         refusal_number(Refusal::List(refusal)),
         (list_value(refusal) % 65536) as u16,
     )
+}
+
+// The answer of a packet against a list that was checked.
+fn answered(packet: &[u8], peer: u16, list: &[u8], mode: Mode) -> TermreadResult
+    ensures { λ r. ⌜ r ≡ packetParts (answerIn mode (now (packet .entry)) (peerOf peer) (now (list .entry))) ⌝ }
+{
+    packet_parts(answer_packet_in(packet, peer_of(peer), list, mode))
 }
 
 // ---- what is exported
@@ -171,7 +186,7 @@ pub extern "C" fn termread_check_list(list: &[u8]) -> TermreadResult
 pub extern "C" fn termread_answer_checked(packet: &[u8], peer: u16, list: &[u8]) -> TermreadResult
     ensures { λ r. ⌜ r ≡ packetParts (answerOf (now (packet .entry)) (peerOf peer) (now (list .entry))) ⌝ }
 {
-    packet_parts(answer_packet_in(packet, peer_of(peer), list, Mode::PLAIN))
+    answered(packet, peer, list, Mode::PLAIN)
 }
 
 // The answer of a packet against a list that was not checked: refusals 9 and 10 come before the packet's.
@@ -180,12 +195,7 @@ pub extern "C" fn termread_answer(packet: &[u8], peer: u16, list: &[u8]) -> Term
     ensures { λ r. ⌜ r ≡ partsOf (gatewayAnswer (now (packet .entry)) peer (now (list .entry))) ⌝ }
 {
     match check_list(list) {
-        ListAnswer::Good => packet_parts(answer_packet_in(
-            packet,
-            peer_of(peer),
-            list,
-            Mode::PLAIN,
-        )),
+        ListAnswer::Good => answered(packet, peer, list, Mode::PLAIN),
         ListAnswer::Refused(refusal) => refused_list(refusal),
     }
 }
@@ -200,7 +210,7 @@ pub extern "C" fn termread_answer_checked_in(
 ) -> TermreadResult
     ensures { λ r. ⌜ r ≡ packetParts (answerIn (modeOf bits) (now (packet .entry)) (peerOf peer) (now (list .entry))) ⌝ }
 {
-    packet_parts(answer_packet_in(packet, peer_of(peer), list, mode_of(bits)))
+    answered(packet, peer, list, mode_of(bits))
 }
 
 #[no_mangle]
@@ -213,12 +223,7 @@ pub extern "C" fn termread_answer_in(
     ensures { λ r. ⌜ r ≡ partsOf (gatewayIn (modeOf bits) (now (packet .entry)) peer (now (list .entry))) ⌝ }
 {
     match check_list(list) {
-        ListAnswer::Good => packet_parts(answer_packet_in(
-            packet,
-            peer_of(peer),
-            list,
-            mode_of(bits),
-        )),
+        ListAnswer::Good => answered(packet, peer, list, mode_of(bits)),
         ListAnswer::Refused(refusal) => refused_list(refusal),
     }
 }

@@ -72,15 +72,16 @@ fn ipv4_facts(packet: &[u8], start: usize, end: usize) -> IpFacts
     requires { ⌜ 20 ≤ length (now packet) ⌝ }
     ensures { λ r. ⌜ r ≡ ipv4Facts (now (packet .entry)) start end ⌝ }
 {
+    let class = packet[1];
     let fields = packet[6];
     let identification = be16_at(packet, 4);
     IpFacts {
         version: IpVersion::V4,
         ittl: calculate_ttl(packet[8]),
-        tos: packet[1] / 4,
+        tos: class / 4,
         olen: calculate_ipv4_length(packet),
         header_bytes: 4 * wide(packet[0] % 16),
-        quirks: ipv4_quirks(packet[1] % 4, fields / 128, fields / 64 % 2, identification),
+        quirks: ipv4_quirks(class % 4, fields / 128, fields / 64 % 2, identification),
         start,
         end,
     }
@@ -96,8 +97,7 @@ fn process_tcp_ipv4(packet: &[u8]) -> IpRead
     if ihl < 5 {
         return IpRead::Refused(PacketRefusal::HeaderLength);
     }
-    let protocol = packet[9];
-    if protocol != TCP {
+    if packet[9] != TCP {
         return IpRead::Refused(PacketRefusal::UnsupportedProtocol);
     }
     if is_fragment(packet[6], packet[7]) {
@@ -145,8 +145,7 @@ fn process_tcp_ipv6(packet: &[u8]) -> IpRead
     if packet.len() < IPV6_HEADER {
         return IpRead::Refused(PacketRefusal::TooShort);
     }
-    let next_header = packet[6];
-    if next_header != TCP {
+    if packet[6] != TCP {
         return IpRead::Refused(PacketRefusal::UnsupportedProtocol);
     }
     let end = least(IPV6_HEADER + be16_at(packet, 4) as usize, packet.len());

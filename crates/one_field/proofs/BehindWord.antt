@@ -1,8 +1,8 @@
 -- A word, then what may stand behind it.
 use Prim.Native.Nat.{ℕ, suc, _+_}
 use mathlib.Core.Path.{_≡_, refl, sym, _∙_, ap}
-use mathlib.Core.Bool.{Bool, true, false, not, false≢true}
-use mathlib.Core.List.{List, [], _∷_, _++_, append-nil}
+use mathlib.Core.Bool.{Bool, true, false, cond, not, false≢true}
+use mathlib.Core.List.{List, [], _∷_, _++_}
 use native.Mathlib.Omega.{arith}
 use lib.Dec.{eqb}
 use lib.ListN.{drop}
@@ -11,8 +11,9 @@ use borrow.Author.Tests.{not-true, not-false}
 use Rattle.grammar.specs.Reading.{Read, later}
 use Rattle.grammar.specs.States.{Awaited, letters, after, run, left, done, statesRead}
 use Rattle.grammar.specs.Table.{Tail, nothing, Row, row, Said, said}
-use Rattle.one_field.specs.declared.Piece.{Piece}
-use Rattle.one_field.specs.Places.{piece, noPiece, pieceOf, stateAt, wordAt}
+use Rattle.numerals.specs.declared.Piece.{Piece}
+use Rattle.numerals.specs.Pieces.{piece, noPiece, pieceOf, stateAt}
+use Rattle.one_field.specs.Places.{wordAt}
 
 -- Rows that all begin with a word.
 abbrev pub prefixed : List ℕ → List Row → List Awaited
@@ -128,7 +129,7 @@ shift-piece at k x = ap (λ (n : ℕ). piece n (x .good) (x .value .form) (x .va
 
 -- Over what the call gave that read the word.
 module _ (s : List ℕ) (at : ℕ) (cs w : List ℕ) (f : ℕ) (t : Tail) (rows : List Row) (r : Piece) (e : r ≡ wordAt cs 0 s at) where
-  pub behind-word
+  behind-word
       : not (r .good) ≡ false
       → stateAt (prefixed [] (row w f t ∷ rows)) s (r .at) ≡ stateAt (prefixed cs (row w f t ∷ rows)) s at
   unfolding stateAt pieceOf wordRead
@@ -138,19 +139,17 @@ module _ (s : List ℕ) (at : ℕ) (cs w : List ℕ) (f : ℕ) (t : Tail) (rows 
       (sym (shift-piece at (wordRead cs (drop at s) .count)
       (statesRead (prefixed [] (row w f t ∷ rows)) (drop (at + wordRead cs (drop at s) .count) s))))
 
-  pub no-word : not (r .good) ≡ true → noPiece (r .at) ≡ stateAt (prefixed cs (row w f t ∷ rows)) s at
+  no-word : not (r .good) ≡ true → noPiece (r .at) ≡ stateAt (prefixed cs (row w f t ∷ rows)) s at
   unfolding stateAt pieceOf wordRead
   no-word h =
       let g : wordRead cs (drop at s) .good ≡ false = rw e at (not-true (r .good) h) in
       rw (e, read-no-word w f t rows cs (drop at s) g)
 
--- One row behind the word.
-module _ (s : List ℕ) (at : ℕ) (cs : List ℕ) (f : ℕ) (t : Tail) (r : Piece) (e : r ≡ wordAt cs 0 s at) where
-  alone : prefixed cs (row [] f t ∷ []) ≡ letters cs f t ∷ []
-  alone = rw append-nil
-
-  pub tail-behind : not (r .good) ≡ false → stateAt (letters [] f t ∷ []) s (r .at) ≡ stateAt (letters cs f t ∷ []) s at
-  tail-behind h = behind-word s at cs [] f t [] r e h ∙ ap (λ (states : List Awaited). stateAt states s at) alone
-
-  pub no-tail : not (r .good) ≡ true → noPiece (r .at) ≡ stateAt (letters cs f t ∷ []) s at
-  no-tail h = no-word s at cs [] f t [] r e h ∙ ap (λ (states : List Awaited). stateAt states s at) alone
+  pub word-then
+      : {x : Piece} → x ≡ cond (r .good) (stateAt (prefixed [] (row w f t ∷ rows)) s (r .at)) (noPiece (r .at))
+      → x ≡ stateAt (prefixed cs (row w f t ∷ rows)) s at
+  word-then {x} q = by (r .good) refl
+    where
+      by : (k : Bool) → r .good ≡ k → x ≡ stateAt (prefixed cs (row w f t ∷ rows)) s at
+      by true e' = (rw e' at q) ∙ behind-word (rw e')
+      by false e' = (rw e' at q) ∙ no-word (rw e')

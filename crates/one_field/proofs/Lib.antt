@@ -1,5 +1,4 @@
 pub mod BehindWord
-pub mod NumberLaws
+pub mod LetterLaws
 pub mod PlaceLaws
 pub mod Unique
-pub mod WordLaws

@@ -1,22 +1,24 @@
 -- Laws of a field's reading at a place, in the expressions that the code makes.
 use Prim.Native.Nat.{ℕ, suc, _+_, _<_, _≤_}
 use mathlib.Core.Path.{_≡_, refl, sym, _∙_, ap}
-use mathlib.Core.Bool.{Bool, true, false, cond, not}
+use mathlib.Core.Bool.{Bool, true, false, cond, not, _&&_}
 use mathlib.Core.List.{List, [], _∷_}
 use native.Mathlib.Omega.{arith}
 use native.Mathlib.Decide.{decLe}
 use native.Mathlib.Numerals.{add-one}
+use lib.Dec.{eqb, ltb}
 use lib.ListN.{length, drop, drop-of-length-le}
 use lib.Seq.{drop-cons}
-use borrow.Author.Tests.{not-true, not-false, lt-ltb, le-ltb, eq-eqb, ne-eqb}
+use borrow.Author.Tests.{not-true, not-false}
 use Rattle.basis.specs.Bytes.{byteAt}
 use Rattle.grammar.specs.Reading.{Read, later}
 use Rattle.grammar.specs.States.{Awaited, letters, after, isNil, run, left, Done, done, statesRead}
 use Rattle.grammar.specs.Table.{nothing, Row, Said}
 use Rattle.signature_line.specs.Words.{bareByte, ttlForm}
-use Rattle.one_field.specs.declared.Piece.{Piece}
+use Rattle.numerals.specs.declared.Piece.{Piece}
 use Rattle.one_field.specs.declared.LinePlace.{LinePlace}
-use Rattle.one_field.specs.Places.{piece, noPiece, pieceOf, stateAt, pieceAt, wordAt}
+use Rattle.numerals.specs.Pieces.{piece, noPiece, pieceOf, stateAt}
+use Rattle.one_field.specs.Places.{pieceAt, wordAt}
 use Rattle.one_field.specs.Places.{place, fieldAt, behindAt, noTtl, ttlPiece, ttlAt}
 
 -- ---- a reading, one byte at a time
@@ -135,17 +137,14 @@ module _ (byte : ℕ) (s : List ℕ) (at : ℕ) (good : Bool) where
   unfolding behindAt
   behind-nothing h = rw (not-true good h)
 
-  pub behind-end : not good ≡ false → length s ≤ at → place at false ≡ behindAt byte s at good
-  unfolding behindAt
-  behind-end g h = rw (not-false good g, le-ltb at (length s) h)
+  module _ (g : not good ≡ false) {k : Bool} (e : k ≡ (ltb at (length s) && eqb (byteAt s at) byte)) where
+    pub behind-other : k ≡ false → place at false ≡ behindAt byte s at good
+    unfolding behindAt
+    behind-other h = rw (not-false good g, ← e, h)
 
-  pub behind-other : not good ≡ false → at < length s → (byteAt s at ≡ byte → ⊥) → place at false ≡ behindAt byte s at good
-  unfolding behindAt
-  behind-other g h d = rw (not-false good g, lt-ltb at (length s) h, ne-eqb (byteAt s at) byte d)
-
-  pub behind-there : not good ≡ false → at < length s → byteAt s at ≡ byte → place (at + 1) true ≡ behindAt byte s at good
-  unfolding behindAt
-  behind-there g h e = rw (not-false good g, lt-ltb at (length s) h, eq-eqb (byteAt s at) byte e)
+    pub behind-there : k ≡ true → place (at + 1) true ≡ behindAt byte s at good
+    unfolding behindAt
+    behind-there h = rw (not-false good g, ← e, h)
 
 -- ---- a TTL, over what the calls gave
 

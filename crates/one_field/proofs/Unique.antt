@@ -8,8 +8,8 @@ use denote.Ref.{RefT, now}
 use Rattle.basis.specs.Unique.{ExactlyOne}
 use Rattle.basis.proofs.Unique.{equation}
 use Rattle.signature_line.specs.Words.{bareByte, entry, mss, payload, quirkWord, scale, version, window}
+use Rattle.numerals.specs.declared.Piece.{Piece}
 use Rattle.one_field.specs.declared.LinePlace.{LinePlace}
-use Rattle.one_field.specs.declared.Piece.{Piece}
 use Rattle.one_field.specs.declared.TtlPiece.{TtlPiece}
 use Rattle.one_field.specs.Places.{behindAt, fieldAt, pieceAt, ttlAt}
 use Rattle.one_field.proofs.behind.Reads as behind'

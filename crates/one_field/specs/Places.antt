@@ -1,40 +1,26 @@
 -- What the fields' functions give: the readings of `signature_line`, from a place of the line on, with the place where they end.
 use Prim.Native.Nat.{ℕ, _+_}
 use mathlib.Core.Bool.{Bool, true, false, cond, _&&_}
-use mathlib.Core.List.{List, [], _∷_, _++_}
+use mathlib.Core.List.{List, [], _∷_}
 use lib.Dec.{eqb, ltb}
-use lib.ListN.{length, take, drop}
+use lib.ListN.{length}
 use Rattle.basis.specs.Ascii.{ascii}
 use Rattle.basis.specs.Bytes.{byteAt}
 use Rattle.quirks.specs.declared.Quirk.the-variants as quirk
 use Rattle.quirks.specs.Quirks.{bitOf}
-use Rattle.grammar.specs.Numeral.{any, decimalValue}
-use Rattle.grammar.specs.Reading.{Read}
-use Rattle.grammar.specs.States.{Awaited, letters, start, span, statesRead}
-use Rattle.grammar.specs.Table.{nothing, numeral, Row, row, Said}
+use Rattle.grammar.specs.Numeral.{any}
+use Rattle.grammar.specs.States.{letters, start}
+use Rattle.grammar.specs.Table.{nothing, numeral, Row, row}
 use Rattle.signature_line.specs.Words.{upTo255, bareByte, ttlForm}
-use Rattle.one_field.specs.declared.Piece.{Piece}
+use Rattle.numerals.specs.Pieces.{piece, noPiece, stateAt, numeralAt}
+use Rattle.numerals.specs.declared.Piece.{Piece}
 use Rattle.one_field.specs.declared.LinePlace.{LinePlace}
 use Rattle.one_field.specs.declared.TtlPiece.{TtlPiece}
-use Rattle.one_field.specs.declared.numerals.Taken.{Taken}
 
 -- ---- a field
 
-abbrev pub piece : ℕ → Bool → ℕ → ℕ → Piece
-piece at good form number = record { at = at; good = good; form = form; number = number }
-
-abbrev pub noPiece : ℕ → Piece
-noPiece at = piece at false 0 0
-
 abbrev pub wholePiece : ℕ → ℕ → Piece
 wholePiece at form = piece at true form 0
-
-unfoldable pub pieceOf : ℕ → Read Said → Piece
-pieceOf at x = piece (at + x .count) (x .good) (x .value .form) (x .value .number)
-
--- What is awaited at a place, and a table.
-unfoldable pub stateAt : List Awaited → List ℕ → ℕ → Piece
-stateAt states s at = pieceOf at (statesRead states (drop at s))
 
 abbrev pub pieceAt : List Row → List ℕ → ℕ → Piece
 pieceAt rows = stateAt (start rows)
@@ -68,19 +54,8 @@ ttlAt s from =
 
 -- ---- parts of a field
 
--- A number that is n so far: where it stops, and the number.
-unfoldable pub numberFrom : ℕ → ℕ → List ℕ → ℕ → Taken
-numberFrom max n s i =
-    record { at = i + span max n (drop i s); value = decimalValue n (take (span max n (drop i s)) (drop i s)) }
-
-abbrev pub numeralAt : ℕ → (ℕ → Bool) → ℕ → List ℕ → ℕ → Piece
-numeralAt max wanted form = stateAt (letters [] form (numeral max wanted) ∷ [])
-
 abbrev pub wordAt : List ℕ → ℕ → List ℕ → ℕ → Piece
 wordAt word form = stateAt (letters word form nothing ∷ [])
-
-abbrev pub wordByteAt : List ℕ → ℕ → List ℕ → ℕ → Piece
-wordByteAt word form = stateAt (letters word form upTo255 ∷ [])
 
 abbrev pub eitherAt : List ℕ → ℕ → List ℕ → ℕ → List ℕ → ℕ → Piece
 eitherAt one form other other-form = stateAt (letters one form nothing ∷ letters other other-form nothing ∷ [])
@@ -93,10 +68,23 @@ plusAt = stateAt (letters [] 1 upTo255 ∷ letters (ascii "?") 2 nothing ∷ [])
 abbrev pub multipleAt : List ℕ → ℕ → Piece
 multipleAt = stateAt (letters (ascii "ss*") 3 upTo255 ∷ letters (ascii "tu*") 4 upTo255 ∷ [])
 
--- A word, then `+` or `-`.
-abbrev pub signedAt : List ℕ → ℕ → ℕ → List ℕ → ℕ → Piece
-signedAt word plus minus = eitherAt (word ++ ascii "+") plus (word ++ ascii "-") minus
+-- Behind the first `s` of an entry, and behind an `e` and a `u` of a quirk's name.
+abbrev pub behindS : List ℕ → ℕ → Piece
+behindS = eitherAt (ascii "ok") 4 (ascii "ack") 5
+
+abbrev pub behindE : List ℕ → ℕ → Piece
+behindE = eitherAt (ascii "cn") (bitOf quirk.Ecn) (ascii "xws") (bitOf quirk.ExcessiveWindowScaling)
+
+abbrev pub behindU : List ℕ → ℕ → Piece
+behindU = eitherAt (ascii "ptr+") (bitOf quirk.NonZeroURG) (ascii "rgf+") (bitOf quirk.Urg)
 
 -- Behind the `t` of a timestamp's quirk.
 abbrev pub stampAt : List ℕ → ℕ → Piece
 stampAt = eitherAt (ascii "s1-") (bitOf quirk.OwnTimestampZero) (ascii "s2+") (bitOf quirk.PeerTimestampNonZero)
+
+-- Behind a word that was read: a number up to 255; `+` or `-`.
+abbrev pub numberBehind : ℕ → List ℕ → Piece → Piece
+numberBehind form s word = cond (word .good) (numeralAt 255 any form s (word .at)) (noPiece (word .at))
+
+abbrev pub signBehind : ℕ → ℕ → List ℕ → Piece → Piece
+signBehind plus minus s word = cond (word .good) (eitherAt (ascii "+") plus (ascii "-") minus s (word .at)) (noPiece (word .at))

@@ -1,23 +1,28 @@
 // The fields of a signature line, one by one (parse/tcp.rs): each read from a place on, in one pass and with no way back. `nom` becomes an
 // index walk; a number is held against its field digit by digit, and refuses where it stands.
 ghost use mathlib.Core.Path.{_≡_};
-ghost use Prim.Native.Nat.{_≤_};
 ghost use Rattle.signature_line.specs.Words.{version, bareByte, mss, window, scale, entry, quirkWord, payload};
-ghost use Rattle.one_field.specs.Places.{noPiece, wholePiece, starred, behindAt, pieceAt, fieldAt, ttlAt};
+ghost use Rattle.one_field.specs.Places.{wholePiece, starred, behindAt, pieceAt, fieldAt, ttlAt};
+use letters::five_letters;
+use letters::one_letter;
+use letters::stands;
+use letters::three_letters;
+use letters::two_letters;
+use numerals::Piece;
+use numerals::no_piece;
 use numerals::read_numeral;
 use numerals::read_unnamed;
-use quirk_names::read_name;
-use quirk_names::read_names;
-use quirk_names::read_signed;
+use quirk_names::read_behind_e;
+use quirk_names::read_behind_u;
 use quirk_names::read_stamp;
-use quirks::Quirk;
-use words::read_either;
+use quirk_names::sign_behind;
+use quirks::bits;
+use words::number_behind;
+use words::read_behind_s;
 use words::read_multiple;
 use words::read_ttl_form;
-use words::read_word;
-use words::read_word_byte;
 
-mod numerals;
+mod letters;
 mod quirk_names;
 mod words;
 
@@ -27,15 +32,6 @@ pub struct LinePlace {
     pub good: bool,
 }
 
-// What a field says: where it ends, whether it means something, its code in a record, and the number that stands with it. A field that
-// means nothing ends where no line goes on.
-pub struct Piece {
-    pub at: usize,
-    pub good: bool,
-    pub form: u32,
-    pub number: u32,
-}
-
 // A TTL: its number, and its form with the distance.
 pub struct TtlPiece {
     pub at: usize,
@@ -43,18 +39,6 @@ pub struct TtlPiece {
     pub ttl: u32,
     pub form: u32,
     pub distance: u32,
-}
-
-// Nothing is meant up to this place.
-pub(crate) fn no_piece(at: usize) -> Piece
-    ensures { λ r. ⌜ r ≡ noPiece at ⌝ }
-{
-    Piece {
-        at: at,
-        good: false,
-        form: 0,
-        number: 0,
-    }
 }
 
 // A word that ends at this place.
@@ -79,13 +63,7 @@ pub fn behind(s: &[u8], at: usize, good: bool, byte: u8) -> LinePlace
             good: false,
         };
     }
-    if s.len() <= at {
-        return LinePlace {
-            at: at,
-            good: false,
-        };
-    }
-    if s[at] != byte {
+    if !stands(s, at, byte) {
         return LinePlace {
             at: at,
             good: false,
@@ -105,16 +83,13 @@ pub fn parse_ip_version(s: &[u8], from: LinePlace) -> Piece
     if !from.good {
         return no_piece(at);
     }
-    if s.len() <= at {
-        return no_piece(at);
+    if stands(s, at, b'4') {
+        return whole(at + 1, 4);
     }
-    let byte = s[at];
-    match byte {
-        b'4' => whole(at + 1, 4),
-        b'6' => whole(at + 1, 6),
-        b'*' => whole(at + 1, 0),
-        _ => no_piece(at),
+    if stands(s, at, b'6') {
+        return whole(at + 1, 6);
     }
+    one_letter(s, at, b'*', 0)
 }
 
 // A number up to 255.
@@ -152,18 +127,14 @@ pub fn parse_ttl(s: &[u8], from: LinePlace) -> TtlPiece
 }
 
 // `*`, or a number up to a bound.
-fn read_starred(s: &[u8], from: LinePlace, max: u32) -> Piece
-    requires { ⌜ max ≤ 65535 ⌝ }
+fn read_starred(s: &[u8], from: LinePlace, max: u16) -> Piece
     ensures { λ r. ⌜ r ≡ fieldAt (starred max) (now (s .entry)) from ⌝ }
 {
     let at = from.at;
     if !from.good {
         return no_piece(at);
     }
-    if s.len() <= at {
-        return no_piece(at);
-    }
-    if s[at] == b'*' {
+    if stands(s, at, b'*') {
         return whole(at + 1, 0);
     }
     read_numeral(s, at, max, 1)
@@ -191,16 +162,16 @@ pub fn parse_window_size(s: &[u8], from: LinePlace) -> Piece
     if !from.good {
         return no_piece(at);
     }
-    if s.len() <= at {
-        return no_piece(at);
+    if stands(s, at, b'*') {
+        return whole(at + 1, 0);
     }
-    let byte = s[at];
-    match byte {
-        b'*' => whole(at + 1, 0),
-        b'%' => read_numeral(s, at + 1, 65535, 2),
-        b'm' => read_multiple(s, at + 1),
-        _ => read_numeral(s, at, 65535, 1),
+    if stands(s, at, b'%') {
+        return read_numeral(s, at + 1, 65535, 2);
     }
+    if stands(s, at, b'm') {
+        return read_multiple(s, at + 1);
+    }
+    read_numeral(s, at, 65535, 1)
 }
 
 // `eol+` and a number, `nop`, `mss`, `ws`, `sok`, `sack`, `ts`, or `?` and a kind without a name.
@@ -213,12 +184,12 @@ pub fn parse_tcp_option(s: &[u8], from: usize) -> Piece
     let byte = s[from];
     let next = from + 1;
     match byte {
-        b'n' => read_word(s, next, b"op", 1),
-        b'm' => read_word(s, next, b"ss", 2),
-        b'w' => read_word(s, next, b"s", 3),
-        b's' => read_either(s, next, b"ok", 4, b"ack", 5),
-        b't' => read_word(s, next, b"s", 8),
-        b'e' => read_word_byte(s, next, b"ol+", 0),
+        b'n' => two_letters(s, next, b'o', b'p', 1),
+        b'm' => two_letters(s, next, b's', b's', 2),
+        b'w' => one_letter(s, next, b's', 3),
+        b's' => read_behind_s(s, next),
+        b't' => one_letter(s, next, b's', 8),
+        b'e' => number_behind(s, three_letters(s, next, b'o', b'l', b'+', 0), 0),
         b'?' => read_unnamed(s, next),
         _ => no_piece(from),
     }
@@ -234,25 +205,28 @@ pub fn parse_quirk(s: &[u8], from: usize) -> Piece
     let byte = s[from];
     let next = from + 1;
     match byte {
-        b'd' => read_name(s, next, b"f", Quirk::Df),
-        b'i' => read_signed(s, next, b"d", Quirk::NonZeroID, Quirk::ZeroID),
-        b'e' => read_names(
+        b'd' => one_letter(s, next, b'f', bits::DF),
+        b'i' => sign_behind(
             s,
-            next,
-            b"cn",
-            Quirk::Ecn,
-            b"xws",
-            Quirk::ExcessiveWindowScaling,
+            one_letter(s, next, b'd', 0),
+            bits::NON_ZERO_ID,
+            bits::ZERO_ID,
         ),
-        b'0' => read_name(s, next, b"+", Quirk::MustBeZero),
-        b'f' => read_name(s, next, b"low", Quirk::FlowID),
-        b's' => read_name(s, next, b"eq-", Quirk::SeqNumZero),
-        b'a' => read_signed(s, next, b"ck", Quirk::AckNumNonZero, Quirk::AckNumZero),
-        b'u' => read_names(s, next, b"ptr+", Quirk::NonZeroURG, b"rgf+", Quirk::Urg),
-        b'p' => read_name(s, next, b"ushf+", Quirk::Push),
+        b'e' => read_behind_e(s, next),
+        b'0' => one_letter(s, next, b'+', bits::MUST_BE_ZERO),
+        b'f' => three_letters(s, next, b'l', b'o', b'w', bits::FLOW_ID),
+        b's' => three_letters(s, next, b'e', b'q', b'-', bits::SEQ_NUM_ZERO),
+        b'a' => sign_behind(
+            s,
+            two_letters(s, next, b'c', b'k', 0),
+            bits::ACK_NUM_NON_ZERO,
+            bits::ACK_NUM_ZERO,
+        ),
+        b'u' => read_behind_u(s, next),
+        b'p' => five_letters(s, next, b'u', b's', b'h', b'f', b'+', bits::PUSH),
         b't' => read_stamp(s, next),
-        b'o' => read_name(s, next, b"pt+", Quirk::TrailinigNonZero),
-        b'b' => read_name(s, next, b"ad", Quirk::OptBad),
+        b'o' => three_letters(s, next, b'p', b't', b'+', bits::TRAILINIG_NON_ZERO),
+        b'b' => two_letters(s, next, b'a', b'd', bits::OPT_BAD),
         _ => no_piece(from),
     }
 }
@@ -265,14 +239,11 @@ pub fn parse_payload_size(s: &[u8], from: LinePlace) -> Piece
     if !from.good {
         return no_piece(at);
     }
-    if s.len() <= at {
-        return no_piece(at);
+    if stands(s, at, b'0') {
+        return whole(at + 1, 0);
     }
-    let byte = s[at];
-    match byte {
-        b'0' => whole(at + 1, 0),
-        b'+' => whole(at + 1, 1),
-        b'*' => whole(at + 1, 2),
-        _ => no_piece(at),
+    if stands(s, at, b'+') {
+        return whole(at + 1, 1);
     }
+    one_letter(s, at, b'*', 2)
 }

@@ -1,63 +1,60 @@
-// Names of quirks; the form of a name is the quirk's bit.
+// Names of quirks that begin alike.
 ghost use mathlib.Core.Path.{_≡_};
-ghost use Prim.Native.Nat.{_<_};
-ghost use lib.ListN.{length};
-ghost use Rattle.basis.specs.Bytes.{byteAt};
-ghost use Rattle.quirks.specs.Quirks.{bitOf};
-ghost use Rattle.one_field.specs.Places.{wordAt, eitherAt, signedAt, stampAt};
-use crate::Piece;
-use crate::no_piece;
-use crate::words::read_either;
-use crate::words::read_word;
-use quirks::Quirk;
+ghost use Rattle.one_field.specs.Places.{behindE, behindU, stampAt, signBehind};
+use crate::letters::four_letters;
+use crate::letters::one_letter;
+use crate::letters::stands;
+use crate::letters::three_letters;
+use crate::letters::two_letters;
+use crate::whole;
+use numerals::Piece;
+use numerals::no_piece;
+use quirks::bits;
 
-// One name.
-pub(crate) fn read_name(s: &[u8], from: usize, name: &[u8], quirk: Quirk) -> Piece
-    ensures { λ r. ⌜ r ≡ wordAt (now (name .entry)) (bitOf quirk) (now (s .entry)) from ⌝ }
+// `+` or `-`, behind a word that was read.
+pub(crate) fn sign_behind(s: &[u8], word: Piece, plus: u32, minus: u32) -> Piece
+    ensures { λ r. ⌜ r ≡ signBehind plus minus (now (s .entry)) word ⌝ }
 {
-    read_word(s, from, name, quirk.bit())
-}
-
-// One of two names, which their first bytes tell apart.
-pub(crate) fn read_names(
-    s: &[u8],
-    from: usize,
-    one: &[u8],
-    a: Quirk,
-    other: &[u8],
-    b: Quirk,
-) -> Piece
-    requires { ⌜ (0 < length (now one)) × (0 < length (now other)) × (byteAt (now one) 0 ≡ byteAt (now other) 0 → ⊥) ⌝ }
-    ensures { λ r. ⌜ r ≡ eitherAt (now (one .entry)) (bitOf a) (now (other .entry)) (bitOf b) (now (s .entry)) from ⌝ }
-{
-    read_either(s, from, one, a.bit(), other, b.bit())
-}
-
-// A word, then `+` or `-`.
-pub(crate) fn read_signed(s: &[u8], from: usize, word: &[u8], plus: Quirk, minus: Quirk) -> Piece
-    ensures { λ r. ⌜ r ≡ signedAt (now (word .entry)) (bitOf plus) (bitOf minus) (now (s .entry)) from ⌝ }
-{
-    let read = read_word(s, from, word, 0);
-    if !read.good {
-        return no_piece(read.at);
+    let at = word.at;
+    if !word.good {
+        return no_piece(at);
     }
-    read_names(s, read.at, b"+", plus, b"-", minus)
+    if stands(s, at, b'+') {
+        return whole(at + 1, plus);
+    }
+    one_letter(s, at, b'-', minus)
+}
+
+// `cn` or `xws`: what follows an `e`.
+pub(crate) fn read_behind_e(s: &[u8], from: usize) -> Piece
+    ensures { λ r. ⌜ r ≡ behindE (now (s .entry)) from ⌝ }
+{
+    if stands(s, from, b'c') {
+        return one_letter(s, from + 1, b'n', bits::ECN);
+    }
+    three_letters(s, from, b'x', b'w', b's', bits::EXCESSIVE_WINDOW_SCALING)
+}
+
+// `ptr+` or `rgf+`: what follows a `u`.
+pub(crate) fn read_behind_u(s: &[u8], from: usize) -> Piece
+    ensures { λ r. ⌜ r ≡ behindU (now (s .entry)) from ⌝ }
+{
+    if stands(s, from, b'p') {
+        return three_letters(s, from + 1, b't', b'r', b'+', bits::NON_ZERO_URG);
+    }
+    four_letters(s, from, b'r', b'g', b'f', b'+', bits::URG)
 }
 
 // `s1-` or `s2+`: what follows the `t` of a timestamp's quirk.
 pub(crate) fn read_stamp(s: &[u8], from: usize) -> Piece
     ensures { λ r. ⌜ r ≡ stampAt (now (s .entry)) from ⌝ }
 {
-    let read = read_word(s, from, b"s", 0);
-    if !read.good {
-        return no_piece(read.at);
+    if !stands(s, from, b's') {
+        return no_piece(from);
     }
-    read_names(
-        s,
-        read.at,
-        b"1-",
-        Quirk::OwnTimestampZero,
-        b"2+",
-        Quirk::PeerTimestampNonZero,
-    )
+    let next = from + 1;
+    if stands(s, next, b'1') {
+        return one_letter(s, next + 1, b'-', bits::OWN_TIMESTAMP_ZERO);
+    }
+    two_letters(s, next, b'2', b'+', bits::PEER_TIMESTAMP_NON_ZERO)
 }

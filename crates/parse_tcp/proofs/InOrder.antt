@@ -5,7 +5,7 @@ use mathlib.Core.Bool.{true}
 use mathlib.Core.List.{List}
 use Rattle.signature_line.specs.Line.{colon, comma}
 use Rattle.signature_line.specs.Words.{version, bareByte, mss, window, scale, payload}
-use Rattle.one_field.specs.declared.Piece.{Piece}
+use Rattle.numerals.specs.declared.Piece.{Piece}
 use Rattle.one_field.specs.declared.LinePlace.{LinePlace}
 use Rattle.one_field.specs.declared.TtlPiece.{TtlPiece}
 use Rattle.one_field.specs.Places.{place, behindAt, fieldAt, ttlAt}
@@ -78,7 +78,24 @@ module _ (s : List ℕ) where
       → v ≡ versionIn s → t ≡ ttlIn s → o ≡ olenIn s → m ≡ mssIn s → w ≡ windowIn s → k ≡ scaleIn s → l ≡ layoutIn s
       → q ≡ quirksIn s → p ≡ payloadIn s
       → _≡_ {A = LineFields}
-      (record { version = v; ittl = t; olen = o; mss = m; wsize = w; wscale = k; olayout = l; quirks = q; pclass = p })
+      (record {
+        at = p .at;
+        good = p .good;
+        version = v .form;
+        «ttl_form» = t .form;
+        ttl = t .ttl;
+        distance = t .distance;
+        olen = o .number;
+        «mss_form» = m .form;
+        mss = m .number;
+        «wsize_form» = w .form;
+        wsize = w .number;
+        «wscale_form» = k .form;
+        wscale = k .number;
+        pclass = p .form;
+        quirks = q .bits;
+        layout = l .layout;
+      })
       (lineFields s)
   unfolding lineFields
   all-read v t o m w k l q p a b c d e f g h i = rw (a, b, c, d, e, f, g, h, i)

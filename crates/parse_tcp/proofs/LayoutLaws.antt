@@ -19,9 +19,10 @@ use Rattle.signature_line.specs.Words.{entry}
 use Rattle.signature_line.proofs.Arrays.{length-each}
 use Rattle.signature_line.proofs.FieldsGood.{EntryGood, entry-good, layout-good}
 use Rattle.signature_line.proofs.Line.{entry-field, entry-empty, layout-field}
-use Rattle.one_field.specs.declared.Piece.{Piece}
+use Rattle.numerals.specs.declared.Piece.{Piece}
 use Rattle.one_field.specs.declared.LinePlace.{LinePlace}
-use Rattle.one_field.specs.Places.{pieceOf, stateAt, pieceAt}
+use Rattle.numerals.specs.Pieces.{pieceOf, stateAt}
+use Rattle.one_field.specs.Places.{pieceAt}
 use Rattle.parse_tcp.specs.RowPieces.{saidBy, layoutPiece, noLayout, layoutPieceOf, layoutAt, kindByte, restByte, store, keptOf}
 use Rattle.parse_tcp.specs.RowPieces.{keptAt, keptFrom}
 use Rattle.parse_tcp.proofs.MoreLaws.{next, one-on, more-ends, more-goes-on, more-bad, no-further}

@@ -17,9 +17,10 @@ use Rattle.signature_line.specs.LineReader.{quirksRead}
 use Rattle.signature_line.specs.Meaning.{unionFrom}
 use Rattle.signature_line.specs.Words.{quirkWord}
 use Rattle.signature_line.proofs.Line.{quirk-field, quirk-empty}
-use Rattle.one_field.specs.declared.Piece.{Piece}
+use Rattle.numerals.specs.declared.Piece.{Piece}
 use Rattle.one_field.specs.declared.LinePlace.{LinePlace}
-use Rattle.one_field.specs.Places.{pieceOf, stateAt, pieceAt}
+use Rattle.numerals.specs.Pieces.{pieceOf, stateAt}
+use Rattle.one_field.specs.Places.{pieceAt}
 use Rattle.parse_tcp.specs.declared.quirk_set.QuirksPiece.{QuirksPiece}
 use Rattle.parse_tcp.specs.RowPieces.{quirksPiece, quirksOf, quirksAt, namesAt, namesFrom}
 use Rattle.parse_tcp.proofs.MoreLaws.{next, inside, one-on, more-ends, more-goes-on, more-bad, no-further}

@@ -9,9 +9,10 @@ use Rattle.grammar.specs.States.{tableRead}
 use Rattle.grammar.specs.Table.{Row, Said}
 use Rattle.signature_line.specs.Answer.{refusedAt}
 use Rattle.signature_line.specs.declared.SignatureRead.{SignatureRead}
-use Rattle.one_field.specs.declared.Piece.{Piece}
+use Rattle.numerals.specs.declared.Piece.{Piece}
 use Rattle.one_field.specs.declared.LinePlace.{LinePlace}
-use Rattle.one_field.specs.Places.{noPiece, pieceOf, stateAt, fieldAt, behindAt}
+use Rattle.numerals.specs.Pieces.{noPiece, pieceOf, stateAt}
+use Rattle.one_field.specs.Places.{fieldAt, behindAt}
 use Rattle.parse_tcp.specs.RowPieces.{saidBy}
 use Rattle.parse_tcp.proofs.Chain.{finish, finishAt, then-finish}
 

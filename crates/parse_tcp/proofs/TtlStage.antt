@@ -16,7 +16,8 @@ use Rattle.signature_line.specs.declared.SignatureRead.{SignatureRead}
 use Rattle.signature_line.proofs.Line.{byte-field}
 use Rattle.one_field.specs.declared.LinePlace.{LinePlace}
 use Rattle.one_field.specs.declared.TtlPiece.{TtlPiece}
-use Rattle.one_field.specs.Places.{pieceOf, stateAt, fieldAt, behindAt, noTtl, ttlAt}
+use Rattle.numerals.specs.Pieces.{pieceOf, stateAt}
+use Rattle.one_field.specs.Places.{fieldAt, behindAt, noTtl, ttlAt}
 use Rattle.parse_tcp.proofs.Chain.{finishAt}
 use Rattle.parse_tcp.proofs.StageLaws.{nowhere, behind-off, any-stage}
 

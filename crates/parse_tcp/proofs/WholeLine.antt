@@ -135,20 +135,23 @@ module _ (s : List ℕ) where
 -- ---- over what the calls gave
 
 module _ (s : List ℕ) (h : length s ≤ longest) (f : LineFields) (e : f ≡ lineFields s) where
-  last : f .pclass ≡ payloadIn s
+  ended : f .at ≡ payloadIn s .at
   unfolding lineFields
-  last = ap (λ (x : LineFields). x .pclass) e
+  ended = ap (λ (x : LineFields). x .at) e
 
-  pub gave-bad : not (f .pclass .good) ≡ true → refusedAt (f .pclass .at) ≡ readLine s
-  gave-bad b = rw last (ends-bad s h (rw last at (not-true (f .pclass .good) b)))
+  meant : f .good ≡ payloadIn s .good
+  unfolding lineFields
+  meant = ap (λ (x : LineFields). x .good) e
 
-  pub gave-early : not (f .pclass .good) ≡ false → (f .pclass .at ≡ length s → ⊥) → refusedAt (f .pclass .at) ≡ readLine s
-  gave-early b d = rw last (ends-early s h (rw last at (not-false (f .pclass .good) b)) (λ z. d (rw last z)))
+  pub gave-bad : not (f .good) ≡ true → refusedAt (f .at) ≡ readLine s
+  gave-bad b = rw ended (ends-bad s h (sym meant ∙ not-true (f .good) b))
+
+  pub gave-early : not (f .good) ≡ false → (f .at ≡ length s → ⊥) → refusedAt (f .at) ≡ readLine s
+  gave-early b d = rw ended (ends-early s h (sym meant ∙ not-false (f .good) b) (λ z. d (ended ∙ z)))
 
   pub gave-whole
-      : not (f .pclass .good) ≡ false → f .pclass .at ≡ length s → (raw : List ℕ) → raw ≡ recordBytes f
-      → readSo raw (f .olayout .layout) ≡ readLine s
+      : not (f .good) ≡ false → f .at ≡ length s → (raw : List ℕ) → raw ≡ recordBytes f → readSo raw (f .layout) ≡ readLine s
   unfolding lineFields
   gave-whole b d raw r =
-      let same : f .olayout ≡ layoutIn s = ap (λ (x : LineFields). x .olayout) e in
-      rw same (ends-whole s h (rw last at (not-false (f .pclass .good) b)) (rw last at d) raw (r ∙ ap recordBytes e))
+      let same : f .layout ≡ layoutIn s .layout = ap (λ (x : LineFields). x .layout) e in
+      rw same (ends-whole s h (sym meant ∙ not-false (f .good) b) (sym ended ∙ d) raw (r ∙ ap recordBytes e))

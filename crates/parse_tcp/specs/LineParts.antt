@@ -4,7 +4,7 @@ use mathlib.Core.Bool.{true}
 use mathlib.Core.List.{List, [], _∷_}
 use Rattle.signature_line.specs.Line.{colon, comma}
 use Rattle.signature_line.specs.Words.{version, bareByte, mss, window, scale, payload}
-use Rattle.one_field.specs.declared.Piece.{Piece}
+use Rattle.numerals.specs.declared.Piece.{Piece}
 use Rattle.one_field.specs.declared.TtlPiece.{TtlPiece}
 use Rattle.one_field.specs.Places.{place, behindAt, fieldAt, ttlAt}
 use Rattle.parse_tcp.specs.declared.layout.LayoutPiece.{LayoutPiece}
@@ -42,41 +42,48 @@ payloadIn s = fieldAt payload s (behindAt colon s (quirksIn s .at) (quirksIn s .
 unfoldable pub lineFields : List ℕ → LineFields
 lineFields s =
     record {
-      version = versionIn s;
-      ittl = ttlIn s;
-      olen = olenIn s;
-      mss = mssIn s;
-      wsize = windowIn s;
-      wscale = scaleIn s;
-      olayout = layoutIn s;
-      quirks = quirksIn s;
-      pclass = payloadIn s;
+      at = payloadIn s .at;
+      good = payloadIn s .good;
+      version = versionIn s .form;
+      «ttl_form» = ttlIn s .form;
+      ttl = ttlIn s .ttl;
+      distance = ttlIn s .distance;
+      olen = olenIn s .number;
+      «mss_form» = mssIn s .form;
+      mss = mssIn s .number;
+      «wsize_form» = windowIn s .form;
+      wsize = windowIn s .number;
+      «wscale_form» = scaleIn s .form;
+      wscale = scaleIn s .number;
+      pclass = payloadIn s .form;
+      quirks = quirksIn s .bits;
+      layout = layoutIn s .layout;
     }
 
 -- The record, each number in the bytes that it has there.
 unfoldable pub recordBytes : LineFields → List ℕ
 recordBytes f =
-    f .version .form % 256
-    ∷ f .ittl .form % 256
-    ∷ f .ittl .ttl % 256
-    ∷ f .ittl .distance % 256
-    ∷ f .olen .number % 256
-    ∷ f .mss .form % 256
-    ∷ f .mss .number / 256 % 256
-    ∷ f .mss .number % 256
-    ∷ f .wsize .form % 256
-    ∷ f .wsize .number / 256 % 256
-    ∷ f .wsize .number % 256
-    ∷ f .wscale .form % 256
-    ∷ f .wscale .number % 256
-    ∷ f .pclass .form % 256
-    ∷ f .quirks .bits / 16777216 % 256
-    ∷ f .quirks .bits / 65536 % 256
-    ∷ f .quirks .bits / 256 % 256
-    ∷ f .quirks .bits % 256
+    f .version % 256
+    ∷ f .«ttl_form» % 256
+    ∷ f .ttl % 256
+    ∷ f .distance % 256
+    ∷ f .olen % 256
+    ∷ f .«mss_form» % 256
+    ∷ f .mss / 256 % 256
+    ∷ f .mss % 256
+    ∷ f .«wsize_form» % 256
+    ∷ f .wsize / 256 % 256
+    ∷ f .wsize % 256
+    ∷ f .«wscale_form» % 256
+    ∷ f .wscale % 256
+    ∷ f .pclass % 256
+    ∷ f .quirks / 16777216 % 256
+    ∷ f .quirks / 65536 % 256
+    ∷ f .quirks / 256 % 256
+    ∷ f .quirks % 256
     ∷ 0
     ∷ 0
-    ∷ f .olayout .layout .count % 256
+    ∷ f .layout .count % 256
     ∷ 0
     ∷ 0
     ∷ 0

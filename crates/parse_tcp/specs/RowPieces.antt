@@ -11,7 +11,7 @@ use Rattle.signature_line.specs.Line.{comma}
 use Rattle.signature_line.specs.LineReader.{layoutRead, quirksRead}
 use Rattle.signature_line.specs.Meaning.{kindSaid, byteSaid, layoutOf, unionFrom}
 use Rattle.signature_line.specs.Words.{entry, quirkWord}
-use Rattle.one_field.specs.declared.Piece.{Piece}
+use Rattle.numerals.specs.declared.Piece.{Piece}
 use Rattle.one_field.specs.declared.LinePlace.{LinePlace}
 use Rattle.parse_tcp.specs.declared.layout.LayoutPiece.{LayoutPiece}
 use Rattle.parse_tcp.specs.declared.quirk_set.QuirksPiece.{QuirksPiece}

@@ -1,8 +1,8 @@
 // The layout of a line: entries with commas between them, at most 40.
 ghost use mathlib.Core.Path.{_≡_};
 ghost use Rattle.parse_tcp.specs.RowPieces.{noLayout, layoutAt, keptFrom, kindByte, restByte};
+use numerals::Piece;
 use one_field::LinePlace;
-use one_field::Piece;
 use one_field::behind;
 use one_field::parse_tcp_option;
 use tcp::Layout;

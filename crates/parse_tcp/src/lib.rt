@@ -3,11 +3,8 @@ ghost use mathlib.Core.Path.{_≡_};
 ghost use Rattle.signature_line.specs.Answer.{refusedAt};
 ghost use Rattle.signature_line.specs.LineReader.{readLine};
 ghost use Rattle.parse_tcp.specs.LineParts.{lineFields};
-use layout::LayoutPiece;
 use layout::parse_olayout;
 use one_field::LinePlace;
-use one_field::Piece;
-use one_field::TtlPiece;
 use one_field::behind;
 use one_field::parse_ip_version;
 use one_field::parse_mss;
@@ -16,7 +13,6 @@ use one_field::parse_payload_size;
 use one_field::parse_ttl;
 use one_field::parse_window_size;
 use one_field::parse_wscale;
-use quirk_set::QuirksPiece;
 use quirk_set::parse_quirks;
 use raw::record_of;
 use signature_line::LineAnswer;
@@ -30,19 +26,27 @@ mod raw;
 // The longest line.
 const LONGEST: usize = 512;
 
-// Every field of a line, each read where the one before it ended and its separator stands.
+// What the fields of a line say, and where the last of them ended.
 pub struct LineFields {
-    pub version: Piece,
-    pub ittl: TtlPiece,
-    pub olen: Piece,
-    pub mss: Piece,
-    pub wsize: Piece,
-    pub wscale: Piece,
-    pub olayout: LayoutPiece,
-    pub quirks: QuirksPiece,
-    pub pclass: Piece,
+    pub at: usize,
+    pub good: bool,
+    pub version: u32,
+    pub ttl_form: u32,
+    pub ttl: u32,
+    pub distance: u32,
+    pub olen: u32,
+    pub mss_form: u32,
+    pub mss: u32,
+    pub wsize_form: u32,
+    pub wsize: u32,
+    pub wscale_form: u32,
+    pub wscale: u32,
+    pub pclass: u32,
+    pub quirks: u32,
+    pub layout: Layout,
 }
 
+// Each field is read where the one before it ended and its separator stands.
 fn read_fields(line: &[u8]) -> LineFields
     ensures { λ r. ⌜ r ≡ lineFields (now (line .entry)) ⌝ }
 {
@@ -56,16 +60,24 @@ fn read_fields(line: &[u8]) -> LineFields
     let olayout = parse_olayout(line, behind(line, wscale.at, wscale.good, b':'));
     let quirks = parse_quirks(line, behind(line, olayout.at, olayout.good, b':'));
     let pclass = parse_payload_size(line, behind(line, quirks.at, quirks.good, b':'));
+    let layout = olayout.layout;
     LineFields {
-        version: version,
-        ittl: ittl,
-        olen: olen,
-        mss: mss,
-        wsize: wsize,
-        wscale: wscale,
-        olayout: olayout,
-        quirks: quirks,
-        pclass: pclass,
+        at: pclass.at,
+        good: pclass.good,
+        version: version.form,
+        ttl_form: ittl.form,
+        ttl: ittl.ttl,
+        distance: ittl.distance,
+        olen: olen.number,
+        mss_form: mss.form,
+        mss: mss.number,
+        wsize_form: wsize.form,
+        wsize: wsize.number,
+        wscale_form: wscale.form,
+        wscale: wscale.number,
+        pclass: pclass.form,
+        quirks: quirks.bits,
+        layout: layout,
     }
 }
 
@@ -95,15 +107,13 @@ pub fn parse_tcp_signature(line: &[u8]) -> SignatureRead
         return refused_at(LONGEST);
     }
     let fields = read_fields(line);
-    let last = fields.pclass;
-    if !last.good {
-        return refused_at(last.at);
+    if !fields.good {
+        return refused_at(fields.at);
     }
-    if last.at != line.len() {
-        return refused_at(last.at);
+    if fields.at != line.len() {
+        return refused_at(fields.at);
     }
-    let read = fields.olayout;
-    let layout = read.layout;
+    let layout = fields.layout;
     SignatureRead {
         answer: LineAnswer::Read,
         raw: record_of(fields),

@@ -1,8 +1,8 @@
 // The quirks of a line: names with commas between them, a set.
 ghost use mathlib.Core.Path.{_≡_};
 ghost use Rattle.parse_tcp.specs.RowPieces.{quirksPiece, quirksAt, namesFrom};
+use numerals::Piece;
 use one_field::LinePlace;
-use one_field::Piece;
 use one_field::behind;
 use one_field::parse_quirk;
 

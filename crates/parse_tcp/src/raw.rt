@@ -7,39 +7,28 @@ use crate::LineFields;
 pub(crate) fn record_of(fields: LineFields) -> [u8; 24]
     ensures { λ r. ⌜ r ≡ recordBytes fields ⌝ }
 {
-    let version = fields.version;
-    let ittl = fields.ittl;
-    let olen = fields.olen;
-    let mss = fields.mss;
-    let wsize = fields.wsize;
-    let wscale = fields.wscale;
-    let pclass = fields.pclass;
-    let read = fields.quirks;
-    let quirks = read.bits;
-    let olayout = fields.olayout;
-    let layout = olayout.layout;
     [
-        (version.form % 256) as u8,
-        (ittl.form % 256) as u8,
-        (ittl.ttl % 256) as u8,
-        (ittl.distance % 256) as u8,
-        (olen.number % 256) as u8,
-        (mss.form % 256) as u8,
-        (mss.number / 256 % 256) as u8,
-        (mss.number % 256) as u8,
-        (wsize.form % 256) as u8,
-        (wsize.number / 256 % 256) as u8,
-        (wsize.number % 256) as u8,
-        (wscale.form % 256) as u8,
-        (wscale.number % 256) as u8,
-        (pclass.form % 256) as u8,
-        (quirks / 16777216 % 256) as u8,
-        (quirks / 65536 % 256) as u8,
-        (quirks / 256 % 256) as u8,
-        (quirks % 256) as u8,
+        (fields.version % 256) as u8,
+        (fields.ttl_form % 256) as u8,
+        (fields.ttl % 256) as u8,
+        (fields.distance % 256) as u8,
+        (fields.olen % 256) as u8,
+        (fields.mss_form % 256) as u8,
+        (fields.mss / 256 % 256) as u8,
+        (fields.mss % 256) as u8,
+        (fields.wsize_form % 256) as u8,
+        (fields.wsize / 256 % 256) as u8,
+        (fields.wsize % 256) as u8,
+        (fields.wscale_form % 256) as u8,
+        (fields.wscale % 256) as u8,
+        (fields.pclass % 256) as u8,
+        (fields.quirks / 16777216 % 256) as u8,
+        (fields.quirks / 65536 % 256) as u8,
+        (fields.quirks / 256 % 256) as u8,
+        (fields.quirks % 256) as u8,
         0,
         0,
-        (layout.count % 256) as u8,
+        (fields.layout.count % 256) as u8,
         0,
         0,
         0,

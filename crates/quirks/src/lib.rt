@@ -4,6 +4,8 @@ ghost use Prim.Native.Nat.{ℕ};
 ghost use Rattle.quirks.specs.Quirks.{bitOf, setOf, bitsOf, isEmpty, contains, with, addIf, difference};
 ghost use Rattle.quirks.specs.Named.{namedSets};
 
+pub mod bits;
+
 // A quirk, in the order of p0f's text form (the names are the original's, its spelling included).
 pub enum Quirk {
     Df,
@@ -31,23 +33,23 @@ impl Quirk {
         ensures { λ r. ⌜ r ≡ bitOf self ⌝ }
     {
         match self {
-            Quirk::Ecn => 0x0000_0001,
-            Quirk::Df => 0x0000_0002,
-            Quirk::NonZeroID => 0x0000_0004,
-            Quirk::ZeroID => 0x0000_0008,
-            Quirk::MustBeZero => 0x0000_0010,
-            Quirk::FlowID => 0x0000_0020,
-            Quirk::SeqNumZero => 0x0000_1000,
-            Quirk::AckNumNonZero => 0x0000_2000,
-            Quirk::AckNumZero => 0x0000_4000,
-            Quirk::NonZeroURG => 0x0000_8000,
-            Quirk::Urg => 0x0001_0000,
-            Quirk::Push => 0x0002_0000,
-            Quirk::OwnTimestampZero => 0x0100_0000,
-            Quirk::PeerTimestampNonZero => 0x0200_0000,
-            Quirk::TrailinigNonZero => 0x0400_0000,
-            Quirk::ExcessiveWindowScaling => 0x0800_0000,
-            Quirk::OptBad => 0x1000_0000,
+            Quirk::Ecn => bits::ECN,
+            Quirk::Df => bits::DF,
+            Quirk::NonZeroID => bits::NON_ZERO_ID,
+            Quirk::ZeroID => bits::ZERO_ID,
+            Quirk::MustBeZero => bits::MUST_BE_ZERO,
+            Quirk::FlowID => bits::FLOW_ID,
+            Quirk::SeqNumZero => bits::SEQ_NUM_ZERO,
+            Quirk::AckNumNonZero => bits::ACK_NUM_NON_ZERO,
+            Quirk::AckNumZero => bits::ACK_NUM_ZERO,
+            Quirk::NonZeroURG => bits::NON_ZERO_URG,
+            Quirk::Urg => bits::URG,
+            Quirk::Push => bits::PUSH,
+            Quirk::OwnTimestampZero => bits::OWN_TIMESTAMP_ZERO,
+            Quirk::PeerTimestampNonZero => bits::PEER_TIMESTAMP_NON_ZERO,
+            Quirk::TrailinigNonZero => bits::TRAILINIG_NON_ZERO,
+            Quirk::ExcessiveWindowScaling => bits::EXCESSIVE_WINDOW_SCALING,
+            Quirk::OptBad => bits::OPT_BAD,
         }
     }
 }

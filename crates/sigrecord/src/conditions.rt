@@ -22,14 +22,12 @@ use quirks::QuirkSet;
 pub(crate) fn version_good(raw: &[u8]) -> bool
     ensures { λ r. ⌜ r ≡ versionGood (byteAt (now (raw .entry)) 0) ⌝ }
 {
-    let code = byte_at(raw, VERSION);
-    if code == 0 {
-        return true;
+    match byte_at(raw, VERSION) {
+        0 => true,
+        4 => true,
+        6 => true,
+        _ => false,
     }
-    if code == 4 {
-        return true;
-    }
-    code == 6
 }
 
 pub(crate) fn ttl_good(raw: &[u8]) -> bool
@@ -48,13 +46,11 @@ pub(crate) fn ttl_good(raw: &[u8]) -> bool
 pub(crate) fn presence_good(present: u8, number: u16) -> bool
     ensures { λ r. ⌜ r ≡ presenceGood present number ⌝ }
 {
-    if present == 1 {
-        return true;
+    match present {
+        0 => number == 0,
+        1 => true,
+        _ => false,
     }
-    if present == 0 {
-        return number == 0;
-    }
-    false
 }
 
 pub(crate) fn window_good(raw: &[u8]) -> bool

@@ -232,14 +232,21 @@ fn tell(whole: bool) {
     }
 }
 
+// The answers to what came, by how the input ends behind it.
+fn answer(bundle: &[u8], ending: Ending)
+    requires { ⌜ EndsAs ending (length (now bundle)) 65535 ⌝ }
+{
+    match ending {
+        Ending::Whole => tell(write_output(bundle, false)),
+        Ending::Longer => tell(write_output(bundle, true)),
+        Ending::Failed => say(b"termread: standard input could not be read\n"),
+    }
+}
+
 fn main() {
     let mut buffer = [0u8; 65535];
     let input = read_input(&mut buffer);
     let count = input.count;
     let ending = input.ending;
-    match ending {
-        Ending::Whole => tell(write_output(&buffer[0..count], false)),
-        Ending::Longer => tell(write_output(&buffer[0..count], true)),
-        Ending::Failed => say(b"termread: standard input could not be read\n"),
-    }
+    answer(&buffer[0..count], ending);
 }

@@ -58,13 +58,12 @@ pub fn guess_distance(ttl: u8) -> u8
 pub fn calculate_ttl(ttl_observed: u8) -> Ttl
     ensures { λ r. ⌜ r ≡ readingOf «ttl_observed» ⌝ }
 {
-    if ttl_observed == 0 {
-        return Ttl::Bad(ttl_observed);
+    if ttl_observed != 0 {
+        let distance = guess_distance(ttl_observed);
+        if distance <= MAX_HOPS_ACCEPTABLE {
+            return Ttl::Distance(ttl_observed, distance);
+        }
+        return Ttl::Value(ttl_observed);
     }
-    let distance = guess_distance(ttl_observed);
-    if distance <= MAX_HOPS_ACCEPTABLE {
-        Ttl::Distance(ttl_observed, distance)
-    } else {
-        Ttl::Value(ttl_observed)
-    }
+    Ttl::Bad(ttl_observed)
 }

@@ -9,12 +9,14 @@ use Rattle.flow.proofs.observe.Tie as tie
 returns : tie.Need-returns
 unfolding observationFrom
 returns c =
-    let t = c .before .before .before .before .before .before .before .args .tcp .now in
+    let at-walk = c .before .before in
+    let t = at-walk .before .before .before .before .before .before .args .tcp .now in
     simp (
       c .tcp-observation .ensures,
-      c .before .walk-options .ensures,
-      c .before .before .before .shown-quirks .ensures,
-      c .before .before .before .before .before .options-end .ensures,
+      c .before .peer-taken .ensures,
+      at-walk .walk-options .ensures,
+      at-walk .before .before .shown-quirks .ensures,
+      at-walk .before .before .before .before .options-end .ensures,
       part-raised 20 (optionsEnd t) t,
     )
 
@@ -22,4 +24,4 @@ pub observe-spec : {M : Type 1} → statement M
 observe-spec =
     tie.close
     (tie.spec (λ c κs. search needs) (λ c κs. search needs) (λ c. search needs) (λ c. search needs) (λ c. search needs)
-    (λ c κs. search needs) (λ c κs. search needs) returns)
+    (λ c κs. search needs) (λ c κs. search needs) (λ c κs. search needs) returns)

@@ -1,48 +1,123 @@
 -- `flow::read_packet_in` meets its contract.
-use Rattle.ip.proofs.Ip.{tcp-part-lies}
-use Rattle.basis.proofs.Bytes.{part-length}
-use native.Mathlib.Omega.{arith}
 use mathlib.Core.Path.{sym, _∙_}
+use native.Mathlib.Omega.{arith}
+use borrow.Author.Tests.{not-true, not-false}
+use Rattle.ip.proofs.Ip.{tcp-part-lies}
 use Rattle.flow.specs.Modes.{readIn}
+use Rattle.flow.proofs.Stage.{part-long, refused-14, read-on, opening-read, nothing-read, refused-7}
 use borrow.Author.Needs.{needs}
 use Rattle.flow.proofs.read_packet_in.Statement.{statement}
 use Rattle.flow.proofs.read_packet_in.Tie as tie
-
-sub-visit-tcp-in : tie.Need-sub-visit-tcp-in
-sub-visit-tcp-in c =
-    let lies = tcp-part-lies _ _ (sym (c .before .before .before .read-ip .ensures) ∙ c .before .facts .given .1) in
-    omega arith
-
-part-visit-tcp-in-start : tie.Need-part-visit-tcp-in-start
-part-visit-tcp-in-start c =
-    let lies = tcp-part-lies _ _ (sym (c .before .before .before .read-ip .ensures) ∙ c .before .facts .given .1) in
-    search needs
-
-part-visit-tcp-in-end : tie.Need-part-visit-tcp-in-end
-part-visit-tcp-in-end c =
-    let lies = tcp-part-lies _ _ (sym (c .before .before .before .read-ip .ensures) ∙ c .before .facts .given .1) in
-    search needs
-
-visit-tcp-in-requires : tie.Need-visit-tcp-in-requires
-visit-tcp-in-requires c κs =
-    let lies = tcp-part-lies _ _ (sym (c .before .before .before .before .read-ip .ensures) ∙ c .before .before .facts .given .1) in
-    rw (part-length _ _ _ (lies .1)) (omega arith)
 
 returns : tie.Need-returns
 unfolding readIn
 returns c =
     rw (sym (c .before .before .before .before .read-ip .ensures) ∙ c .before .before .refusal .given .1, c .refuse .ensures)
 
+-- ---- the part lies in the packet
+
+sub-tcp : tie.Need-sub-tcp
+sub-tcp c =
+    let lies = tcp-part-lies _ _ (sym (c .before .before .before .read-ip .ensures) ∙ c .before .facts .given .1) in
+    omega arith
+
+part-tcp-start : tie.Need-part-tcp-start
+part-tcp-start c =
+    let lies = tcp-part-lies _ _ (sym (c .before .before .before .read-ip .ensures) ∙ c .before .facts .given .1) in
+    search needs
+
+part-tcp-end : tie.Need-part-tcp-end
+part-tcp-end c =
+    let lies = tcp-part-lies _ _ (sym (c .before .before .before .read-ip .ensures) ∙ c .before .facts .given .1) in
+    search needs
+
+header-bytes-requires : tie.Need-header-bytes-requires
+header-bytes-requires c κs =
+    part-long _ _ (sym (c .before .before .before .before .read-ip .ensures) ∙ c .before .before .facts .given .1)
+
+-- ---- the mode's choice
+
 returns-2 : tie.Need-returns-2
-unfolding readIn
 returns-2 c =
+    let at-header = c .before .before .before in
+    let facts = at-header .before .before .before .facts in
+    let handed = sym (at-header .before .before .before .before .before .read-ip .ensures) ∙ facts .given .1 in
+    let a = at-header .before .before .before .before .before .before .before .args in
     rw (
-      sym (c .before .before .before .before .before .read-ip .ensures) ∙ c .before .before .before .facts .given .1,
-      c .visit-tcp-in .ensures,
+      c .refuse2 .ensures,
+      refused-14 (a .mode) _ _ (a .peer-mss) _ handed
+          (at-header .header-bytes .ensures) (sym (c .before .before .sets-aside .ensures) ∙ c .before .if1 .taken),
     )
+
+-- ---- the flags
+
+shared-slice-read-flags : tie.Need-shared-slice-read-flags
+shared-slice-read-flags c =
+    let at-header = c .before .before .before in
+    let long =
+    part-long _ _
+    (sym (at-header .before .before .before .before .before .read-ip .ensures) ∙ at-header .before .before .before .facts .given .1)
+    in
+    search needs
+
+observe-requires : tie.Need-observe-requires
+observe-requires c κs =
+    let at-header = c .before .before .before .before .before .before in
+    part-long _ _
+    (sym (at-header .before .before .before .before .before .read-ip .ensures) ∙ at-header .before .before .before .facts .given .1)
+
+returns-3 : tie.Need-returns-3
+returns-3 c =
+    let at-type = c .before .before .before in
+    let at-header = at-type .before .before .before .before in
+    let facts = at-header .before .before .before .facts in
+    let handed = sym (at-header .before .before .before .before .before .read-ip .ensures) ∙ facts .given .1 in
+    let a = at-header .before .before .before .before .before .before .before .args in
+    let byte = at-type .before .shared-slice-known2 .given 13 in
+    let kept = sym (at-type .before .before .before .sets-aside .ensures) ∙ at-type .before .before .if1 .left in
+    rw (
+      c .observe .ensures,
+      c .before .opening-answer .ensures,
+      at-type .tcp-type .ensures,
+      read-on (a .mode) _ _ (a .peer-mss) _ handed (at-header .header-bytes .ensures) kept,
+    )
+    (opening-read (facts .given .0 .0) _ _ (omega arith) (rw (← at-type .tcp-type .ensures) (c .before .before .if2 .taken)))
+
+returns-4 : tie.Need-returns-4
+returns-4 c =
+    let at-type = c .before .before .before .before in
+    let at-header = at-type .before .before .before .before in
+    let facts = at-header .before .before .before .facts in
+    let handed = sym (at-header .before .before .before .before .before .read-ip .ensures) ∙ facts .given .1 in
+    let a = at-header .before .before .before .before .before .before .before .args in
+    let valid = c .before .before .is-valid in
+    let kept = sym (at-type .before .before .before .sets-aside .ensures) ∙ at-type .before .before .if1 .left in
+    rw (
+      c .nothing .ensures,
+      read-on (a .mode) _ _ (a .peer-mss) _ handed (at-header .header-bytes .ensures) kept,
+    )
+    (nothing-read _ _ _ (not-true _ (sym (valid .ensures) ∙ c .before .if3 .taken))
+    (rw (← at-type .tcp-type .ensures) (c .before .before .before .if2 .left)))
+
+returns-5 : tie.Need-returns-5
+returns-5 c =
+    let at-type = c .before .before .before .before in
+    let at-header = at-type .before .before .before .before in
+    let facts = at-header .before .before .before .facts in
+    let handed = sym (at-header .before .before .before .before .before .read-ip .ensures) ∙ facts .given .1 in
+    let a = at-header .before .before .before .before .before .before .before .args in
+    let valid = c .before .before .is-valid in
+    let kept = sym (at-type .before .before .before .sets-aside .ensures) ∙ at-type .before .before .if1 .left in
+    rw (
+      c .refuse3 .ensures,
+      read-on (a .mode) _ _ (a .peer-mss) _ handed (at-header .header-bytes .ensures) kept,
+    )
+    (refused-7 _ _ _ (not-false _ (sym (valid .ensures) ∙ c .before .if3 .left)))
 
 pub read-packet-in-spec : {M : Type 1} → statement M
 read-packet-in-spec =
     tie.close
-    (tie.spec (λ c κs. search needs) (λ c. search needs) (λ c κs. search needs) (λ c. search needs) sub-visit-tcp-in
-    part-visit-tcp-in-start part-visit-tcp-in-end visit-tcp-in-requires returns returns-2)
+    (tie.spec (λ c κs. search needs) (λ c. search needs) (λ c κs. search needs) returns (λ c. search needs) sub-tcp part-tcp-start
+    part-tcp-end header-bytes-requires (λ c. search needs) (λ c κs. search needs) (λ c κs. search needs) returns-2 shared-slice-read-flags
+    (λ c κs. search needs) (λ c κs. search needs) observe-requires returns-3 (λ c κs. search needs) (λ c κs. search needs) returns-4
+    (λ c κs. search needs) returns-5)

@@ -1,5 +1,6 @@
 -- `flow::shown_quirks` meets its contract.
-use Rattle.flow.specs.Tcp.{headerQuirks, quirksOfHeaders}
+use Rattle.flow.specs.Tcp.{quirksOfHeaders}
+use Rattle.tcp_header.specs.HeaderQuirks.{headerQuirks}
 use Rattle.basis.specs.Bytes.{be16}
 use borrow.Author.Needs.{needs}
 use Rattle.flow.proofs.shown_quirks.Statement.{statement}

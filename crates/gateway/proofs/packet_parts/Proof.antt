@@ -17,13 +17,10 @@ returns-3 c = rw (c .before .enum-told .given .1, c .plain .ensures)
 
 returns-4 : tie.Need-returns-4
 unfolding packetParts
-returns-4 c =
-    let at = c .before .before in
-    rw (at .before .before .answer3 .given .1, c .refused .ensures, c .before .packet-value .ensures, at .refusal-number .ensures)
+returns-4 c = rw (c .before .before .answer3 .given .1, c .refused-packet .ensures)
 
 pub packet-parts-spec : {M : Type 1} → statement M
 packet-parts-spec =
     tie.close
     (tie.spec (λ c. search needs) (λ c κs. search needs) (λ c. search needs) (λ c κs. search needs) (λ c. search needs)
-    (λ c κs. search needs) (λ c. search needs) (λ c κs. search needs) (λ c κs. search needs) (λ c. search needs)
-    (λ c κs. search needs) returns returns-2 returns-3 returns-4)
+    (λ c κs. search needs) (λ c. search needs) (λ c κs. search needs) returns returns-2 returns-3 returns-4)

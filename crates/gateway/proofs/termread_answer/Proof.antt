@@ -10,13 +10,8 @@ use Rattle.gateway.proofs.termread_answer.Tie as tie
 returns : tie.Need-returns
 unfolding gatewayAnswer answerOf answerIn readPacket readIn
 returns c =
-    let at = c .before .before .before in
-    rw (
-      sym (at .before .before .check-list .ensures) ∙ at .enum-told .given .1,
-      c .packet-parts .ensures,
-      c .before .answer-packet-in .ensures,
-      c .before .before .peer-of .ensures,
-    )
+    let at = c .before in
+    rw (sym (at .before .before .check-list .ensures) ∙ at .enum-told .given .1, c .answered .ensures)
 
 returns-2 : tie.Need-returns-2
 unfolding gatewayAnswer answerOf answerIn readPacket readIn
@@ -27,5 +22,5 @@ returns-2 c =
 pub termread-answer-spec : {M : Type 1} → statement M
 termread-answer-spec =
     tie.close
-    (tie.spec (λ c κs. search needs) (λ c. search needs) (λ c κs. search needs) (λ c κs. search needs)
-    (λ c κs. search needs) (λ c. search needs) (λ c κs. search needs) returns returns-2)
+    (tie.spec (λ c κs. search needs) (λ c. search needs) (λ c κs. search needs) (λ c. search needs) (λ c κs. search needs) returns
+    returns-2)

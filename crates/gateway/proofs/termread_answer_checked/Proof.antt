@@ -7,9 +7,8 @@ use Rattle.gateway.proofs.termread_answer_checked.Tie as tie
 
 returns : tie.Need-returns
 unfolding answerOf answerIn readPacket readIn
-returns c = rw (c .packet-parts .ensures, c .before .answer-packet-in .ensures, c .before .before .peer-of .ensures)
+returns c = rw (c .answered .ensures)
 
 pub termread-answer-checked-spec : {M : Type 1} → statement M
 termread-answer-checked-spec =
-    tie.close
-    (tie.spec (λ c κs. search needs) (λ c κs. search needs) (λ c κs. search needs) returns)
+    tie.close (tie.spec (λ c κs. search needs) returns)

@@ -7,14 +7,8 @@ use Rattle.gateway.proofs.termread_answer_in.Tie as tie
 returns : tie.Need-returns
 unfolding gatewayIn
 returns c =
-    let at = c .before .before .before .before in
-    rw (
-      sym (at .before .before .check-list .ensures) ∙ at .enum-told .given .1,
-      c .packet-parts .ensures,
-      c .before .answer-packet-in .ensures,
-      c .before .before .mode-of .ensures,
-      c .before .before .before .peer-of .ensures,
-    )
+    let at = c .before .before in
+    rw (sym (at .before .before .check-list .ensures) ∙ at .enum-told .given .1, c .answered .ensures, c .before .mode-of .ensures)
 
 returns-2 : tie.Need-returns-2
 unfolding gatewayIn
@@ -25,5 +19,5 @@ returns-2 c =
 pub termread-answer-in-spec : {M : Type 1} → statement M
 termread-answer-in-spec =
     tie.close
-    (tie.spec (λ c κs. search needs) (λ c. search needs) (λ c κs. search needs) (λ c κs. search needs) (λ c κs. search needs)
-    (λ c κs. search needs) (λ c. search needs) (λ c κs. search needs) returns returns-2)
+    (tie.spec (λ c κs. search needs) (λ c. search needs) (λ c κs. search needs) (λ c κs. search needs) (λ c. search needs)
+    (λ c κs. search needs) returns returns-2)

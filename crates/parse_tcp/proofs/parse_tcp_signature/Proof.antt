@@ -12,24 +12,24 @@ returns c = c .refused-at .ensures ∙ sym (long (c .before .before .before .arg
 
 returns-2 : tie.Need-returns-2
 returns-2 c =
-    let s = c .before .before .before .before .before .before .before .args .line .now in
-    let f = c .before .before .before .before .read-fields in
+    let s = c .before .before .before .before .before .before .args .line .now in
+    let f = c .before .before .before .read-fields in
     c .refused-at2 .ensures ∙ gave-bad s (omega arith) (f .result) (f .ensures) (c .before .if2 .taken)
 
 returns-3 : tie.Need-returns-3
 returns-3 c =
-    let s = c .before .before .before .before .before .before .before .before .before .args .line .now in
-    let f = c .before .before .before .before .before .before .read-fields in
+    let s = c .before .before .before .before .before .before .before .before .args .line .now in
+    let f = c .before .before .before .before .before .read-fields in
     c .refused-at3 .ensures
     ∙ gave-early s (omega arith) (f .result) (f .ensures) (c .before .before .before .if2 .left) (c .before .if3 .taken)
 
 returns-4 : tie.Need-returns-4
 returns-4 c =
-    let s = c .before .before .before .before .before .before .before .before .before .before .before .args .line .now in
-    let f = c .before .before .before .before .before .before .before .before .read-fields in
+    let s = c .before .before .before .before .before .before .before .before .before .args .line .now in
+    let f = c .before .before .before .before .before .before .read-fields in
     let r = c .record-of in
-    gave-whole s (omega arith) (f .result) (f .ensures) (c .before .before .before .before .before .if2 .left)
-    (c .before .before .before .if3 .left) (r .result) (r .ensures)
+    gave-whole s (omega arith) (f .result) (f .ensures) (c .before .before .before .before .if2 .left)
+    (c .before .before .if3 .left) (r .result) (r .ensures)
 
 pub parse-tcp-signature-spec : {M : Type 1} → statement M
 parse-tcp-signature-spec =

@@ -7,7 +7,7 @@ use Rattle.parse_tcp.proofs.read_fields.Tie as tie
 
 returns : tie.Need-returns
 returns c =
-    let at8 = c .before in
+    let at8 = c .before .before in
     let at7 = at8 .before .before in
     let at6 = at7 .before .before in
     let at5 = at6 .before .before in
@@ -32,7 +32,7 @@ returns c =
     let l-is = layout-read s (k .result) (at6 .behind6 .result) (l .result) k-is (at6 .behind6 .ensures) (l .ensures) in
     let q = at8 .before .parse-quirks in
     let q-is = quirks-read s (l .result) (at7 .behind7 .result) (q .result) l-is (at7 .behind7 .ensures) (q .ensures) in
-    let p = c .parse-payload-size in
+    let p = c .before .parse-payload-size in
     let p-is = payload-read s (q .result) (at8 .behind8 .result) (p .result) q-is (at8 .behind8 .ensures) (p .ensures) in
     all-read s (v .result) (t .result) (o .result) (m .result) (w .result) (k .result) (l .result) (q .result) (p .result)
     v-is t-is o-is m-is w-is k-is l-is q-is p-is

@@ -7,7 +7,7 @@ use Rattle.ttl.proofs.calculate_ttl.Tie as tie
 
 returns : tie.Need-returns
 unfolding readingOf
-returns c = search cases
+returns c = rw (← c .before .guess-distance .ensures) (search cases)
 
 returns-2 : tie.Need-returns-2
 unfolding readingOf
@@ -15,8 +15,8 @@ returns-2 c = rw (← c .before .guess-distance .ensures) (search cases)
 
 returns-3 : tie.Need-returns-3
 unfolding readingOf
-returns-3 c = rw (← c .before .guess-distance .ensures) (search cases)
+returns-3 c = search cases
 
 pub calculate-ttl-spec : {M : Type 1} → statement M
 calculate-ttl-spec =
-    tie.close (tie.spec returns (λ c κs. search needs) returns-2 returns-3)
+    tie.close (tie.spec (λ c κs. search needs) returns returns-2 returns-3)

@@ -6,11 +6,11 @@ use Rattle.sigrecord.proofs.conditions.presence_good.Tie as tie
 
 returns : tie.Need-returns
 unfolding presenceGood
-returns c = search cases
+returns c = simp (c .match .keys1)
 
 returns-2 : tie.Need-returns-2
 unfolding presenceGood
-returns-2 c = search cases
+returns-2 c = simp (c .match .keys2)
 
 returns-3 : tie.Need-returns-3
 unfolding presenceGood

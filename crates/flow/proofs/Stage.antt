@@ -1,0 +1,111 @@
+-- The TCP stage of a mode, by what the code tests.
+use mathlib.Core.Path.{_≡_, refl, sym, ap, _∙_}
+use mathlib.Core.Bool.{Bool, true, false, cond, _&&_, _||_, true≢false, false≢true}
+use mathlib.Core.List.{List}
+use Prim.Native.Nat.{ℕ, _*_, _<_, _≤_}
+use native.Mathlib.Omega.{arith}
+use lib.Dec.{ltb, eqb}
+use lib.ListN.{length}
+use borrow.Author.Tests.{lt-ltb, le-ltb, ltb-true, ltb-false}
+use Rattle.rfc.specs.Rfc9293.{control, dataOffset}
+use Rattle.tcp.specs.declared.Mss.{Mss}
+use Rattle.tcp.specs.declared.Mss.the-variants as mss
+use Rattle.ip.specs.declared.IpFacts.{IpFacts}
+use Rattle.ip.specs.declared.IpRead.the-variants as ip
+use Rattle.ip.specs.Ip.{readIp}
+use Rattle.ip.proofs.Ip.{tcp-part-lies}
+use Rattle.basis.proofs.Bytes.{part-length}
+use Rattle.observable.specs.Observation.{emptyObservation}
+use Rattle.refusals.specs.declared.PacketRefusal.the-variants as refusal
+use Rattle.flow.specs.declared.Answer.the-variants as answer
+use Rattle.flow.specs.declared.Mode.{Mode}
+use Rattle.flow.specs.declared.Reading.{Reading}
+use Rattle.tcp_header.specs.Flags.{maskedType, flagsInvalid, isSynType, isSynAckType}
+use Rattle.flow.specs.Tcp.{readTcp, refusing, knownPeer, observationFrom}
+use Rattle.flow.specs.Strict.{contradictsItself, readTcpStrict}
+use Rattle.flow.specs.Reading.{tcpPart}
+use Rattle.flow.specs.Modes.{readIn}
+use Rattle.tcp_header.proofs.Flags.{opening-valid}
+use Rattle.flow.proofs.Opening.{opens, neither-first, neither-second}
+
+-- ---- the part
+
+-- What the IP stage hands on holds a header.
+pub part-long : (p : List ℕ) (f : IpFacts) → readIp p ≡ ip.Facts f → 20 ≤ length (tcpPart f p)
+part-long p f e = let lies = tcp-part-lies p f e in rw (part-length _ _ _ (lies .1)) (omega arith)
+
+-- ---- the mode's choice
+
+-- Five words are twenty bytes.
+in-words : (n : ℕ) → ltb (4 * n) 20 ≡ ltb n 5
+in-words n = by-test (ltb n 5) refl
+  where
+    by-test : (t : Bool) → ltb n 5 ≡ t → ltb (4 * n) 20 ≡ t
+    by-test true e = let few = ltb-true n 5 e in lt-ltb (4 * n) 20 (omega arith)
+    by-test false e = let many = ltb-false n 5 e in le-ltb (4 * n) 20 (omega arith)
+
+module _
+    (mode : Mode) (p : List ℕ) (f : IpFacts) (peer : Mss) (header : ℕ)
+    (handed : readIp p ≡ ip.Facts f) (says : header ≡ 4 * dataOffset (tcpPart f p))
+  where
+    -- What the code tests of a header of so many bytes.
+    abbrev isAside : Bool
+    isAside = mode .strict && (ltb header 20 || ltb (length (tcpPart f p)) header)
+
+    pub refused-14 : isAside ≡ true → readIn mode p peer ≡ refusing refusal.DataOffset
+    unfolding readIn readTcpStrict contradictsItself
+    refused-14 = rw (handed, says, in-words (dataOffset (tcpPart f p))) (by-tests (mode .strict) _ _ _)
+      where
+        by-tests
+            : (strict aside : Bool) (a b : Reading)
+            → strict && aside ≡ true
+            → _≡_ {A = Reading} (cond strict (cond aside a b) b) a
+        by-tests true true a b e = refl
+        by-tests true false a b e = absurd (false≢true e)
+        by-tests false aside a b e = absurd (false≢true e)
+
+    pub read-on : isAside ≡ false → readIn mode p peer ≡ readTcp f (tcpPart f p) peer
+    unfolding readIn readTcpStrict contradictsItself
+    read-on = rw (handed, says, in-words (dataOffset (tcpPart f p))) (by-tests (mode .strict) _ _ _)
+      where
+        by-tests
+            : (strict aside : Bool) (a b : Reading)
+            → strict && aside ≡ false
+            → _≡_ {A = Reading} (cond strict (cond aside a b) b) b
+        by-tests true true a b e = absurd (true≢false e)
+        by-tests true false a b e = refl
+        by-tests false aside a b e = refl
+
+-- ---- what is read on
+
+module _ (f : IpFacts) (t : List ℕ) (peer : Mss) where
+  abbrev isSyn : Bool
+  isSyn = eqb (maskedType (control t)) 2
+
+  abbrev isSynAck : Bool
+  isSynAck = eqb (maskedType (control t)) 18
+
+  pub opening-read
+      : control t < 256
+      → isSyn || isSynAck ≡ true
+      → _≡_ {A = Reading}
+      (record {
+        answer = cond isSyn answer.Syn answer.SynAck;
+        observation = observationFrom f t isSyn (cond isSyn mss.Absent (knownPeer peer));
+      })
+      (readTcp f t peer)
+  unfolding readTcp isSynType isSynAckType
+  opening-read byte one =
+      rw (opening-valid (control t) byte one)
+      (opens f t (knownPeer peer) (record { answer = answer.Nothing; observation = emptyObservation }) isSyn isSynAck one)
+
+  pub nothing-read
+      : flagsInvalid (control t) ≡ false
+      → isSyn || isSynAck ≡ false
+      → _≡_ {A = Reading} (record { answer = answer.Nothing; observation = emptyObservation }) (readTcp f t peer)
+  unfolding readTcp isSynType isSynAckType
+  nothing-read sound neither = rw (sound, neither-first isSyn isSynAck neither, neither-second isSyn isSynAck neither)
+
+  pub refused-7 : flagsInvalid (control t) ≡ true → refusing (refusal.InvalidTcpFlags (control t)) ≡ readTcp f t peer
+  unfolding readTcp
+  refused-7 bad = rw bad
