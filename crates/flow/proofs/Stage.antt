@@ -1,6 +1,6 @@
 -- The TCP stage of a mode, by what the code tests.
-use mathlib.Core.Path.{_≡_, refl, sym, ap, _∙_}
-use mathlib.Core.Bool.{Bool, true, false, cond, _&&_, _||_, true≢false, false≢true}
+use mathlib.Core.Path.{_≡_, refl}
+use mathlib.Core.Bool.{Bool, true, false, cond, _&&_, _||_}
 use mathlib.Core.List.{List}
 use Prim.Native.Nat.{ℕ, _*_, _<_, _≤_}
 use native.Mathlib.Omega.{arith}
@@ -52,29 +52,21 @@ module _
     abbrev isAside : Bool
     isAside = mode .strict && (ltb header 20 || ltb (length (tcpPart f p)) header)
 
-    pub refused-14 : isAside ≡ true → readIn mode p peer ≡ refusing refusal.DataOffset
+    by-mode : readIn mode p peer ≡ cond isAside (refusing refusal.DataOffset) (readTcp f (tcpPart f p) peer)
     unfolding readIn readTcpStrict contradictsItself
-    refused-14 = rw (handed, says, in-words (dataOffset (tcpPart f p))) (by-tests (mode .strict) _ _ _)
+    by-mode = rw (handed, says, in-words (dataOffset (tcpPart f p))) (in-one (mode .strict) _ _ _)
       where
-        by-tests
+        in-one
             : (strict aside : Bool) (a b : Reading)
-            → strict && aside ≡ true
-            → _≡_ {A = Reading} (cond strict (cond aside a b) b) a
-        by-tests true true a b e = refl
-        by-tests true false a b e = absurd (false≢true e)
-        by-tests false aside a b e = absurd (false≢true e)
+            → _≡_ {A = Reading} (cond strict (cond aside a b) b) (cond (strict && aside) a b)
+        in-one true aside a b = refl
+        in-one false aside a b = refl
+
+    pub refused-14 : isAside ≡ true → readIn mode p peer ≡ refusing refusal.DataOffset
+    refused-14 aside = rw (by-mode, aside)
 
     pub read-on : isAside ≡ false → readIn mode p peer ≡ readTcp f (tcpPart f p) peer
-    unfolding readIn readTcpStrict contradictsItself
-    read-on = rw (handed, says, in-words (dataOffset (tcpPart f p))) (by-tests (mode .strict) _ _ _)
-      where
-        by-tests
-            : (strict aside : Bool) (a b : Reading)
-            → strict && aside ≡ false
-            → _≡_ {A = Reading} (cond strict (cond aside a b) b) b
-        by-tests true true a b e = absurd (true≢false e)
-        by-tests true false a b e = refl
-        by-tests false aside a b e = refl
+    read-on kept = rw (by-mode, kept)
 
 -- ---- what is read on
 
