@@ -2,7 +2,7 @@
    reaches standard output is always a prefix of that; if it is cut, standard error says so and the status is 1.
 
    usage: gateway [-r] [-s] [-u] <BUNDLE
-     -r   print behind each line the number of the record, the reason of a fuzzy answer, and what a refusal gives
+     -r   print behind each line the number of the record, whether it is generic, the reason of a fuzzy answer, and what a refusal gives
      -s   ask in strict mode: TCP headers whose data offset contradicts them are refused (14)
      -u   have the list checked with each packet, instead of once
 
@@ -103,6 +103,10 @@ static void print_refused(termread_result answer, int reasons) {
     if (reasons && answer.refusal == TERMREAD_REFUSED_RECORD) print(" record %u", answer.value);
 }
 
+static void print_record(termread_result answer) {
+    print(" record %u%s", answer.number, answer.marks & TERMREAD_GENERIC ? " generic" : "");
+}
+
 static void print_reason(termread_result answer) {
     if (answer.marks & TERMREAD_OUT_OF_RANGE) print(" hops %u", answer.hops);
     print_quirks("added", answer.added);
@@ -115,11 +119,11 @@ static void print_answer(termread_result answer, int reasons) {
     switch (answer.outcome) {
     case TERMREAD_EXACT:
         print("%s exact %u", kind, answer.label);
-        if (reasons) print(" record %u", answer.number);
+        if (reasons) print_record(answer);
         break;
     case TERMREAD_FUZZY:
         print("%s fuzzy %u", kind, answer.label);
-        if (reasons) print(" record %u", answer.number), print_reason(answer);
+        if (reasons) print_record(answer), print_reason(answer);
         break;
     case TERMREAD_NONE: print("%s none", kind); break;
     case TERMREAD_NOTHING: print("nothing"); break;

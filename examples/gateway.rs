@@ -14,7 +14,7 @@ use std::os::fd::FromRawFd;
 use std::process::ExitCode;
 use std::thread::sleep;
 use std::time::Duration;
-use termread::{answer, answer_in, Answer, Kind, List, ListRefusal, Mode, PacketRefusal, Quirk, Quirks, Reason};
+use termread::{answer, answer_in, Answer, Hit, Kind, List, ListRefusal, Mode, PacketRefusal, Quirk, Quirks, Reason};
 
 const BUNDLE_MOST: usize = 65535;
 
@@ -100,12 +100,16 @@ fn list_refusal_text(refusal: ListRefusal, reasons: bool) -> String {
     }
 }
 
+fn record_text(hit: Hit) -> String {
+    format!(" record {}{}", hit.number, if hit.generic { " generic" } else { "" })
+}
+
 fn answer_text(answer: Answer, reasons: bool) -> String {
     match answer {
-        Answer::Exact { kind, hit } if reasons => format!("{} exact {} record {}", kind_text(kind), hit.label, hit.number),
+        Answer::Exact { kind, hit } if reasons => format!("{} exact {}{}", kind_text(kind), hit.label, record_text(hit)),
         Answer::Exact { kind, hit } => format!("{} exact {}", kind_text(kind), hit.label),
         Answer::Fuzzy { kind, hit, reason } if reasons => {
-            format!("{} fuzzy {} record {}{}", kind_text(kind), hit.label, hit.number, reason_text(reason))
+            format!("{} fuzzy {}{}{}", kind_text(kind), hit.label, record_text(hit), reason_text(reason))
         }
         Answer::Fuzzy { kind, hit, .. } => format!("{} fuzzy {}", kind_text(kind), hit.label),
         Answer::None { kind } => format!("{} none", kind_text(kind)),

@@ -95,12 +95,14 @@ pub struct Hit {
     pub label: u16,
     /// Which record of the list it is, from 0.
     pub number: u16,
+    /// Whether it is generic: found exact only where no specific record of the list is.
+    pub generic: bool,
 }
 
 /// The answer of a packet. Exact, fuzzy and none are three cases, and a `match` has to name each.
 #[derive(Clone, Copy, Debug, PartialEq, Eq)]
 pub enum Answer {
-    /// A record fits, and nothing was tolerated.
+    /// A record fits, and nothing was tolerated. A specific one if the list has such, else the first generic one.
     Exact { kind: Kind, hit: Hit },
     /// A record fits, but for what the reason names.
     Fuzzy { kind: Kind, hit: Hit, reason: Reason },
@@ -191,6 +193,7 @@ const NONE: u8 = 3;
 const NOTHING: u8 = 4;
 const REFUSED: u8 = 5;
 const OUT_OF_RANGE: u8 = 1;
+const GENERIC: u8 = 4;
 
 impl Given {
     fn kind(self) -> Option<Kind> {
@@ -202,7 +205,7 @@ impl Given {
     }
 
     fn hit(self) -> Hit {
-        Hit { label: self.label, number: self.number }
+        Hit { label: self.label, number: self.number, generic: self.marks & GENERIC != 0 }
     }
 
     fn reason(self) -> Reason {

@@ -19,8 +19,8 @@ extern "C" {
 /* ---- an answer
 
    Sixteen bytes, which come back in two registers. The outcome alone tells exact, fuzzy and none apart. No two different answers are
-   alike in all fields. A field that an answer does not have is 0; `tolerated`, `examined` and the other bits of `marks` are 0 in every
-   answer, and kept for what is to come. */
+   alike in all fields. A field that an answer does not have is 0; `tolerated`, `examined` and the bits of `marks` that are not named, or
+   named as kept, are 0 in every answer, and kept for what is to come. */
 typedef struct termread_result {
     uint8_t outcome;   /* one of the outcomes */
     uint8_t kind;      /* of exact, fuzzy and none: TERMREAD_SYN or TERMREAD_SYNACK */
@@ -33,7 +33,7 @@ typedef struct termread_result {
     uint8_t added;     /* of fuzzy: quirks that the packet shows and the record does not */
     uint8_t missing;   /* of fuzzy: quirks of the record that the packet does not show */
     uint8_t hops;      /* of fuzzy, if the TTL is out of the record's range: the hop distance */
-    uint8_t marks;     /* of fuzzy: TERMREAD_OUT_OF_RANGE, or 0 */
+    uint8_t marks;     /* of exact and fuzzy: TERMREAD_GENERIC; of fuzzy: TERMREAD_OUT_OF_RANGE */
 } termread_result;
 
 /* The fields add up to sixteen bytes, so that there is nothing between them. */
@@ -42,7 +42,7 @@ typedef char termread_result_has_sixteen_bytes[sizeof(termread_result) == 16 ? 1
 /* Outcomes. */
 enum {
     TERMREAD_GOOD = 0,    /* of termread_check_list alone: the list is well formed */
-    TERMREAD_EXACT = 1,   /* a record fits, and nothing was tolerated */
+    TERMREAD_EXACT = 1,   /* a record fits, and nothing was tolerated; TERMREAD_GENERIC in `marks` says whether it is generic */
     TERMREAD_FUZZY = 2,   /* a record fits, but for what `added`, `missing` and `hops` name; never to be stored as exact */
     TERMREAD_NONE = 3,    /* no record of the list fits */
     TERMREAD_NOTHING = 4, /* a good packet that is neither SYN nor SYN+ACK */
@@ -71,11 +71,11 @@ enum {
     TERMREAD_REFUSED_DATA_OFFSET = 14     /* strict only: TCP data offset under 5, or 4 times it past the end of the TCP part */
 };
 
-/* The bits of `marks`: the lowest alone is set by now; the next two are kept for a packet that was clipped and for a generic record. */
+/* The bits of `marks`. */
 enum {
     TERMREAD_OUT_OF_RANGE = 1, /* the TTL is out of the record's range, and `hops` is the hop distance */
-    TERMREAD_CLIPPED = 2,      /* 0 in every answer */
-    TERMREAD_GENERIC = 4       /* 0 in every answer */
+    TERMREAD_CLIPPED = 2,      /* kept for a packet that was clipped: 0 */
+    TERMREAD_GENERIC = 4       /* the record is generic, byte 21 of it is 1; of exact: and no specific record of the list is exact */
 };
 
 /* Quirks, as in bytes 14 to 17 of a list's record. `added` and `missing` hold only the four that may be tolerated: added ECN and
@@ -102,7 +102,9 @@ enum {
 
    Each pointer is to as many bytes as its length says, and never null: of an empty part give any address.
    peer_mss: the MSS that the peer announced, 0 if it is not known; only a SYN+ACK's answer depends on it.
-   list: a signature list as document 01 lays it out. */
+   list: a signature list as document 01 lays it out; byte 21 of a record is 0 if it is specific, 1 if it is generic. What is found is
+   the first specific record in list order that fits exactly, else the first generic one that does, else the first of either kind that fits
+   fuzzily. */
 
 /* Whether a list is well formed: TERMREAD_GOOD, and every other field 0; or refusal 9 or 10. Check a list once, when it is loaded. */
 termread_result termread_check_list(const uint8_t *list, size_t list_length);

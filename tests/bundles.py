@@ -1,4 +1,4 @@
-"""Packets, signature lists and bundles as bytes, laid out by document 01's text."""
+"""Packets, signature lists and bundles as bytes, laid out by the documents' text."""
 
 
 def be16(*numbers):
@@ -35,10 +35,10 @@ SYNACK = v4(tcp(flags=0x12, ack=1))
 # ---- lists
 
 def record(version=0, ttl=(0, 64, 0), olen=0, mss=(0, 0), window=(3, 4), scale=(0, 0), payload=0, quirks=2, first=0, count=1,
-           zero=0, label=7):
+           generic=0, label=7):
     """The record of the whole example, but for what is given."""
     return (bytes([version, *ttl, olen, mss[0]]) + be16(mss[1]) + bytes([window[0]]) + be16(window[1])
-            + bytes([scale[0], scale[1], payload]) + quirks.to_bytes(4, "big") + be16(first) + bytes([count, zero]) + be16(label))
+            + bytes([scale[0], scale[1], payload]) + quirks.to_bytes(4, "big") + be16(first) + bytes([count, generic]) + be16(label))
 
 
 def siglist(records, entries=((2, 0),)):

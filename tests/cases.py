@@ -1,4 +1,4 @@
-"""The cases of the program `termread`: a name, the input, the output that document 01 asks for, worked out by hand."""
+"""The cases of the program `termread`: a name, the input, the output that the documents ask for, worked out by hand."""
 from bundles import A, B, C, SYNACK, bundle, record, siglist, tcp, v4, v6
 
 
@@ -105,6 +105,32 @@ def searches():
     yield "a modulus of 8", bundle([v4(tcp(window=0))], siglist([record(window=(2, 8))])), lines("syn exact 7")
 
 
+def kinds():
+    """The first specific record that fits exactly; else the first generic one; else the first of either kind that fits fuzzily."""
+    first, second, third, fourth = (record(label=n, generic=n > 2) for n in (1, 2, 3, 4))
+    far, generic_far = (record(ttl=(0, 128, 0), label=n, generic=n > 5) for n in (5, 6))
+    other, generic_other = (record(window=(1, 9), label=n, generic=n > 7) for n in (7, 8))
+    for name, records, answer in (
+            ("generic alone", [third], "exact 3"), ("generic before specific", [third, first], "exact 1"),
+            ("specific before generic", [first, third], "exact 1"), ("two generic", [third, fourth], "exact 3"),
+            ("generic, specific, generic, specific", [third, first, fourth, second], "exact 1"),
+            ("two generic before two specific", [fourth, third, second, first], "exact 2"),
+            ("fuzzy before generic", [far, third], "exact 3"), ("generic before fuzzy", [third, far], "exact 3"),
+            ("generic fuzzy before generic", [generic_far, third, fourth], "exact 3"),
+            ("fuzzy, generic, specific", [far, third, first], "exact 1"), ("generic, fuzzy, specific", [third, far, first], "exact 1"),
+            ("fuzzy between two generic", [third, far, fourth], "exact 3"), ("generic fuzzy alone", [generic_far], "fuzzy 6"),
+            ("generic fuzzy before fuzzy", [generic_far, far], "fuzzy 6"), ("fuzzy before generic fuzzy", [far, generic_far], "fuzzy 5"),
+            ("a specific one that does not fit", [other, third, other], "exact 3"), ("neither kind fits", [generic_other, other], "none"),
+            ("generic that does not fit before fuzzy", [generic_other, far], "fuzzy 5"),
+            ("specific behind 2,599 generic", [third] * 2599 + [first], "exact 1"),
+            ("generic before 2,599 others", [third] + [fourth, generic_far, other] * 866 + [far], "exact 3")):
+        yield f"kinds: {name}", bundle([A], siglist(records)), lines(f"syn {answer}")
+        yield f"kinds, SYN+ACK: {name}", bundle([SYNACK], siglist(records)), lines(f"synack {answer}")
+    # What is generic and exact for A is fuzzy for B, and the first of what is fuzzy then.
+    signatures = siglist([other, third, far, first])
+    yield "kinds: by packet", bundle([B, A, C, B], signatures), lines("syn fuzzy 3", "syn exact 1", "refused 2", "syn fuzzy 3")
+
+
 def bad_records():
     for name, bad in (
             ("version 5", record(version=5)), ("TTL form 4", record(ttl=(4, 64, 0))), ("unused distance", record(ttl=(0, 64, 1))),
@@ -113,11 +139,15 @@ def bad_records():
             ("256 of MSS", record(window=(3, 256))), ("256 of MTU", record(window=(4, 256))),
             ("scale presence 2", record(scale=(2, 0))), ("absent scale with a number", record(scale=(0, 1))),
             ("payload 3", record(payload=3)), ("quirk 0x40", record(quirks=0x40)), ("quirk 0x20000000", record(quirks=0x20000000)),
-            ("byte 21", record(zero=1)), ("first entry past the end", record(first=1)), ("entries past the end", record(count=2)),
-            ("41 entries", record(count=41)), ("first entry 65535", record(first=65535, count=255))):
+            ("byte 21 of 2", record(generic=2)), ("byte 21 of 3", record(generic=3)), ("byte 21 of 255", record(generic=255)),
+            ("first entry past the end", record(first=1)), ("entries past the end", record(count=2)), ("41 entries", record(count=41)),
+            ("first entry 65535", record(first=65535, count=255))):
         yield f"bad record: {name}", bundle([A], siglist([record(), bad])), "refused 10\n"
     yield "bad entry", bundle([A], siglist([record()], [(2, 1)])), "refused 10\n"
     yield "bad entry of no record", bundle([A], siglist([record()], [(2, 0), (2, 1)])), lines("syn exact 7")
     yield "41 entries that are there", bundle([A], siglist([record(count=41)], [(1, 0)] * 41)), "refused 10\n"
     yield "255 of MSS, no entries at the end", bundle([A], siglist([record(window=(3, 255), first=1, count=0)])), lines("syn none")
+    for kind in (2, 255):
+        signatures = siglist([record(label=1), record(generic=kind), record(version=5)])
+        yield f"byte 21 of {kind} behind the record that fits", bundle([A], signatures), "refused 10\n"
     yield "a bad record before a refused packet", bundle([C], siglist([record(version=1)])), "refused 10\n"

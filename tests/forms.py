@@ -1,4 +1,4 @@
-"""Lines for tools/ask whose answers are worked out by hand from document 01's text: a command, its lines, their answers."""
+"""Lines for tools/ask whose answers are worked out by hand from the documents' text: a command, its lines, their answers."""
 from bundles import A, B, C, EMPTY_LIST, LIST, SYNACK, WHOLE, be16, record, siglist, tcp, v4, v6
 
 BAD = "bad line"
@@ -98,6 +98,24 @@ def found():
     yield f"{' '.join(FIELDS[:-1])} | {LIST.hex()}", "exact 7 at=0"
 
 
+def kinds():
+    """The number of the record that is found, where it is generic or stands behind generic ones."""
+    specific, generic = record(label=1), record(label=2, generic=1)
+    far, generic_far = (record(ttl=(0, 128, 0), label=n, generic=n > 3) for n in (3, 4))
+    reason = "hop=64 added=0x00000000 missing=0x00000000"
+    for records, answer in (([generic], "exact 2 at=0"), ([generic] * 3, "exact 2 at=0"), ([generic, specific], "exact 1 at=1"),
+                            ([generic, generic, specific, specific], "exact 1 at=2"), ([specific, generic], "exact 1 at=0"),
+                            ([far, generic, generic], "exact 2 at=1"), ([generic_far, far, generic, far], "exact 2 at=2"),
+                            ([generic_far, generic, far, specific], "exact 1 at=3"), ([generic, far], "exact 2 at=0"),
+                            ([generic_far], f"fuzzy 4 at=0 {reason}"), ([generic_far, far], f"fuzzy 4 at=0 {reason}"),
+                            ([far, generic_far], f"fuzzy 3 at=0 {reason}"), ([record(olen=1), generic_far], f"fuzzy 4 at=1 {reason}"),
+                            ([record(olen=1, generic=1)], "none"), ([generic] * 2599 + [specific], "exact 1 at=2599")):
+        yield f"{SEEN} | {siglist(records).hex()}", answer
+    for kind in (2, 3, 128, 255):
+        for at in (0, 1, 299):
+            yield f"{SEEN} | {siglist([generic] * at + [record(generic=kind), record()]).hex()}", f"refused 10 {at}"
+
+
 def refused_searches():
     forty_one = seen(layout=",".join(["1/0"] * 41))
     for lists in (LIST.hex(), "-", ""):
@@ -117,6 +135,7 @@ def refused_searches():
 def search_lines():
     yield from found()
     yield from ttl_forms()
+    yield from kinds()
     yield from refused_searches()
     text = LIST.hex()
     for fields in (dict(v=5), dict(v=""), dict(ttl="64"), dict(ttl="value"), dict(ttl="value:256"), dict(ttl="distance:64"),

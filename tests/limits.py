@@ -108,8 +108,8 @@ def overlaps():
     yield "whole bundle as list", header(0, 0, 16, 0, EMPTY_LIST), "refused 9\n"
 
 
-FAMILIES = [sizes, cases.packets, cases.peers, cases.searches, cases.bad_records, strict.plain_bundles, counts_and_offsets, lists, overlaps,
-            pages]
+FAMILIES = [sizes, cases.packets, cases.peers, cases.searches, cases.kinds, cases.bad_records, strict.plain_bundles, counts_and_offsets,
+            lists, overlaps, pages]
 
 
 def all_cases():

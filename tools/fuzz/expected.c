@@ -1,4 +1,4 @@
-/* The text that document 01 asks for: the bundle by its rules, each answer by the original. */
+/* The text that the documents ask for: the bundle by its rules, each answer by the original. */
 #include "fuzz.h"
 
 #include <stdio.h>
@@ -40,6 +40,7 @@ static void say_answer(const uint8_t *packet, size_t size, uint16_t peer, const 
         oracle_search(o, list, list_size, &found);
         line = found.n[0] >= 196608 ? 1 : found.n[0] >= 131072 ? 0 : 2;
         numbered = line < 2, number = (unsigned)(found.n[0] & 65535);
+        tally->generic[line == 1] += numbered && found.n[6];
         if (reading.n[0] == 2) line += 3;
         if (found.n[0] < 65536) line = LINES;
     }

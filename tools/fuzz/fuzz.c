@@ -40,6 +40,7 @@ static void show(const Tally *t, uint64_t differences) {
            t->refused[1], t->refused[2]);
     printf("lines:");
     for (i = 0; i < LINES; i++) printf("%s %s %" PRIu64, i ? "," : "", line_names[i], t->lines[i]);
+    printf("\nby a generic record: exact %" PRIu64 ", fuzzy %" PRIu64, t->generic[0], t->generic[1]);
     printf("\ndifferences, crashes and runs that did not end: %" PRIu64 "\n", differences);
 }
 

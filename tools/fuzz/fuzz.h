@@ -21,13 +21,14 @@ typedef struct {
 enum { LINES = 14 };
 typedef struct {
     uint64_t bundles, mutated, over, pages, refused[3], good, lines[LINES];
+    uint64_t generic[2]; /* lines of exact, of fuzzy by a generic record */
 } Tally;
 extern const char *const line_names[LINES];
 
 /* bundles.c: a bundle; gives whether it was mutated. */
 int make_input(Random *r, Input *input);
 
-/* expected.c: what document 01 asks for, with the original's answers. */
+/* expected.c: what the documents ask for, with the original's answers. */
 void expected_text(const Input *input, Text *text, Tally *tally);
 
 /* child.c: runs a program on an input that arrives in pieces of random size. Gives 0, or what went wrong. */

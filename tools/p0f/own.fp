@@ -1,5 +1,5 @@
-; Lines of our own, for what no line of p0f.fp asks: a generic line before a specific one, a modulus, multiples of an MTU, option lengths,
-; TTLs of two parts, payload classes, and the quirks that p0f.fp does not use.
+; Lines of our own, for what no line of p0f.fp asks: a generic line before a specific one, or behind one that fits fuzzily, a modulus,
+; multiples of an MTU, option lengths, TTLs of two parts, payload classes, and the quirks that p0f.fp does not use.
 classes = win,unix,other
 
 [tcp:request]
@@ -40,6 +40,16 @@ sig   = *:64:0:*:*,*:mss,?77:df,id+:0
 label = s:!:Own:tool
 sys   = @unix,@win
 sig   = *:64:0:*:4321,*:mss,nop,nop,ts,?99:df,id+:0
+
+label = s:unix:Own:fuzzy first
+sig   = *:32:0:*:*,*:mss,?66:df,id+:0
+
+label = g:unix:Own:generic between
+sig   = *:64:0:*:*,*:mss,?66:df,id+:0
+sig   = *:64:0:*:mss*4,*:mss,?66:df,id+:0
+
+label = s:unix:Own:specific last
+sig   = *:64:0:*:5840,*:mss,?66:df,id+:0
 
 [tcp:response]
 

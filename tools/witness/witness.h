@@ -62,6 +62,7 @@ typedef struct {
     uint8_t refusal;     /* 9, 10 or 11, else 0 */
     uint8_t far;         /* 1 if the TTL is out of range */
     uint8_t hops;        /* the hop distance then */
+    uint8_t generic;     /* 1 if the record is generic: of exact and fuzzy */
 } witness_search_read;
 
 /* What is read of a signature line. */
@@ -76,7 +77,7 @@ typedef struct {
 
 /* As many bytes as the source's structs have, by C's layout on x86-64. */
 typedef char witness_structs_have_their_sizes[sizeof(witness_observation) == 120 && sizeof(witness_packet_read) == 128 &&
-                                              sizeof(witness_options_read) == 96 && sizeof(witness_search_read) == 20 &&
+                                              sizeof(witness_options_read) == 96 && sizeof(witness_search_read) == 24 &&
                                               sizeof(witness_line_read) == 128 ? 1 : -1];
 
 /* The bits of a mode: none for the plain reading; what is not named here is not read. */

@@ -3,6 +3,7 @@ use Rattle.acceptance.specs.Acceptance.{Acceptance}
 use Rattle.acceptance.proofs.Demand1.{demand1}
 use Rattle.acceptance.proofs.Demand2.{demand2}
 use Rattle.acceptance.proofs.Demand3.{demand3}
+use Rattle.acceptance.proofs.GenericLast.{generic-last}
 use Rattle.acceptance.proofs.Honesty.{honesty}
 use Rattle.acceptance.proofs.Lines.{lines}
 use Rattle.acceptance.proofs.Modes.{modes}
@@ -26,4 +27,5 @@ acceptance =
       stages = stages;
       textLines = text-lines;
       modes = modes;
+      genericLast = generic-last;
     }

@@ -148,7 +148,7 @@ module _ (r : List ℕ) (entries : ℕ) (layout : List ℕ) where
       (bad-presence (byteAt r 11) (byteAt r 12) Bad.scale-present Bad.absent-scale))
       bad-payload)
       bad-quirks)
-      (λ e. Bad.byte-21 (positive (byteAt r 21) e))
+      (λ e. Bad.byte-21 (leb-false (byteAt r 21) 1 e))
     where
       bad-payload : payloadGood (byteAt r 13) ≡ false → Bad r entries layout
       bad-payload e = Bad.payload-code (leb-false (byteAt r 13) 2 e)
@@ -240,7 +240,7 @@ module _ (l : List ℕ) (i : ℕ) where
   bad-fails (Bad.payload-code h) = simp (other-payload (byteAt r 13) h, and-false)
   bad-fails (Bad.mss-present h) = simp (not-present (byteAt r 5) (be16 r 6) h, and-false)
   bad-fails (Bad.scale-present h) = simp (not-present (byteAt r 11) (byteAt r 12) h, and-false)
-  bad-fails (Bad.byte-21 h) = simp (nonzero (byteAt r 21) h, and-false)
+  bad-fails (Bad.byte-21 h) = simp (lt-leb (byteAt r 21) 1 h, and-false)
   bad-fails (Bad.absent-mss e h) = simp (absent-number (byteAt r 5) (be16 r 6) e h, and-false)
   bad-fails (Bad.absent-scale e h) = simp (absent-number (byteAt r 11) (byteAt r 12) e h, and-false)
   bad-fails (Bad.unused-distance f h) = simp (unused-distance r f h, and-false)

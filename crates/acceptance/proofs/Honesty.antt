@@ -25,7 +25,7 @@ use Rattle.gateway.proofs.ReadBack as back
 use Rattle.gateway.proofs.Fits.{packet-fits, answers-fit, structs-differ}
 use Rattle.gateway.proofs.Zeros.{zeros, list-zeros}
 use Rattle.acceptance.specs.Honesty.{whichOf, outcomeOf, checkedAnswer, checkedStruct, Honesty}
-use Rattle.acceptance.proofs.Outcome.{answered, search-outcome}
+use Rattle.acceptance.proofs.Outcome.{four-outcomes, search-outcome}
 use Rattle.acceptance.proofs.Fit.{exact-to, exact-from, fuzzy-to, fuzzy-from}
 
 -- ---- a packet's answer
@@ -109,7 +109,7 @@ honesty =
       fuzzy = λ f ks bs s n es r. (fuzzy-to f ks bs s n es r, fuzzy-from f ks bs s n es r);
       search = search-outcome;
       longer-row = λ o l is js. longer-row (featuresOf o) (o .olayout .kinds) (o .olayout .bytes) l is js;
-      answered = answered;
+      answered = four-outcomes;
       syn-answer = syn-answer;
       syn-ack-answer = syn-ack-answer;
       nothing-answer = nothing-answer;

@@ -8,6 +8,7 @@ pub mod Demand3
 pub mod Fails
 pub mod First
 pub mod Fit
+pub mod GenericLast
 pub mod Honesty
 pub mod Lines
 pub mod Modes

@@ -178,11 +178,11 @@ all-words =
     record {
       packets-0 = refl;
       packets-16383 = refl;
-      syn-exact = λ n. refl;
-      syn-fuzzy = λ n reason. refl;
+      syn-exact = λ n g. refl;
+      syn-fuzzy = λ n g reason. refl;
       syn-none = refl;
-      synack-exact = λ n. refl;
-      synack-fuzzy = λ n reason. refl;
+      synack-exact = λ n g. refl;
+      synack-fuzzy = λ n g reason. refl;
       synack-none = refl;
       nothing = refl;
       refused-1 = refl;

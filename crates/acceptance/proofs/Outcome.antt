@@ -1,8 +1,8 @@
 -- A search has one outcome, and no other: what its answer says of the records of its list.
 use mathlib.Core.Path.{_≡_, refl, sym, _∙_, ap}
-use mathlib.Core.Bool.{Bool, true, false, cond}
+use mathlib.Core.Bool.{Bool, true, false, cond, false≢true}
 use mathlib.Core.List.{List}
-use mathlib.Core.Logic.{_↔_}
+use mathlib.Core.Logic.{_↔_, inl, inr}
 use Prim.Native.Nat.{ℕ, _<_}
 use native.Mathlib.Decide.{decLe}
 use native.Mathlib.Omega.{arith}
@@ -15,7 +15,7 @@ use Rattle.matching.specs.declared.SignatureFit.the-variants as fit
 use Rattle.matching.specs.Fit.{featuresOf}
 use Rattle.siglist.specs.declared.ListAnswer.{ListAnswer}
 use Rattle.siglist.specs.declared.ListAnswer.the-variants as list
-use Rattle.sigrecord.specs.Record.{labelOf}
+use Rattle.sigrecord.specs.Record.{labelOf, isGeneric}
 use Rattle.siglist.specs.List.{recordCount, recordAt, checkList}
 use Rattle.found.specs.declared.Hit.{Hit}
 use Rattle.found.specs.declared.Found.{Found}
@@ -24,9 +24,9 @@ use Rattle.search.specs.declared.SearchAnswer.{SearchAnswer}
 use Rattle.search.specs.declared.SearchAnswer.the-variants as answer
 use Rattle.found.specs.Least.{numbersFrom}
 use Rattle.found.proofs.Least.{numbers-length, numbers-at}
-use Rattle.search.specs.Search.{searchOver, searchAll, afterListCheck, searchList}
+use Rattle.search.specs.Search.{hitAt, searchOver, searchAll, afterListCheck, searchList}
 use Rattle.search.proofs.Order as order
-use Rattle.acceptance.specs.Outcome.{fitOfRecord, Outcome}
+use Rattle.acceptance.specs.Outcome.{fitOfRecord, SpecificExact, Named, FirstSpecific, FirstGeneric, Outcome, FourOutcomes}
 
 -- ---- two outcomes are one
 
@@ -48,41 +48,67 @@ level m n before after =
       | no h ↦ absurd (after (omega arith))
     ]
 
--- A record is named by its number and its own label.
-same-hit : (a b c d : ℕ) → a ≡ c → b ≡ d → _≡_ {A = Hit} (record { label = a; number = b }) (record { label = c; number = d })
-same-hit a b c d e f = rw (e, f)
+-- A record is named by its number, and its own label and kind.
+same-hit : (g h : Hit) → g .label ≡ h .label → g .number ≡ h .number → g .generic ≡ h .generic → g ≡ h
+same-hit g h a b c = rw (a, b, c)
 
-one-hit : (g h : Hit) (own : ℕ → ℕ) → g .number ≡ h .number → g .label ≡ own (g .number) → h .label ≡ own (h .number) → g ≡ h
-one-hit g h own e m n = same-hit (g .label) (g .number) (h .label) (h .number) (m ∙ ap own e ∙ sym n) e
+one-hit : (l : List ℕ) (g h : Hit) → g .number ≡ h .number → Named l g → Named l h → g ≡ h
+one-hit l g h e m n =
+    same-hit g h (m .own-label ∙ ap (λ (i : ℕ). labelOf (recordAt l i)) e ∙ sym (n .own-label)) e
+    (m .own-kind ∙ ap (λ (i : ℕ). isGeneric (recordAt l i)) e ∙ sym (n .own-kind))
 
 module _ (o : TcpObservation) (l : List ℕ) where
-  abbrev ownLabel : ℕ → ℕ
-  ownLabel i = labelOf (recordAt l i)
+  -- The record that a search names first of the specific ones is specific and exact.
+  is-specific : {hit : Hit} → FirstSpecific o l hit → SpecificExact o l (hit .number)
+  is-specific a = record { exact = a .exact; specific = sym (a .named .own-kind) ∙ a .specific }
 
   -- No two answers have their outcomes together.
-  one-outcome : (x y : Found) → Outcome o l x → Outcome o l y → x ≡ y
-  one-outcome (found.Exact g) (found.Exact h) a b =
-      ap found.Exact
-      (one-hit g h ownLabel
+  one-exact : (g h : Hit) → Outcome o l (found.Exact g) → Outcome o l (found.Exact h) → g ≡ h
+  one-exact g h (inl a) (inl b) =
+      one-hit l g h
+      (level (g .number) (h .number) (λ less. b .first (g .number) less (is-specific a))
+      (λ less. a .first (h .number) less (is-specific b)))
+      (a .named)
+      (b .named)
+  one-exact g h (inl a) (inr b) = absurd (b .no-specific (g .number) (a .named .in-list) (is-specific a))
+  one-exact g h (inr a) (inl b) = absurd (a .no-specific (h .number) (b .named .in-list) (is-specific b))
+  one-exact g h (inr a) (inr b) =
+      one-hit l g h
       (level (g .number) (h .number) (λ less. b .first (g .number) less (a .exact)) (λ less. a .first (h .number) less (b .exact)))
-      (a .own-label)
-      (b .own-label))
-  one-outcome (found.Exact g) (found.Fuzzy h r) a b = absurd (b .none-exact (g .number) (a .in-list) (a .exact))
-  one-outcome (found.Exact g) found.None a b = absurd (exact-none (a .exact) (b (g .number) (a .in-list)))
-  one-outcome (found.Fuzzy g r) (found.Exact h) a b = absurd (a .none-exact (h .number) (b .in-list) (b .exact))
+      (a .named)
+      (b .named)
+
+  -- What is found to be exact is an exact record of the list.
+  record ExactThere (hit : Hit) : Type 0 where
+    in-list : hit .number < recordCount l
+    exact : fitOfRecord o l (hit .number) ≡ fit.Exact
+
+  exact-there : (hit : Hit) → Outcome o l (found.Exact hit) → ExactThere hit
+  exact-there hit (inl a) = record { in-list = a .named .in-list; exact = a .exact }
+  exact-there hit (inr a) = record { in-list = a .named .in-list; exact = a .exact }
+
+  one-outcome : (x y : Found) → Outcome o l x → Outcome o l y → x ≡ y
+  one-outcome (found.Exact g) (found.Exact h) a b = ap found.Exact (one-exact g h a b)
+  one-outcome (found.Exact g) (found.Fuzzy h r) a b =
+      let e = exact-there g a in absurd (b .none-exact (g .number) (e .in-list) (e .exact))
+  one-outcome (found.Exact g) found.None a b =
+      let e = exact-there g a in absurd (exact-none (e .exact) (b (g .number) (e .in-list)))
+  one-outcome (found.Fuzzy g r) (found.Exact h) a b =
+      let e = exact-there h b in absurd (a .none-exact (h .number) (e .in-list) (e .exact))
   one-outcome (found.Fuzzy g r) (found.Fuzzy h s) a b =
       let number : g .number ≡ h .number =
       level (g .number) (h .number)
       (λ less. fuzzy-none (a .fuzzy) (b .first (g .number) less))
       (λ less. fuzzy-none (b .fuzzy) (a .first (h .number) less)) in
-      same-fuzzy g h r s (one-hit g h ownLabel number (a .own-label) (b .own-label))
+      same-fuzzy g h r s (one-hit l g h number (a .named) (b .named))
       (one-reason (a .fuzzy) (ap (fitOfRecord o l) number ∙ b .fuzzy))
     where
       same-fuzzy : (g h : Hit) (r s : FuzzyReason) → g ≡ h → r ≡ s → found.Fuzzy g r ≡ found.Fuzzy h s
       same-fuzzy g h r s e f = rw (e, f)
-  one-outcome (found.Fuzzy g r) found.None a b = absurd (fuzzy-none (a .fuzzy) (b (g .number) (a .in-list)))
-  one-outcome found.None (found.Exact h) a b = absurd (exact-none (b .exact) (a (h .number) (b .in-list)))
-  one-outcome found.None (found.Fuzzy h s) a b = absurd (fuzzy-none (b .fuzzy) (a (h .number) (b .in-list)))
+  one-outcome (found.Fuzzy g r) found.None a b = absurd (fuzzy-none (a .fuzzy) (b (g .number) (a .named .in-list)))
+  one-outcome found.None (found.Exact h) a b =
+      let e = exact-there h b in absurd (exact-none (e .exact) (a (h .number) (e .in-list)))
+  one-outcome found.None (found.Fuzzy h s) a b = absurd (fuzzy-none (b .fuzzy) (a (h .number) (b .named .in-list)))
   one-outcome found.None found.None a b = refl
 
   -- ---- the search's outcome
@@ -102,22 +128,39 @@ module _ (o : TcpObservation) (l : List ℕ) where
   fit-here : (k : ℕ) → k < length places → fitOfRecord o l (getD places k 0) ≡ fitOfRecord o l k
   fit-here k h = ap (fitOfRecord o l) (here k h)
 
+  kind-here : (k : ℕ) → k < length places → isGeneric (recordAt l (getD places k 0)) ≡ isGeneric (recordAt l k)
+  kind-here k h = ap (λ (i : ℕ). isGeneric (recordAt l i)) (here k h)
+
+  named-here : (k : ℕ) → k < recordCount l → Named l (hitAt l k)
+  named-here k inside = record { in-list = inside; own-label = refl; own-kind = refl }
+
   as-outcome : {x : Found} → order.Outcome (featuresOf o) (o .olayout .kinds) (o .olayout .bytes) l places x → Outcome o l x
-  as-outcome (order.Outcome.first-exact k h e before) =
+  as-outcome (order.Outcome.first-specific k h e kind before) =
       let size = few in
       rw (here k h)
+      (inl
       (record {
-        in-list = omega arith;
-        own-label = refl;
+        named = named-here k (omega arith);
+        specific = sym (kind-here k h) ∙ kind;
+        exact = sym (fit-here k h) ∙ e;
+        first = λ j b x. before j b (fit-here j (omega arith) ∙ x .exact) (kind-here j (omega arith) ∙ x .specific);
+      }))
+  as-outcome (order.Outcome.first-generic k h e kind before specific) =
+      let size = few in
+      rw (here k h)
+      (inr
+      (record {
+        named = named-here k (omega arith);
+        generic = sym (kind-here k h) ∙ kind;
         exact = sym (fit-here k h) ∙ e;
         first = λ j b x. before j b (fit-here j (omega arith) ∙ x);
-      })
+        no-specific = λ j b x. specific j (omega arith) (fit-here j (omega arith) ∙ x .exact) (kind-here j (omega arith) ∙ x .specific);
+      }))
   as-outcome (order.Outcome.first-fuzzy k r h e before exact) =
       let size = few in
       rw (here k h)
       (record {
-        in-list = omega arith;
-        own-label = refl;
+        named = named-here k (omega arith);
         fuzzy = sym (fit-here k h) ∙ e;
         first = λ j b. sym (fit-here j (omega arith)) ∙ before j b;
         none-exact = λ j b x. exact j (omega arith) (fit-here j (omega arith) ∙ x);
@@ -131,6 +174,29 @@ module _ (o : TcpObservation) (l : List ℕ) where
   -- A search answers so exactly when its list's records are so.
   pub answered : (x : Found) → (searchAll o l ≡ x) ↔ Outcome o l x
   answered x = (λ e. rw (← e) found-outcome, λ so. one-outcome (searchAll o l) x found-outcome so)
+
+  of-kind-specific : (hit : Hit) → hit .generic ≡ false → Outcome o l (found.Exact hit) → FirstSpecific o l hit
+  of-kind-specific hit kind (inl a) = a
+  of-kind-specific hit kind (inr a) = absurd (false≢true (sym kind ∙ a .generic))
+
+  of-kind-generic : (hit : Hit) → hit .generic ≡ true → Outcome o l (found.Exact hit) → FirstGeneric o l hit
+  of-kind-generic hit kind (inl a) = absurd (false≢true (sym (a .specific) ∙ kind))
+  of-kind-generic hit kind (inr a) = a
+
+  pub four-outcomes : FourOutcomes o l
+  four-outcomes =
+      record {
+        specific = λ hit. (
+          λ both. of-kind-specific hit (both .1) (answered (found.Exact hit) .0 (both .0)),
+          λ a. (answered (found.Exact hit) .1 (inl a), a .specific),
+        );
+        generic = λ hit. (
+          λ both. of-kind-generic hit (both .1) (answered (found.Exact hit) .0 (both .0)),
+          λ a. (answered (found.Exact hit) .1 (inr a), a .generic),
+        );
+        fuzzy = λ hit reason. answered (found.Fuzzy hit reason);
+        none = answered found.None;
+      }
 
   after-found : (a : ListAnswer) (x : Found) → afterListCheck a o l ≡ answer.Found x → Outcome o l x
   after-found list.Good x e = let same : searchAll o l ≡ x = cc in answered x .0 same

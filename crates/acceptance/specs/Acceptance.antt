@@ -3,6 +3,7 @@
 use Rattle.acceptance.specs.Demand1.{Demand1}
 use Rattle.acceptance.specs.Demand2.{Demand2}
 use Rattle.acceptance.specs.Demand3.{Demand3}
+use Rattle.acceptance.specs.GenericLast.{GenericLast}
 use Rattle.acceptance.specs.Honesty.{Honesty}
 use Rattle.acceptance.specs.Lines.{Lines}
 use Rattle.acceptance.specs.Modes.{Modes}
@@ -30,5 +31,7 @@ pub record Acceptance : Type 1 where
   pub stages : Stages
   -- D1: signatures read from p0f's text form (document 02, Wish 1).
   pub textLines : TextLines
-  -- D2: the strict mode beside the plain one (document 02, Wish 2).
+  -- D1: the strict mode beside the plain one (document 02, Wish 2).
   pub modes : Modes
+  -- D1: specific and generic records (document 02, Wish 3).
+  pub genericLast : GenericLast

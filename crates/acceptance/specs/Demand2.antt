@@ -30,7 +30,7 @@ use Rattle.matching.specs.declared.SignatureFit.{SignatureFit}
 use Rattle.matching.specs.declared.SignatureFit.the-variants as fit
 use Rattle.matching.specs.Fit.{featuresOf, fitOf}
 use Rattle.siglist.specs.declared.ListAnswer.the-variants as list
-use Rattle.sigrecord.specs.Record.{signatureOf, entryCount, labelOf}
+use Rattle.sigrecord.specs.Record.{signatureOf, entryCount, labelOf, isGeneric}
 use Rattle.siglist.specs.List.{recordCount, recordAt, entriesOf, checkList}
 use Rattle.found.specs.declared.Hit.{Hit}
 use Rattle.found.specs.declared.Found.{Found}
@@ -97,7 +97,7 @@ pub record TheObservation (p : List ℕ) (peer : Mss) : Type 0 where
 
 -- ---- the single fit
 
--- What a search finds in one record, by its label and number and its fit.
+-- What a search finds in one record, by its label, number and kind and its fit.
 abbrev pub ofOne : Hit → SignatureFit → Found
 ofOne hit fit.None = found.None
 ofOne hit fit.Exact = found.Exact hit
@@ -112,7 +112,7 @@ SingleFit =
     → recordCount l ≡ 1
     → searchList o l
     ≡ answer.Found
-    (ofOne (record { label = labelOf (recordAt l 0); number = 0 })
+    (ofOne (record { label = labelOf (recordAt l 0); number = 0; generic = isGeneric (recordAt l 0) })
     (fitOf (featuresOf o) (o .olayout .kinds) (o .olayout .bytes) (signatureOf (recordAt l 0)) (entryCount (recordAt l 0))
     (entriesOf l (recordAt l 0))))
 

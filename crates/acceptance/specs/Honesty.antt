@@ -41,7 +41,7 @@ use Rattle.gateway.specs.declared.TermreadResult.{TermreadResult}
 use Rattle.gateway.specs.Parts.{GatewayAnswer, packetParts, partsOf, gatewayIn, listParts}
 use Rattle.gateway.specs.Decode.{AllBytes, answerFrom}
 use Rattle.gateway.specs.Zeros.{Zeros}
-use Rattle.acceptance.specs.Outcome.{Outcome}
+use Rattle.acceptance.specs.Outcome.{Outcome, FourOutcomes}
 
 -- "Nothing tolerated": the TTL is in range, and no quirk is added or missing.
 pub data NothingTolerated : TtlFit → QuirksFit → Type 0 where
@@ -125,16 +125,19 @@ pub record Honesty : Type 0 where
   pub fuzzy
       : (f : Features) (kinds bytes : List ℕ) (s : Signature) (count : ℕ) (entries : List ℕ) (reason : FuzzyReason)
       → (fitOf f kinds bytes s count entries ≡ fit.Fuzzy reason) ↔ FitsFuzzily f kinds bytes s count entries reason
-  -- What a search finds: the first exact record of its list, else the first fuzzy one with its reason, else none.
+  -- What a search finds: the first specific exact record of its list, else the first generic exact one, else the first fuzzy one of
+  -- either kind with its reason, else none.
   pub search : (o : TcpObservation) (l : List ℕ) (x : Found) → searchList o l ≡ answer.Found x → Outcome o l x
-  -- Over a longer row of record numbers a search finds the same, or what has strictly less rank: exact before fuzzy before none.
+  -- Over a longer row of record numbers a search finds the same, or what has strictly less rank: specific exact, generic exact, fuzzy,
+  -- none.
   pub longer-row
       : (o : TcpObservation) (l is js : List ℕ)
       → (searchOver (is ++ js) o l ≡ searchOver is o l) ⊎ (rankOf (searchOver (is ++ js) o l) < rankOf (searchOver is o l))
   -- What the program and the gateway answer of a SYN or SYN+ACK is the search for its observation. It is an answer exactly when the
-  -- records are so, on any list, checked or not: this record, by number and label, exactly when it is the first exact one, or the first
-  -- fuzzy one where none is exact; none exactly when no record fits.
-  pub answered : (o : TcpObservation) (l : List ℕ) (x : Found) → (searchAll o l ≡ x) ↔ Outcome o l x
+  -- records are so, on any list, checked or not: this record, by number, label and kind, exactly when it is the first specific exact one,
+  -- or the first generic exact one where no specific one is exact, or the first fuzzy one where none is exact; none exactly when no
+  -- record fits.
+  pub answered : (o : TcpObservation) (l : List ℕ) → FourOutcomes o l
   pub syn-answer
       : (mode : Mode) (p : List ℕ) (peer : Mss) (l : List ℕ)
       → readIn mode p peer .answer ≡ reading.Syn

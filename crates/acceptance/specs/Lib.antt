@@ -3,6 +3,7 @@ pub mod Corners
 pub mod Demand1
 pub mod Demand2
 pub mod Demand3
+pub mod GenericLast
 pub mod Honesty
 pub mod Lent
 pub mod Lines

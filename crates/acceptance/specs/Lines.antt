@@ -1,6 +1,7 @@
 -- "Exact, fuzzy and none stay three answers", for who reads the output: what a line prints of an answer, that lines which print different
 -- things differ, and every word of the output. `Lines` is the statement.
 use mathlib.Core.Path.{_≡_}
+use mathlib.Core.Bool.{Bool}
 use mathlib.Core.List.{List, [], _∷_}
 use mathlib.Core.Logic.{_↔_}
 use Prim.Native.Nat.{ℕ, _<_}
@@ -63,22 +64,24 @@ LabelFits (packet.Refused r) = Unit {0}
 
 -- ---- the words
 
--- Record n of a list, with this label.
-abbrev pub labelled : ℕ → ℕ → Hit
-labelled label n = record { label = label; number = n }
+-- Record n of a list, with this label, specific or generic.
+abbrev pub labelled : ℕ → ℕ → Bool → Hit
+labelled label n generic = record { label = label; number = n; generic = generic }
 
 -- "`packets N`, then a line each", "`refused N`", "`syn none`, `synack` with the same endings, `nothing`, `refused 1` to `refused 7`":
--- every word, with numbers of one digit to five; whichever record of the list was found.
+-- every word, with numbers of one digit to five; whichever record of the list was found, and of either kind.
 pub record Words : Type 0 where
   pub packets-0 : headLine 0 ≡ ascii "packets 0\n"
   pub packets-16383 : headLine 16383 ≡ ascii "packets 16383\n"
-  pub syn-exact : (n : ℕ) → lineOf (packet.Syn (found.Exact (labelled 7 n))) ≡ ascii "syn exact 7\n"
+  pub syn-exact : (n : ℕ) (g : Bool) → lineOf (packet.Syn (found.Exact (labelled 7 n g))) ≡ ascii "syn exact 7\n"
   pub syn-fuzzy
-      : (n : ℕ) (reason : FuzzyReason) → lineOf (packet.Syn (found.Fuzzy (labelled 10254 n) reason)) ≡ ascii "syn fuzzy 10254\n"
+      : (n : ℕ) (g : Bool) (reason : FuzzyReason)
+      → lineOf (packet.Syn (found.Fuzzy (labelled 10254 n g) reason)) ≡ ascii "syn fuzzy 10254\n"
   pub syn-none : lineOf (packet.Syn found.None) ≡ ascii "syn none\n"
-  pub synack-exact : (n : ℕ) → lineOf (packet.SynAck (found.Exact (labelled 0 n))) ≡ ascii "synack exact 0\n"
+  pub synack-exact : (n : ℕ) (g : Bool) → lineOf (packet.SynAck (found.Exact (labelled 0 n g))) ≡ ascii "synack exact 0\n"
   pub synack-fuzzy
-      : (n : ℕ) (reason : FuzzyReason) → lineOf (packet.SynAck (found.Fuzzy (labelled 65535 n) reason)) ≡ ascii "synack fuzzy 65535\n"
+      : (n : ℕ) (g : Bool) (reason : FuzzyReason)
+      → lineOf (packet.SynAck (found.Fuzzy (labelled 65535 n g) reason)) ≡ ascii "synack fuzzy 65535\n"
   pub synack-none : lineOf (packet.SynAck found.None) ≡ ascii "synack none\n"
   pub nothing : lineOf packet.Nothing ≡ ascii "nothing\n"
   pub refused-1 : lineOf (packet.Refused refusal.Version) ≡ ascii "refused 1\n"

@@ -146,9 +146,10 @@ pub data Bad (r : List ℕ) (entries : ℕ) (layout : List ℕ) : Type 0 where
   -- "a presence byte is not 0 or 1"
   mss-present : 1 < byteAt r 5 → Bad r entries layout
   scale-present : 1 < byteAt r 11 → Bad r entries layout
-  -- "byte 21 or an absent or unused number is not 0": the MSS and the scale where absent, the distance of another form than Distance,
-  -- the number of window form any
-  byte-21 : 0 < byteAt r 21 → Bad r entries layout
+  -- "10 now covers byte 21 above 1" (document 02, Wish 3)
+  byte-21 : 1 < byteAt r 21 → Bad r entries layout
+  -- "an absent or unused number is not 0": the MSS and the scale where absent, the distance of another form than Distance, the number of
+  -- window form any
   absent-mss : byteAt r 5 ≡ 0 → 0 < be16 r 6 → Bad r entries layout
   absent-scale : byteAt r 11 ≡ 0 → 0 < byteAt r 12 → Bad r entries layout
   unused-distance : (byteAt r 1 ≡ 1 → ⊥) → 0 < byteAt r 3 → Bad r entries layout

@@ -67,7 +67,7 @@ pub record PacketUnchecked : Type 0 where
       → checkedStruct mode p peer l ≡ structAt mode p peer l
   -- `termread_check_list` has outcome 0 of a good list and of no other, and every other field is then 0.
   pub checked : (l : List ℕ) → (listStruct l .outcome ≡ 0) ↔ (checkList l ≡ list.Good)
-  pub checked-good : (l : List ℕ) → checkList l ≡ list.Good → listStruct l ≡ plain 0 0 0 0
+  pub checked-good : (l : List ℕ) → checkList l ≡ list.Good → listStruct l ≡ plain 0 0 0 0 0
   -- 10: that of the list without its bad records.
   pub syn
       : (mode : Mode) (p : List ℕ) (peer : Mss) (l : List ℕ)

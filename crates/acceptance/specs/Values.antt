@@ -140,7 +140,7 @@ exampleList =
 
 -- Its record: label 7, the list's first.
 abbrev pub theRecord : Hit
-theRecord = record { label = 7; number = 0 }
+theRecord = record { label = 7; number = 0; generic = false }
 
 -- Packet A, packet B (A with TTL byte 1c) and an observation of another window: the three answers.
 pub record ThreeAnswers : Type 0 where

@@ -1,2 +1,3 @@
 pub mod Least
+pub mod Rank
 pub mod Unique

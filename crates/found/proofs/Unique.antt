@@ -7,11 +7,9 @@ use Rattle.basis.proofs.Unique.{equation}
 use Rattle.matching.specs.declared.SignatureFit.{SignatureFit}
 use Rattle.found.specs.declared.Found.{Found}
 use Rattle.found.specs.declared.Hit.{Hit}
-use Rattle.found.specs.Least.{prefer}
 use Rattle.found.specs.Rank.{foundOf, isNone, rankOf}
 use Rattle.found.proofs.found_of.Reads as found-of'
 use Rattle.found.proofs.is_none.Reads as is-none'
-use Rattle.found.proofs.prefer_found.Reads as prefer-found'
 use Rattle.found.proofs.rank_of.Reads as rank-of'
 
 pub is-none-one : (fit : SignatureFit) → ExactlyOne Bool (λ (r : Bool). is-none'.Post tt (fit, tt) r (fit, tt))
@@ -24,8 +22,3 @@ found-of-one hit fit = equation (foundOf hit fit)
 
 pub rank-of-one : (found : Found) → ExactlyOne ℕ (λ (r : ℕ). rank-of'.Post tt (found, tt) r (found, tt))
 rank-of-one found = equation (rankOf found)
-
-pub prefer-found-one
-    : (held other : Found)
-    → ExactlyOne Found (λ (r : Found). prefer-found'.Post tt (held, (other, tt)) r (held, (other, tt)))
-prefer-found-one held other = equation (prefer rankOf held other)

@@ -1,14 +1,14 @@
-// What a search finds, its rank, and the first of least rank (document 01, "The signature list"): added by the port.
+// What a search finds, and its rank (document 01, "The signature list"; document 02, Wish 3): added by the port.
 ghost use mathlib.Core.Path.{_≡_};
-ghost use Rattle.found.specs.Least.{prefer};
-ghost use Rattle.found.specs.Rank.{foundOf, rankOf, isNone};
+ghost use Rattle.found.specs.Rank.{foundOf, exactRank, rankOf, isNone};
 use matching::FuzzyReason;
 use matching::SignatureFit;
 
-// The record that a search found: its label, and its number in the list, from 0.
+// The record that a search found: its label, its number in the list, from 0, and whether it is generic.
 pub struct Hit {
     pub label: u16,
     pub number: u16,
+    pub generic: bool,
 }
 
 // What a search finds: three answers, with the record.
@@ -39,23 +39,23 @@ pub fn found_of(hit: Hit, fit: SignatureFit) -> Found
     }
 }
 
+// The rank of a record that fits exactly.
+fn exact_rank(generic: bool) -> u8
+    ensures { λ r. ⌜ r ≡ exactRank generic ⌝ }
+{
+    if generic {
+        return 1;
+    }
+    0
+}
+
 // The less the better; what does not fit has no rank, and comes last.
 pub fn rank_of(found: Found) -> u8
     ensures { λ r. ⌜ r ≡ rankOf found ⌝ }
 {
     match found {
         Found::None => 255,
-        Found::Exact(_) => 0,
-        Found::Fuzzy(_, _) => 1,
+        Found::Exact(hit) => exact_rank(hit.generic),
+        Found::Fuzzy(_, _) => 2,
     }
-}
-
-// The earlier of two, unless the later has strictly less rank.
-pub fn prefer_found(held: Found, other: Found) -> Found
-    ensures { λ r. ⌜ r ≡ prefer rankOf held other ⌝ }
-{
-    if rank_of(other) < rank_of(held) {
-        return other;
-    }
-    held
 }

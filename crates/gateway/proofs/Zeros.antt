@@ -1,6 +1,7 @@
 -- What an answer does not have is 0 in its struct, and so is what later requests fill.
 use mathlib.Core.Path.{_≡_, refl}
-use Prim.Native.Nat.{ℕ, _%_, _<_}
+use mathlib.Core.Bool.{Bool, false}
+use Prim.Native.Nat.{ℕ, _%_}
 use native.Mathlib.Omega.{arith}
 use Rattle.refusals.specs.declared.PacketRefusal.{PacketRefusal}
 use Rattle.refusals.specs.declared.PacketRefusal.the-variants as why
@@ -8,7 +9,6 @@ use Rattle.refusals.specs.declared.ListRefusal.{ListRefusal}
 use Rattle.refusals.specs.declared.ListRefusal.the-variants as bad
 use Rattle.refusals.specs.Refusals.{packetNumber, listNumber, packetValue, listValue}
 use Rattle.matching.specs.declared.FuzzyReason.{FuzzyReason}
-use Rattle.matching.specs.declared.Hops.{Hops}
 use Rattle.matching.specs.declared.Hops.the-variants as hops
 use Rattle.siglist.specs.declared.ListAnswer.{ListAnswer}
 use Rattle.siglist.specs.declared.ListAnswer.the-variants as list
@@ -16,23 +16,24 @@ use Rattle.found.specs.declared.Hit.{Hit}
 use Rattle.found.specs.declared.Found.{Found}
 use Rattle.found.specs.declared.Found.the-variants as found
 use Rattle.packet_answer.specs.declared.PacketAnswer.the-variants as packet
-use Rattle.gateway.specs.Parts.{GatewayAnswer, plain, refused, hopsOf, marksOf, fuzzy}
+use Rattle.gateway.specs.Parts.{GatewayAnswer, plain, refused, genericMark, fuzzy}
 use Rattle.gateway.specs.Parts.{foundParts, packetParts, refusedList, partsOf, listParts}
 use Rattle.gateway.specs.Zeros.{Zeros}
+use Rattle.gateway.proofs.Marks.{bits-0-and-2, no-distance, not-far}
 
 plain-zeros
-    : (outcome kind label number : ℕ)
+    : (outcome kind label number : ℕ) (generic : Bool)
     → ((outcome ≡ 1 → ⊥) → (outcome ≡ 2 → ⊥) → (outcome ≡ 3 → ⊥) → kind ≡ 0)
-    → ((outcome ≡ 1 → ⊥) → (outcome ≡ 2 → ⊥) → (label ≡ 0) × (number ≡ 0))
-    → Zeros (plain outcome kind label number)
-plain-zeros outcome kind label number kinds records =
+    → ((outcome ≡ 1 → ⊥) → (outcome ≡ 2 → ⊥) → (label ≡ 0) × (number ≡ 0) × (genericMark generic ≡ 0))
+    → Zeros (plain outcome kind label number (genericMark generic))
+plain-zeros outcome kind label number generic kinds records =
     record {
       tolerated = refl;
       examined = refl;
-      high-marks = omega arith;
+      other-marks = bits-0-and-2 hops.InRange generic;
       kind = kinds;
       record-found = records;
-      reason = λ h. (refl, refl, refl, refl);
+      reason = λ h. (refl, refl, refl, not-far generic);
       in-range = λ h. refl;
       refusal = λ h. refl;
       value = λ h i. refl;
@@ -44,41 +45,34 @@ refused-zeros refusal value values =
     record {
       tolerated = refl;
       examined = refl;
-      high-marks = omega arith;
+      other-marks = (refl, omega arith);
       kind = λ h i j. refl;
-      record-found = λ h i. (refl, refl);
+      record-found = λ h i. (refl, refl, refl);
       reason = λ h. (refl, refl, refl, refl);
       in-range = λ h. refl;
       refusal = λ h. absurd (h refl);
       value = values;
     }
 
-marks-low : (h : Hops) → marksOf h < 2
-marks-low hops.InRange = omega arith
-marks-low (hops.OutOfRange d) = omega arith
-
-no-distance : (h : Hops) → marksOf h ≡ 0 → hopsOf h ≡ 0
-no-distance hops.InRange e = refl
-no-distance (hops.OutOfRange d) e = absurd (omega arith)
-
 fuzzy-zeros : (kind : ℕ) (hit : Hit) (r : FuzzyReason) → Zeros (fuzzy kind hit r)
 fuzzy-zeros kind hit r =
     record {
       tolerated = refl;
       examined = refl;
-      high-marks = marks-low (r .hops);
+      other-marks = bits-0-and-2 (r .hops) (hit .generic);
       kind = λ h i j. absurd (i refl);
       record-found = λ h i. absurd (i refl);
       reason = λ h. absurd (h refl);
-      in-range = no-distance (r .hops);
+      in-range = no-distance (r .hops) (hit .generic);
       refusal = λ h. refl;
       value = λ h i. refl;
     }
 
 found-zeros : (kind : ℕ) (f : Found) → Zeros (foundParts kind f)
 unfolding foundParts
-found-zeros kind found.None = plain-zeros 3 kind 0 0 (λ h i j. absurd (j refl)) (λ h i. (refl, refl))
-found-zeros kind (found.Exact hit) = plain-zeros 1 kind (hit .label) (hit .number) (λ h i j. absurd (h refl)) (λ h i. absurd (h refl))
+found-zeros kind found.None = plain-zeros 3 kind 0 0 false (λ h i j. absurd (j refl)) (λ h i. (refl, refl, refl))
+found-zeros kind (found.Exact hit) =
+    plain-zeros 1 kind (hit .label) (hit .number) (hit .generic) (λ h i j. absurd (h refl)) (λ h i. absurd (h refl))
 found-zeros kind (found.Fuzzy hit reason) = fuzzy-zeros kind hit reason
 
 -- Only refusals 7 and 10 return anything.
@@ -102,12 +96,12 @@ pub zeros : (a : GatewayAnswer) → Zeros (partsOf a)
 unfolding packetParts refusedList
 zeros (GatewayAnswer.answered (packet.Syn f)) = found-zeros 1 f
 zeros (GatewayAnswer.answered (packet.SynAck f)) = found-zeros 2 f
-zeros (GatewayAnswer.answered packet.Nothing) = plain-zeros 4 0 0 0 (λ h i j. refl) (λ h i. (refl, refl))
+zeros (GatewayAnswer.answered packet.Nothing) = plain-zeros 4 0 0 0 false (λ h i j. refl) (λ h i. (refl, refl, refl))
 zeros (GatewayAnswer.answered (packet.Refused r)) = refused-zeros (packetNumber r) (packetValue r) (λ h i. packet-alone r h)
 zeros (GatewayAnswer.list-refused r) = refused-zeros (listNumber r) (listValue r % 65536) (λ h i. list-alone r i)
 
 -- Of what is said of a list.
 pub list-zeros : (a : ListAnswer) → Zeros (listParts a)
 unfolding listParts
-list-zeros list.Good = plain-zeros 0 0 0 0 (λ h i j. refl) (λ h i. (refl, refl))
+list-zeros list.Good = plain-zeros 0 0 0 0 false (λ h i j. refl) (λ h i. (refl, refl, refl))
 list-zeros (list.Refused r) = zeros (GatewayAnswer.list-refused r)

@@ -1,5 +1,5 @@
 -- An answer for C read back: which answer a struct stands for.
-use Prim.Native.Nat.{ℕ, _%_, _<_}
+use Prim.Native.Nat.{ℕ, _%_, _/_, _<_}
 use mathlib.Core.Bool.{cond}
 use mathlib.Core.List.{List}
 use lib.Dec.{eqb}
@@ -26,7 +26,7 @@ reasonFrom a =
     }
 
 abbrev pub hitFrom : TermreadResult → Hit
-hitFrom a = record { label = a .label; number = a .number }
+hitFrom a = record { label = a .label; number = a .number; generic = eqb (a .marks / 4 % 2) 1 }
 
 abbrev pub foundFrom : TermreadResult → Found
 foundFrom a =

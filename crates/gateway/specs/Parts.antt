@@ -1,6 +1,7 @@
 -- An answer for C: a struct, whose field `outcome` alone tells exact, fuzzy and none apart. No two of its fields share a meaning, and a
--- field that an answer does not have is 0; so are, of every answer, `tolerated`, `examined` and the bits of `marks` above the lowest.
-use Prim.Native.Nat.{ℕ, _%_}
+-- field that an answer does not have is 0; so are, of every answer, `tolerated`, `examined` and the bits of `marks` but two.
+use Prim.Native.Nat.{ℕ, _+_, _%_}
+use mathlib.Core.Bool.{Bool, cond}
 use mathlib.Core.List.{List}
 use Rattle.quirks.specs.Quirks.{bitsOf}
 use Rattle.refusals.specs.declared.ListRefusal.{ListRefusal}
@@ -24,8 +25,8 @@ use Rattle.gateway.specs.declared.TermreadResult.{TermreadResult}
 
 -- `outcome`: 1 exact, 2 fuzzy, 3 none, 4 nothing (neither SYN nor SYN+ACK), 5 refused; of a list 0, it is good. `kind`, of exact, fuzzy
 -- and none: 1 SYN, 2 SYN+ACK. `label` and `number`, of exact and fuzzy: those of the record, which are counted from 0.
-abbrev pub plain : ℕ → ℕ → ℕ → ℕ → TermreadResult
-plain outcome kind label number =
+abbrev pub plain : ℕ → ℕ → ℕ → ℕ → ℕ → TermreadResult
+plain outcome kind label number marks =
     record {
       outcome = outcome;
       kind = kind;
@@ -38,7 +39,7 @@ plain outcome kind label number =
       added = 0;
       missing = 0;
       hops = 0;
-      marks = 0;
+      marks = marks;
     }
 
 -- `refusal`: its number in documents 01 and 02. `value`, what it returns beside it: of 7 the flags byte, of 10 the index of the first bad
@@ -61,14 +62,18 @@ refused refusal value =
     }
 
 -- The reason of a fuzzy answer, "the hop distance if out of range, the added and the missing quirks" (document 01, module 7): `added`
--- and `missing`, a bit for each quirk; `hops`; `marks`, whose bit 0 says that the TTL is out of range.
+-- and `missing`, a bit for each quirk; `hops`; and bit 0 of `marks`, which says that the TTL is out of range.
 abbrev pub hopsOf : Hops → ℕ
 hopsOf hops.InRange = 0
 hopsOf (hops.OutOfRange d) = d
 
-abbrev pub marksOf : Hops → ℕ
-marksOf hops.InRange = 0
-marksOf (hops.OutOfRange d) = 1
+-- Bit 2 of `marks`, of exact and fuzzy: the record is generic (document 02, Wish 3). Bit 1 is kept for Wish 8.
+abbrev pub genericMark : Bool → ℕ
+genericMark generic = cond generic 4 0
+
+abbrev pub marksOf : Hops → Bool → ℕ
+marksOf hops.InRange generic = genericMark generic
+marksOf (hops.OutOfRange d) generic = genericMark generic + 1
 
 abbrev pub fuzzy : ℕ → Hit → FuzzyReason → TermreadResult
 fuzzy kind hit reason =
@@ -84,20 +89,20 @@ fuzzy kind hit reason =
       added = bitsOf (reason .added) % 256;
       missing = bitsOf (reason .missing) % 256;
       hops = hopsOf (reason .hops);
-      marks = marksOf (reason .hops);
+      marks = marksOf (reason .hops) (hit .generic);
     }
 
 -- ---- the struct of an answer
 
 unfoldable pub foundParts : ℕ → Found → TermreadResult
-foundParts kind found.None = plain 3 kind 0 0
-foundParts kind (found.Exact hit) = plain 1 kind (hit .label) (hit .number)
+foundParts kind found.None = plain 3 kind 0 0 0
+foundParts kind (found.Exact hit) = plain 1 kind (hit .label) (hit .number) (genericMark (hit .generic))
 foundParts kind (found.Fuzzy hit reason) = fuzzy kind hit reason
 
 unfoldable pub packetParts : PacketAnswer → TermreadResult
 packetParts (packet.Syn f) = foundParts 1 f
 packetParts (packet.SynAck f) = foundParts 2 f
-packetParts packet.Nothing = plain 4 0 0 0
+packetParts packet.Nothing = plain 4 0 0 0 0
 packetParts (packet.Refused r) = refused (packetNumber r) (packetValue r)
 
 unfoldable pub refusedList : ListRefusal → TermreadResult
@@ -128,7 +133,7 @@ gatewayIn mode p peer l = afterList (checkList l) (answerIn mode p (peerOf peer)
 
 -- Of a list: all 0 if it is well formed, or its refusal.
 unfoldable pub listParts : ListAnswer → TermreadResult
-listParts list.Good = plain 0 0 0 0
+listParts list.Good = plain 0 0 0 0 0
 listParts (list.Refused r) = refusedList r
 
 -- Which refusal of the table the answer is, if any.

@@ -4,8 +4,8 @@ ghost use Rattle.refusals.specs.Refusals.{packetNumber, packetValue};
 ghost use Rattle.siglist.specs.List.{checkList};
 ghost use Rattle.flow.specs.Modes.{modeOf};
 ghost use Rattle.packet_answer.specs.Packet.{peerOf, answerOf, answerIn};
-ghost use Rattle.gateway.specs.Parts.{plain, refused, hopsOf, marksOf, fuzzy, foundParts, packetParts, refusedList, partsOf};
-ghost use Rattle.gateway.specs.Parts.{gatewayAnswer, gatewayIn, listParts};
+ghost use Rattle.gateway.specs.Parts.{plain, refused, hopsOf, genericMark, marksOf, fuzzy, foundParts, packetParts};
+ghost use Rattle.gateway.specs.Parts.{refusedList, partsOf, gatewayAnswer, gatewayIn, listParts};
 use flow::Mode;
 use flow::mode_of;
 use found::Found;
@@ -44,8 +44,8 @@ pub struct TermreadResult {
 
 // ---- the fields
 
-fn plain(outcome: u8, kind: u8, label: u16, number: u16) -> TermreadResult
-    ensures { λ r. ⌜ r ≡ plain outcome kind label number ⌝ }
+fn plain(outcome: u8, kind: u8, label: u16, number: u16, marks: u8) -> TermreadResult
+    ensures { λ r. ⌜ r ≡ plain outcome kind label number marks ⌝ }
 {
     TermreadResult {
         outcome,
@@ -59,7 +59,7 @@ fn plain(outcome: u8, kind: u8, label: u16, number: u16) -> TermreadResult
         added: 0,
         missing: 0,
         hops: 0,
-        marks: 0,
+        marks,
     }
 }
 
@@ -91,12 +91,21 @@ fn hops_of(hops: Hops) -> u8
     }
 }
 
-fn marks_of(hops: Hops) -> u8
-    ensures { λ r. ⌜ r ≡ marksOf hops ⌝ }
+fn generic_mark(generic: bool) -> u8
+    ensures { λ r. ⌜ r ≡ genericMark generic ⌝ }
+{
+    if generic {
+        return 4;
+    }
+    0
+}
+
+fn marks_of(hops: Hops, generic: bool) -> u8
+    ensures { λ r. ⌜ r ≡ marksOf hops generic ⌝ }
 {
     match hops {
-        Hops::InRange => 0,
-        Hops::OutOfRange(_) => 1,
+        Hops::InRange => generic_mark(generic),
+        Hops::OutOfRange(_) => generic_mark(generic) + 1,
     }
 }
 
@@ -118,7 +127,7 @@ fn fuzzy(kind: u8, hit: Hit, reason: FuzzyReason) -> TermreadResult
         added: (added.bits() % 256) as u8,
         missing: (missing.bits() % 256) as u8,
         hops: hops_of(hops),
-        marks: marks_of(hops),
+        marks: marks_of(hops, hit.generic),
     }
 }
 
@@ -126,8 +135,13 @@ fn found_parts(kind: u8, found: Found) -> TermreadResult
     ensures { λ r. ⌜ r ≡ foundParts kind found ⌝ }
 {
     match found {
-        Found::None => plain(3, kind, 0, 0),
-        Found::Exact(hit) => plain(1, kind, hit.label, hit.number),
+        Found::None => plain(3, kind, 0, 0, 0),
+        Found::Exact(hit) => {
+            if hit.generic {
+                return plain(1, kind, hit.label, hit.number, 4);
+            }
+            plain(1, kind, hit.label, hit.number, 0)
+        }
         Found::Fuzzy(hit, reason) => fuzzy(kind, hit, reason),
     }
 }
@@ -147,7 +161,7 @@ fn packet_parts(answer: PacketAnswer) -> TermreadResult
     match answer {
         PacketAnswer::Syn(found) => found_parts(1, found),
         PacketAnswer::SynAck(found) => found_parts(2, found),
-        PacketAnswer::Nothing => plain(4, 0, 0, 0),
+        PacketAnswer::Nothing => plain(4, 0, 0, 0, 0),
         PacketAnswer::Refused(refusal) => refused_packet(refusal),
     }
 }
@@ -176,7 +190,7 @@ pub extern "C" fn termread_check_list(list: &[u8]) -> TermreadResult
     ensures { λ r. ⌜ r ≡ listParts (checkList (now (list .entry))) ⌝ }
 {
     match check_list(list) {
-        ListAnswer::Good => plain(0, 0, 0, 0),
+        ListAnswer::Good => plain(0, 0, 0, 0, 0),
         ListAnswer::Refused(refusal) => refused_list(refusal),
     }
 }

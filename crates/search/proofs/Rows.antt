@@ -15,6 +15,7 @@ use Rattle.found.specs.declared.Found.the-variants as found
 use Rattle.found.specs.Least.{unranked, Place, nowhere, at, rankThere, prefer, leastFrom, firstLeast, numbersFrom}
 use Rattle.found.specs.Rank.{foundOf, rankOf}
 use Rattle.found.proofs.Least as least
+use Rattle.found.proofs.Rank.{exact-first}
 use Rattle.siglist.specs.declared.Areas.{Areas}
 use Rattle.siglist.specs.List.{recordAt, listFits, AreasFit}
 use Rattle.search.specs.Next.{Next}
@@ -24,7 +25,7 @@ use Rattle.search.proofs.Fits.{gate-fails}
 -- What does not fit comes last.
 last-rank : (x : Found) → rankOf x ≤ unranked
 last-rank found.None = omega arith
-last-rank (found.Exact hit) = omega arith
+last-rank (found.Exact hit) = omega (arith, exact-first (hit .generic))
 last-rank (found.Fuzzy hit reason) = omega arith
 
 -- Every record between two fails the gates, and so does one more.
@@ -61,9 +62,9 @@ module _ (f : Features) (kinds bytes l : List ℕ) where
 
   -- ---- records that do not fit
 
-  pub passed-over : (held : Found) (i : ℕ) → fitAt f kinds bytes l i ≡ fit.None → prefer rankOf held (candidateAt f kinds bytes l i) ≡ held
+  pub none-there : (i : ℕ) → fitAt f kinds bytes l i ≡ fit.None → candidateAt f kinds bytes l i ≡ found.None
   unfolding candidateAt foundOf
-  passed-over held i e = rw e (least.kept rankOf held found.None (last-rank held))
+  none-there i e = rw e
 
   pub none-fits : ((i : ℕ) → fitAt f kinds bytes l i ≡ fit.None) → (is : List ℕ) → searchRow f kinds bytes l is ≡ found.None
   unfolding searchRow firstLeast foundAt
@@ -72,12 +73,12 @@ module _ (f : Features) (kinds bytes l : List ℕ) where
       (least.unchanged (rankAt f kinds bytes l) nowhere is
       (λ k inside. let e = no-rank (getD is k 0) (none (getD is k 0)) in omega arith))
 
-  none-there : listFits l ≡ false → (i : ℕ) → fitAt f kinds bytes l i ≡ fit.None
+  no-list : listFits l ≡ false → (i : ℕ) → fitAt f kinds bytes l i ≡ fit.None
   unfolding fitAt
-  none-there e i = rw e
+  no-list e i = rw e
 
   pub none-found : listFits l ≡ false → (is : List ℕ) → searchRow f kinds bytes l is ≡ found.None
-  none-found e is = none-fits (none-there e) is
+  none-found e is = none-fits (no-list e) is
 
   -- ---- other rows
 
@@ -144,7 +145,7 @@ module _ (f : Features) (kinds bytes l : List ℕ) where
       let e = no-rank k (gate-fails f kinds bytes l a k fits inside (next .between k from to)) in
       omega arith)))
 
-  -- A candidate is judged, and one of rank 0 was found.
+  -- A candidate was judged, and one of rank 0 was found.
   pub after
       : (a : Areas) (i r : ℕ) (held new : Found)
       → AreasFit l a

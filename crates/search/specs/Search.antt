@@ -1,6 +1,6 @@
--- The search (document 01, "The signature list"): "the first exact record in list order; else the first fuzzy one, with its
--- reason; else none", as the first record of least rank. It goes over a row of record numbers; the plain search takes 0, 1, .. to
--- the last.
+-- The search (document 02, Wish 3): "first specific exact, else first generic exact, else first fuzzy of either kind", else none
+-- (document 01, "The signature list"), as the first record of least rank. It goes over a row of record numbers; the plain search takes
+-- 0, 1, .. to the last.
 use Prim.Native.Nat.{ℕ}
 use mathlib.Core.Bool.{cond, _&&_}
 use mathlib.Core.List.{List}
@@ -13,7 +13,7 @@ use Rattle.matching.specs.Fit.{featuresOf, fitOf}
 use Rattle.found.specs.declared.Hit.{Hit}
 use Rattle.found.specs.declared.Found.{Found}
 use Rattle.found.specs.declared.Found.the-variants as found
-use Rattle.found.specs.Least.{Place, nowhere, at, prefer, firstLeast, numbersFrom}
+use Rattle.found.specs.Least.{Place, nowhere, at, firstLeast, numbersFrom}
 use Rattle.found.specs.Rank.{foundOf, rankOf}
 use Rattle.refusals.specs.declared.Refusal.the-variants as refusal
 use Rattle.refusals.specs.Refusals.{Verdict, listRefused, numberOf}
@@ -21,7 +21,7 @@ use Rattle.siglist.specs.declared.ListAnswer.{ListAnswer}
 use Rattle.siglist.specs.declared.ListAnswer.the-variants as list
 use Rattle.search.specs.declared.SearchAnswer.{SearchAnswer}
 use Rattle.search.specs.declared.SearchAnswer.the-variants as answer
-use Rattle.sigrecord.specs.Record.{signatureOf, entryCount, labelOf}
+use Rattle.sigrecord.specs.Record.{signatureOf, entryCount, labelOf, isGeneric}
 use Rattle.siglist.specs.List.{recordCount, listFits, recordAt, entriesOf, recordGood, checkList}
 
 -- How record i fits: what is not a well-formed record of the list does not fit.
@@ -31,9 +31,9 @@ fitAt f kinds bytes l i =
     (fitOf f kinds bytes (signatureOf (recordAt l i)) (entryCount (recordAt l i)) (entriesOf l (recordAt l i)))
     fit.None
 
--- Record i as a search names it: by its label, and by its number in the list.
+-- Record i as a search names it: by its label, by its number in the list, and by its kind.
 abbrev pub hitAt : List ℕ → ℕ → Hit
-hitAt l i = record { label = labelOf (recordAt l i); number = i }
+hitAt l i = record { label = labelOf (recordAt l i); number = i; generic = isGeneric (recordAt l i) }
 
 -- What is found in record i alone, and the record's rank.
 unfoldable pub candidateAt : Features → List ℕ → List ℕ → List ℕ → ℕ → Found
@@ -51,12 +51,9 @@ foundAt f kinds bytes l (at i) = candidateAt f kinds bytes l i
 unfoldable pub searchRow : Features → List ℕ → List ℕ → List ℕ → List ℕ → Found
 searchRow f kinds bytes l is = foundAt f kinds bytes l (firstLeast (rankAt f kinds bytes l) is)
 
--- The search of all records, in list order, and what it holds after record i.
+-- The search of all records, in list order.
 abbrev pub searchRecords : Features → List ℕ → List ℕ → List ℕ → Found
 searchRecords f kinds bytes l = searchRow f kinds bytes l (numbersFrom 0 (recordCount l))
-
-abbrev pub heldAfter : Found → Features → List ℕ → List ℕ → List ℕ → ℕ → Found
-heldAfter held f kinds bytes l i = prefer rankOf held (candidateAt f kinds bytes l i)
 
 -- The search of a row of record numbers for an observation, and the plain search: of all records in list order.
 unfoldable pub searchOver : List ℕ → TcpObservation → List ℕ → Found

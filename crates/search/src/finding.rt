@@ -7,12 +7,11 @@ ghost use lib.ListN.{length};
 ghost use Rattle.siglist.specs.List.{recordAt, AreasFit};
 ghost use Rattle.search.specs.Candidate.{holds};
 ghost use Rattle.search.specs.Next.{Next};
-ghost use Rattle.search.specs.Search.{heldAfter, searchRecords};
+ghost use Rattle.search.specs.Search.{candidateAt, searchRecords};
 use found::Found;
 use found::Hit;
 use found::found_of;
 use found::is_none;
-use found::prefer_found;
 use found::rank_of;
 use matching::Features;
 use matching::olayout_matches;
@@ -23,6 +22,7 @@ use siglist::entries_lie;
 use siglist::record_at;
 use sigrecord::entry_count;
 use sigrecord::first_entry;
+use sigrecord::is_generic;
 use sigrecord::label_of;
 use sigrecord::scalars_well_formed;
 
@@ -52,33 +52,33 @@ pub(crate) fn record_holds(
     scalars_well_formed(raw)
 }
 
-// What is held after record i, which passes the gates. TTL and quirks come first: only of a record that passes them too is it asked
-// whether it is well formed, and its label is read only if it fits.
-pub(crate) fn search_step(
-    held: Found,
+// What is found in record i alone, which passes the gates. TTL and quirks come first: only of a record that passes them too is it asked
+// whether it is well formed, and its label and kind are read only if it fits.
+pub(crate) fn candidate_at(
     observed: Features,
-    kinds: &[u8],
-    bytes: &[u8],
+    kinds: &[u8; 40],
+    bytes: &[u8; 40],
     list: &[u8],
     areas: Areas,
     i: usize,
 ) -> Found
     requires { ⌜ AreasFit (now list) areas × (i < areas .records) × (passes observed (recordAt (now list) i) ≡ true) ⌝ }
-    ensures { λ r. ⌜ r ≡ heldAfter held observed (now (kinds .entry)) (now (bytes .entry)) (now (list .entry)) i ⌝ }
+    ensures { λ r. ⌜ r ≡ candidateAt observed (now (kinds .entry)) (now (bytes .entry)) (now (list .entry)) i ⌝ }
 {
     let raw = record_at(list, areas, i);
     let fit = tolerance(observed, raw);
     if is_none(fit) {
-        return held;
+        return Found::None;
     }
     if !record_holds(observed.count, kinds, bytes, list, areas, raw) {
-        return held;
+        return Found::None;
     }
     let hit = Hit {
         label: label_of(raw),
         number: i as u16,
+        generic: is_generic(raw),
     };
-    prefer_found(held, found_of(hit, fit))
+    found_of(hit, fit)
 }
 
 // The first record from one on that passes the gates, or the end.
@@ -96,7 +96,7 @@ pub(crate) fn next_candidate(observed: Features, list: &[u8], areas: Areas, from
     i
 }
 
-// The records in list order; one of rank 0 ends the search.
+// The records in list order, with the first of least rank among those passed; one of rank 0, specific and exact, ends the search.
 pub(crate) fn search_records(
     observed: Features,
     kinds: &[u8; 40],
@@ -109,15 +109,21 @@ pub(crate) fn search_records(
 {
     let count = areas.records as usize;
     let mut held = Found::None;
+    let mut best: u8 = 255;
     let mut i = 0;
     while i < count {
         i = next_candidate(observed, list, areas, i);
         if count <= i {
             return held;
         }
-        held = search_step(held, observed, kinds, bytes, list, areas, i);
-        if rank_of(held) == 0 {
-            return held;
+        let found = candidate_at(observed, kinds, bytes, list, areas, i);
+        let rank = rank_of(found);
+        if rank == 0 {
+            return found;
+        }
+        if rank < best {
+            held = found;
+            best = rank;
         }
         i += 1;
     }

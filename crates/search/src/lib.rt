@@ -1,4 +1,4 @@
-// The search of a signature list (document 01, "The signature list"): added by the port.
+// The search of a signature list (document 01, "The signature list"; document 02, Wish 3): added by the port.
 ghost use mathlib.Core.Path.{_≡_};
 ghost use Rattle.search.specs.Search.{searchAll, searchList};
 use finding::search_records;

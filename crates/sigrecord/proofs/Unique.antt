@@ -16,12 +16,13 @@ use Rattle.sigrecord.specs.declared.SigVersion.{SigVersion}
 use Rattle.sigrecord.specs.declared.Signature.{Signature}
 use Rattle.sigrecord.specs.declared.WindowSize.{WindowSize}
 use Rattle.sigrecord.specs.Layout.{entriesGood, entryGood}
-use Rattle.sigrecord.specs.Record.{entryCount, firstEntry, labelOf, signatureOf}
+use Rattle.sigrecord.specs.Record.{entryCount, firstEntry, isGeneric, labelOf, signatureOf}
 use Rattle.sigrecord.specs.WellFormed.{scalarsWellFormed}
 use Rattle.sigrecord.proofs.entries_good.Reads as entries-good'
 use Rattle.sigrecord.proofs.entry_count.Reads as entry-count'
 use Rattle.sigrecord.proofs.entry_good.Reads as entry-good'
 use Rattle.sigrecord.proofs.first_entry.Reads as first-entry'
+use Rattle.sigrecord.proofs.is_generic.Reads as is-generic'
 use Rattle.sigrecord.proofs.label_of.Reads as label-of'
 use Rattle.sigrecord.proofs.mss_of.Reads as mss-of'
 use Rattle.sigrecord.proofs.quirks_of.Reads as quirks-of'
@@ -67,6 +68,9 @@ entry-count-one κs raw = equation (entryCount (now raw))
 
 pub label-of-one : (κs : Lfts 1) (raw : RefT (List ℕ)) → ExactlyOne ℕ (λ (r : ℕ). label-of'.Post κs (raw, tt) r (raw, tt))
 label-of-one κs raw = equation (labelOf (now raw))
+
+pub is-generic-one : (κs : Lfts 1) (raw : RefT (List ℕ)) → ExactlyOne Bool (λ (r : Bool). is-generic'.Post κs (raw, tt) r (raw, tt))
+is-generic-one κs raw = equation (isGeneric (now raw))
 
 pub scalars-well-formed-one
     : (κs : Lfts 1) (raw : RefT (List ℕ))

@@ -1,6 +1,6 @@
--- What a record of the signature list means (document 01, "The signature list"). A record is its 24 bytes.
+-- What a record of the signature list means (document 01, "The signature list"; document 02, Wish 3). A record is its 24 bytes.
 use Prim.Native.Nat.{ℕ, _%_}
-use mathlib.Core.Bool.{cond}
+use mathlib.Core.Bool.{Bool, cond}
 use mathlib.Core.List.{List}
 use lib.Dec.{eqb}
 use Rattle.basis.specs.Bytes.{byteAt, be16, be32}
@@ -70,3 +70,7 @@ entryCount r = byteAt r 20
 
 abbrev pub labelOf : List ℕ → ℕ
 labelOf r = be16 r 22
+
+-- "Byte 21 becomes 0 specific or 1 generic"
+abbrev pub isGeneric : List ℕ → Bool
+isGeneric r = eqb (byteAt r 21) 1

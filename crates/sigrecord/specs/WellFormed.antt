@@ -1,4 +1,5 @@
--- When a record of the signature list is well formed, the place and the entries of its layout apart (document 01, "The signature list").
+-- When a record of the signature list is well formed, the place and the entries of its layout apart (document 01, "The signature list";
+-- document 02, Wish 3).
 use Prim.Native.Nat.{ℕ}
 use mathlib.Core.Bool.{Bool, true, false, cond, _&&_, _||_}
 use mathlib.Core.List.{List}
@@ -32,7 +33,7 @@ payloadGood code = leb code 2
 unfoldable pub quirksGood : ℕ → Bool
 quirksGood bits = isEmpty (difference (setOf bits) seventeen)
 
--- All but the layout; "21 zero".
+-- All but the layout; "Byte 21 becomes 0 specific or 1 generic, other values bad" (document 02, Wish 3).
 unfoldable pub scalarsGood : List ℕ → Bool
 scalarsGood r =
     versionGood (byteAt r 0)
@@ -42,7 +43,7 @@ scalarsGood r =
     && presenceGood (byteAt r 11) (byteAt r 12)
     && payloadGood (byteAt r 13)
     && quirksGood (be32 r 14)
-    && eqb (byteAt r 21) 0
+    && leb (byteAt r 21) 1
 
 -- A record given as its 24 bytes: it is whole, and no condition but those of its layout makes it bad.
 unfoldable pub scalarsWellFormed : List ℕ → Bool

@@ -3,6 +3,7 @@ ghost use mathlib.Core.Path.{_≡_};
 ghost use Rattle.basis.specs.Bytes.{byteAt, be16, be32};
 ghost use Rattle.sigrecord.specs.WellFormed.{versionGood, ttlGood, presenceGood, windowGood, quirksGood, scalarsGood};
 use crate::DISTANCE;
+use crate::GENERIC;
 use crate::MSS;
 use crate::MSS_PRESENT;
 use crate::PAYLOAD;
@@ -12,7 +13,6 @@ use crate::TTL_FORM;
 use crate::VERSION;
 use crate::WINDOW;
 use crate::WINDOW_FORM;
-use crate::ZERO;
 use crate::quirks_of;
 use numbers::be16_at;
 use numbers::byte_at;
@@ -101,5 +101,5 @@ pub(crate) fn scalars_good(raw: &[u8]) -> bool
     if !quirks_good(raw) {
         return false;
     }
-    byte_at(raw, ZERO) == 0
+    byte_at(raw, GENERIC) <= 1
 }

@@ -1,10 +1,10 @@
-// A record of the signature list (document 01, "The signature list"): its bytes, what they mean, when it is well formed, and the
-// entries of its layout. Added by the port; the types are those of the original's signatures.
+// A record of the signature list (document 01, "The signature list"; document 02, Wish 3): its bytes, what they mean, when it is well
+// formed, and the entries of its layout. Added by the port; the types are those of the original's signatures.
 ghost use mathlib.Core.Path.{_≡_};
 ghost use Prim.Native.Nat.{_/_};
 ghost use lib.ListN.{length};
 ghost use Rattle.sigrecord.specs.Layout.{entryGood, entriesGood};
-ghost use Rattle.sigrecord.specs.Record.{signatureOf, firstEntry, entryCount, labelOf};
+ghost use Rattle.sigrecord.specs.Record.{signatureOf, firstEntry, entryCount, labelOf, isGeneric};
 ghost use Rattle.sigrecord.specs.WellFormed.{scalarsWellFormed};
 use conditions::scalars_good;
 use numbers::be16_at;
@@ -55,7 +55,7 @@ pub const FIRST_ENTRY: usize = 18;
 
 pub const ENTRY_COUNT: usize = 20;
 
-pub const ZERO: usize = 21;
+pub const GENERIC: usize = 21;
 
 pub const LABEL: usize = 22;
 
@@ -203,6 +203,13 @@ pub fn label_of(raw: &[u8]) -> u16
     ensures { λ r. ⌜ r ≡ labelOf (now (raw .entry)) ⌝ }
 {
     be16_at(raw, LABEL)
+}
+
+// Whether a record is generic: a last resort, behind every specific one that fits exactly.
+pub fn is_generic(raw: &[u8]) -> bool
+    ensures { λ r. ⌜ r ≡ isGeneric (now (raw .entry)) ⌝ }
+{
+    byte_at(raw, GENERIC) == 1
 }
 
 // ---- when a record is well formed

@@ -1,7 +1,7 @@
 -- The answers as structs of numbers.
 use mathlib.Core.Path.{_≡_}
 use Prim.Native.Nat.{ℕ, _%_}
-use mathlib.Core.Bool.{false, cond}
+use mathlib.Core.Bool.{Bool, false, cond}
 use mathlib.Core.List.{List}
 use Rattle.text.specs.Written.{written}
 use Rattle.quirks.specs.Quirks.{bitsOf}
@@ -184,9 +184,12 @@ abbrev pub hopsNumber : Hops → ℕ
 hopsNumber hops.InRange = 0
 hopsNumber (hops.OutOfRange n) = n
 
+abbrev pub kindNumber : Bool → ℕ
+kindNumber generic = cond generic 1 0
+
 -- An answer without a reason.
-abbrev pub outcomeOf : ℕ → ℕ → ℕ → ℕ → ℕ → PlainSearch
-outcomeOf outcome label number refusal bad =
+abbrev pub outcomeOf : ℕ → ℕ → ℕ → ℕ → ℕ → ℕ → PlainSearch
+outcomeOf outcome label number kind refusal bad =
     record {
       added = 0;
       missing = 0;
@@ -197,11 +200,12 @@ outcomeOf outcome label number refusal bad =
       refusal = refusal;
       far = 0;
       hops = 0;
+      generic = kind;
     }
 
 unfoldable pub plainFound : Found → PlainSearch
-plainFound found.None = outcomeOf 3 0 0 0 0
-plainFound (found.Exact hit) = outcomeOf 1 (hit .label) (hit .number) 0 0
+plainFound found.None = outcomeOf 3 0 0 0 0 0
+plainFound (found.Exact hit) = outcomeOf 1 (hit .label) (hit .number) (kindNumber (hit .generic)) 0 0
 plainFound (found.Fuzzy hit reason) =
     record {
       added = bitsOf (reason .added);
@@ -213,12 +217,13 @@ plainFound (found.Fuzzy hit reason) =
       refusal = 0;
       far = hopsFar (reason .hops);
       hops = hopsNumber (reason .hops);
+      generic = kindNumber (hit .generic);
     }
 
 unfoldable pub plainSearch : SearchAnswer → PlainSearch
 plainSearch (search.Found f) = plainFound f
-plainSearch search.LayoutTooLong = outcomeOf 5 0 0 (number refusal.LayoutTooLong) 0
-plainSearch (search.List r) = outcomeOf 5 0 0 (number (refusal.List r)) (listValue r % 4294967296)
+plainSearch search.LayoutTooLong = outcomeOf 5 0 0 0 (number refusal.LayoutTooLong) 0
+plainSearch (search.List r) = outcomeOf 5 0 0 0 (number (refusal.List r)) (listValue r % 4294967296)
 
 -- ---- the output of a bundle
 

@@ -86,6 +86,7 @@ pub struct PlainSearch {
     pub refusal: u8,
     pub far: u8,
     pub hops: u8,
+    pub generic: u8,
 }
 
 #[repr(C)]

@@ -1,6 +1,6 @@
 // What a search answers, as a struct of numbers.
 ghost use mathlib.Core.Path.{_≡_};
-ghost use Rattle.witness.specs.Written.{hopsFar, hopsNumber, outcomeOf, plainFound, plainSearch};
+ghost use Rattle.witness.specs.Written.{hopsFar, hopsNumber, kindNumber, outcomeOf, plainFound, plainSearch};
 use crate::PlainSearch;
 use found::Found;
 use matching::Hops;
@@ -27,9 +27,22 @@ fn hops_number(hops: Hops) -> u8
     }
 }
 
+fn kind_number(generic: bool) -> u8
+    ensures { λ r. ⌜ r ≡ kindNumber generic ⌝ }
+{
+    if generic { 1 } else { 0 }
+}
+
 // An answer without a reason.
-fn outcome_of(outcome: u8, label: u16, number: u16, refusal: u8, bad_record: u32) -> PlainSearch
-    ensures { λ r. ⌜ r ≡ outcomeOf outcome label number refusal «bad_record» ⌝ }
+fn outcome_of(
+    outcome: u8,
+    label: u16,
+    number: u16,
+    generic: u8,
+    refusal: u8,
+    bad_record: u32,
+) -> PlainSearch
+    ensures { λ r. ⌜ r ≡ outcomeOf outcome label number generic refusal «bad_record» ⌝ }
 {
     PlainSearch {
         added: 0,
@@ -41,6 +54,7 @@ fn outcome_of(outcome: u8, label: u16, number: u16, refusal: u8, bad_record: u32
         refusal,
         far: 0,
         hops: 0,
+        generic,
     }
 }
 
@@ -48,8 +62,8 @@ fn plain_found(found: Found) -> PlainSearch
     ensures { λ r. ⌜ r ≡ plainFound found ⌝ }
 {
     match found {
-        Found::None => outcome_of(3, 0, 0, 0, 0),
-        Found::Exact(hit) => outcome_of(1, hit.label, hit.number, 0, 0),
+        Found::None => outcome_of(3, 0, 0, 0, 0, 0),
+        Found::Exact(hit) => outcome_of(1, hit.label, hit.number, kind_number(hit.generic), 0, 0),
         Found::Fuzzy(hit, reason) => {
             let hops = reason.hops;
             let added = reason.added;
@@ -64,6 +78,7 @@ fn plain_found(found: Found) -> PlainSearch
                 refusal: 0,
                 far: hops_far(hops),
                 hops: hops_number(hops),
+                generic: kind_number(hit.generic),
             }
         }
     }
@@ -78,12 +93,13 @@ pub(crate) fn plain_search(answer: SearchAnswer) -> PlainSearch
             5,
             0,
             0,
+            0,
             refusal_number(Refusal::LayoutTooLong),
             0,
         ),
         SearchAnswer::List(why) => {
             let refusal = refusal_number(Refusal::List(why));
-            outcome_of(5, 0, 0, refusal, (list_value(why) % 4294967296) as u32)
+            outcome_of(5, 0, 0, 0, refusal, (list_value(why) % 4294967296) as u32)
         }
     }
 }

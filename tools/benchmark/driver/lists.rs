@@ -5,13 +5,18 @@ use oracle::{Signature, bytes, parse_signature};
 /// What fits today's Linux SYN exactly.
 pub const LINUX: &str = "*:64:0:*:mss*44,7:mss,sok,ts,nop,ws:df,id+:0";
 
-/// A list of document 01 and the same signatures as the original's values. Record i has the label i.
+/// A list of document 01 and the same signatures as the original's values, with which are generic. Record i has the label i.
 pub struct List {
     pub bytes: Vec<u8>,
     pub signatures: Vec<Signature>,
+    pub generic: Vec<bool>,
 }
 
 pub fn list_of(lines: &[&str]) -> List {
+    list_of_kinds(lines, &vec![false; lines.len()])
+}
+
+pub fn list_of_kinds(lines: &[&str], generic: &[bool]) -> List {
     let (mut records, mut layouts) = (Vec::new(), Vec::new());
     let mut signatures = Vec::new();
     for (i, line) in lines.iter().enumerate() {
@@ -19,6 +24,7 @@ pub fn list_of(lines: &[&str]) -> List {
         let (mut record, mut entries) = ([0u8; 24], [0u8; 80]);
         bytes::put_signature(&mut record, &mut entries, &signature).expect("a record holds it");
         record[18..20].copy_from_slice(&((layouts.len() / 2) as u16).to_be_bytes());
+        record[21] = u8::from(generic[i]);
         record[22..24].copy_from_slice(&(i as u16).to_be_bytes());
         layouts.extend_from_slice(&entries[..2 * usize::from(record[20])]);
         records.extend_from_slice(&record);
@@ -30,22 +36,30 @@ pub fn list_of(lines: &[&str]) -> List {
     }
     bytes.extend_from_slice(&records);
     bytes.extend_from_slice(&layouts);
-    List { bytes, signatures }
+    List { bytes, signatures, generic: generic.to_vec() }
 }
 
-/// The signatures of a section of p0f's database.
-pub fn section<'a>(database: &'a str, name: &str) -> Vec<&'a str> {
-    let (mut found, mut inside) = (Vec::new(), false);
+/// The signatures of a section of p0f's database, and whether each stands under a generic label.
+pub fn section<'a>(database: &'a str, name: &str) -> (Vec<&'a str>, Vec<bool>) {
+    let (mut found, mut kinds, mut inside, mut generic) = (Vec::new(), Vec::new(), false, false);
     for line in database.lines().map(str::trim) {
         if line.starts_with('[') {
             inside = line.strip_prefix('[').and_then(|l| l.strip_suffix(']')) == Some(name);
+        } else if let Some(rest) = line.strip_prefix("label") {
+            generic = rest.trim_start().strip_prefix('=').expect("label = ..").trim_start().starts_with("g:");
         } else if let Some(rest) = line.strip_prefix("sig") {
             if inside {
                 found.push(rest.trim_start().strip_prefix('=').expect("sig = ..").trim());
+                kinds.push(generic);
             }
         }
     }
-    found
+    (found, kinds)
+}
+
+/// Of the made-up ones the one that fits is generic.
+pub fn made_up_kinds() -> Vec<bool> {
+    (0..91).map(|i| i == 28).collect()
 }
 
 /// Ninety-one signatures of the same shapes, where p0f's are not at hand.

@@ -19,14 +19,15 @@ fn main() {
     let database = arguments.first().expect("a p0f database, or none");
     let text = std::fs::read_to_string(database).unwrap_or_default();
     let made_up = lists::made_up();
-    let mut lines = lists::section(&text, "tcp:request");
+    let (mut lines, mut kinds) = lists::section(&text, "tcp:request");
     if lines.is_empty() {
         lines = made_up.iter().map(String::as_str).collect();
+        kinds = lists::made_up_kinds();
     }
     match &arguments[1..] {
         [] => {
-            rows::all(&lines);
-            lines::all(&[&lines[..], &lists::section(&text, "tcp:response")].concat());
+            rows::all(&lines, &kinds);
+            lines::all(&[&lines[..], &lists::section(&text, "tcp:response").0].concat());
             modes::all(&lines);
         }
         [word, count, file] if word == "bundle" => {

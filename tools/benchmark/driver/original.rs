@@ -32,6 +32,21 @@ pub fn find(signatures: &[Signature], observed: &TcpObservation) -> Found {
     held
 }
 
+/// The same with generic ones last: the first specific exact record, else the first generic exact one, else the first fuzzy one.
+#[inline(always)]
+pub fn find_by_kind(signatures: &[Signature], generic: &[bool], observed: &TcpObservation) -> Found {
+    let (mut exact, mut fuzzy) = (None, None);
+    for (i, signature) in signatures.iter().enumerate() {
+        match fit(signature, observed) {
+            None => {}
+            Some(SignatureFit::Exact) if !generic[i] => return Some((i, SignatureFit::Exact)),
+            Some(SignatureFit::Exact) => exact = exact.or(Some((i, SignatureFit::Exact))),
+            Some(found) => fuzzy = fuzzy.or(Some((i, found))),
+        }
+    }
+    exact.or(fuzzy)
+}
+
 /// What was found in the port's numbering: none, exact or fuzzy with the label, which is the index.
 pub fn number(found: &Found) -> u64 {
     match found {

@@ -1,6 +1,6 @@
 //! The rows. Before a row is measured, both sides must give the same answer.
 
-use crate::lists::{LINUX as LINUX_LINE, List, list_of};
+use crate::lists::{LINUX as LINUX_LINE, List, list_of, list_of_kinds};
 use crate::original::{self, ConnectionTracker};
 use crate::packets::*;
 use crate::port;
@@ -8,11 +8,11 @@ use crate::window::measure;
 use oracle::{TcpObservation, bytes, fit};
 use std::hint::black_box;
 
-pub fn all(lines: &[&str]) {
+pub fn all(lines: &[&str], kinds: &[bool]) {
     assert_eq!(lines.len(), 91, "the request signatures");
     observations();
     fits();
-    searches(lines);
+    searches(lines, kinds);
     answers(lines);
 }
 
@@ -166,7 +166,7 @@ fn alone(name: &str, kind: u64, packet: &[u8], line: &str) {
 
 // ---- searches
 
-fn searches(lines: &[&str]) {
+fn searches(lines: &[&str], kinds: &[bool]) {
     let (fitting, others) = parted(lines);
     for size in [10, 91, 1000] {
         let none: Vec<&str> = others.iter().copied().cycle().take(size).collect();
@@ -175,6 +175,22 @@ fn searches(lines: &[&str]) {
         search(&format!("search: {size} records, the last fits"), &list_of(&last));
     }
     search("search: 91 records in p0f's order", &list_of(lines));
+    search_by_kind("search: 91 records in p0f's order and of its kinds", &list_of_kinds(lines, kinds));
+    let first: Vec<bool> = (0..lines.len()).map(|i| i == 0).collect();
+    let alone = [&[fitting], &others[..]].concat();
+    search_by_kind("search: 91 records, the first fits and is generic", &list_of_kinds(&alone, &first));
+    let both = [&[fitting], &others[1..], &[fitting]].concat();
+    search_by_kind("search: 91 records, the first fits and is generic, the last is specific", &list_of_kinds(&both, &first));
+}
+
+fn search_by_kind(row: &str, list: &List) {
+    let observed = seen(&LINUX, &mut ConnectionTracker::new(1));
+    let expected = original::number(&original::find_by_kind(&list.signatures, &list.generic, &observed));
+    assert_eq!(expected, port::answer(&LINUX, 0, &list.bytes), "{row}");
+    measure(row, "original", '+', || {
+        drop(black_box(original::find_by_kind(black_box(&list.signatures), black_box(&list.generic), black_box(&observed))));
+    });
+    found(row, &LINUX, &list.bytes);
 }
 
 /// The one signature that fits the Linux SYN, and the others.

@@ -5,7 +5,7 @@
 #include "linetext.h"
 #include "tally.h"
 
-enum { FAMILIES = 64, ANSWERS = 23, MOST = 4096 };
+enum { FAMILIES = 64, ANSWERS = 24, MOST = 4096 };
 
 typedef struct {
     const char *name;
@@ -25,6 +25,8 @@ typedef struct {
     Family families[FAMILIES];
     int used; /* families; the last of them is tried */
     uint64_t quirks[32], divisors[13], ttl_forms[4], reasons[5];
+    uint64_t fuzzy_kinds[2]; /* of fuzzy answers: by a specific record, by a generic one */
+    uint64_t passed[3];      /* specific exact behind a generic exact one, behind a fuzzy one; generic exact behind a fuzzy one */
     uint64_t replaced[ANSWERS]; /* packets by their plain answer, where the strict one is 14 */
     Difference *differences[KINDS][NUMBERS];
     uint8_t least_line[LINE_CLASSES][MOST];

@@ -3,7 +3,7 @@
 #include <stdio.h>
 #include <string.h>
 
-enum { GROUPS = 32, VALUES = 4096 };
+enum { GROUPS = 33, VALUES = 4096 };
 
 static unsigned char shown[GROUPS][VALUES];
 static const char *group_names[GROUPS];
@@ -126,11 +126,11 @@ static void single_keys(const uint8_t *o, const uint8_t *list, unsigned answer) 
     key(25, "answer x TTL form x version x window form", (answer / 65536 * 4 + r[1]) * 16 + (r[0] / 2) * 5 + r[8], 1);
 }
 
-int new_search(const uint8_t *o, const uint8_t *list, const Numbers *answer, int place) {
-    unsigned first = (unsigned)answer->n[0];
+int new_search(const uint8_t *o, const uint8_t *list, const Numbers *answer, int passed, int place) {
+    unsigned first = (unsigned)answer->n[0], kind = (unsigned)answer->n[6];
     news = 0;
-    if (place < -2) news++; /* a boundary is always kept */
-    key(26, "search answers", first < 65536 ? first : 100 + first / 65536, 10);
+    if (place < -2) news++;
+    key(26, "search answers, by kind", first < 65536 ? first : 100 + first / 65536 * 2 + kind, 10);
     if (first == 10) {
         unsigned where = (unsigned)(place >= 8 ? (place - 8) % 24 : 31);
         key(27, "refusal 10: index and the place that was overwritten", (unsigned)answer->n[1] * 32 + where, 1);
@@ -143,7 +143,9 @@ int new_search(const uint8_t *o, const uint8_t *list, const Numbers *answer, int
     }
     if (first < 65536) return news > 0;
     if (be16_at(list) == 1) single_keys(o, list, first);
-    key(31, "records x answer", be16_at(list) * 4u + first / 65536, 4);
+    key(31, "records x answer x kind", be16_at(list) * 8u + first / 65536 * 2 + kind, 4);
+    key(32, "records x answer x kind x what stands before it and fits too",
+        ((be16_at(list) * 4u + first / 65536) * 2 + kind) * 4 + (unsigned)passed, 2);
     return news > 0;
 }
 

@@ -24,4 +24,11 @@ size_t base_string(int i, uint8_t *s);
 int boundaries(void);
 size_t boundary(int i, uint8_t *observation, uint8_t *list);
 
+/* Lists of up to ROW_MOST records (rows.c), numbered from 0, shorter ones first: how many there are of at most so many records; one of
+   them, as an observation, a list and its size; whether each of its records fits. */
+enum { ROW_MOST = 6 };
+int rows(int most);
+size_t row(int number, uint8_t *observation, uint8_t *list);
+int row_fits(int number);
+
 #endif

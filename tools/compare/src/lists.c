@@ -102,12 +102,14 @@ static void change(Random *r, uint8_t *record, uint8_t *entries) {
 
 size_t make_list(Random *r, const uint8_t *o, unsigned records, unsigned changes, uint8_t *list) {
     uint8_t entries[82 * RECORDS_MOST + 2] = {0}, *record;
+    Random kinds = {~r->state};
     unsigned all = 0, i, j, at = 8 + (chance(r, 20) ? below(r, 9) : 0), entries_at;
     memset(list, 0, LIST_MOST);
     entries_at = at + RECORD * records + (chance(r, 20) ? below(r, 5) : 0);
     for (i = 0; i < records; i++) {
         record = list + at + RECORD * i;
         derive(r, o, record);
+        record[21] = below(&kinds, 3) == 0;
         put16(record + 18, all);
         for (j = 0; j < record[20]; j++) entries[2 * (all + j)] = o[15 + j], entries[2 * (all + j) + 1] = o[55 + j];
         for (j = below(r, changes + 1); j > 0; j--) change(r, record, entries + 2 * all);

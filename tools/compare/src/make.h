@@ -29,7 +29,8 @@ void observe(Random *r, uint8_t *o);
 /* An observation that no packet need give. */
 void make_observation(Random *r, uint8_t *o);
 
-/* A list whose records are derived from an observation, each changed so many times. */
+/* A list whose records are derived from an observation, each changed so many times; of three records one is generic. The kinds have draws
+   of their own: nothing else of a list hangs on them. */
 size_t make_list(Random *r, const uint8_t *o, unsigned records, unsigned changes, uint8_t *list);
 size_t damage_list(Random *r, uint8_t *list, size_t size);
 

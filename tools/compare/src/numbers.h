@@ -4,7 +4,7 @@
             20 layout count   21 to 25 kinds   26 to 30 bytes
    options  0 answer (1 parsed, 8 refused)   1 malformed   2 MSS   3 scale   20 to 30 layout
    search   0 answer (65536 none, 131072 + label exact, 196608 + label fuzzy, or the refusal)
-            1 index of refusal 10   2 hops   3 added   4 missing   5 the number of the record, from 0
+            1 index of refusal 10   2 hops   3 added   4 missing   5 the number of the record, from 0   6 whether it is generic
    line     0 answer (1 read, 13 refused)   1 offset   2 to 4 the record   20 to 30 layout
    hops     0 the hop distance that is reported for two TTLs of three bytes */
 #ifndef NUMBERS_H
@@ -31,7 +31,10 @@ void port_line(const uint8_t *s, size_t size, Numbers *out);
    Of a SYN or SYN+ACK the observation goes to observation, if that is not null. */
 void oracle_packet(const uint8_t *p, size_t size, uint16_t peer, int present, Numbers *out, uint8_t *observation);
 void oracle_options(const uint8_t *s, size_t size, Numbers *out);
-void oracle_search(const uint8_t *observation, const uint8_t *list, size_t size, Numbers *out);
+
+/* Gives what stands before the record that is found, and fits too: bits of Passed. */
+typedef enum { PASSED_GENERIC = 1, PASSED_FUZZY = 2 } Passed;
+int oracle_search(const uint8_t *observation, const uint8_t *list, size_t size, Numbers *out);
 
 void oracle_hops(const uint8_t ttls[6], Numbers *out);
 

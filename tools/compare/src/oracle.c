@@ -78,38 +78,55 @@ void oracle_options(const uint8_t *s, size_t size, Numbers *out) {
     layout_numbers(answer[6], answer + 7, answer + 47, out);
 }
 
-static void keep_fit(const uint8_t fit[14], unsigned label, size_t number, Numbers *out) {
-    if (fit[0] == 1) {
-        memset(out, 0, sizeof *out);
-        out->n[0] = 131072u + label;
-        out->n[5] = number;
-    } else if (fit[0] == 2 && out->n[0] == 65536) {
-        out->n[0] = 196608u + label;
-        out->n[2] = fit[1] ? 65536u + be32_at(fit + 2) : 0;
-        out->n[3] = be32_at(fit + 6);
-        out->n[4] = be32_at(fit + 10);
-        out->n[5] = number;
-    }
-}
+/* The first record of each sort that a search may answer with, and its fit; -1 if there is none. */
+enum { SPECIFIC, GENERIC, FUZZY, SORTS };
+typedef struct {
+    long at[SORTS];
+    uint8_t fits[SORTS][14];
+} Firsts;
 
-/* "the first exact record in list order; else the first fuzzy one, with its reason; else none", over single fits. */
-void oracle_search(const uint8_t *o, const uint8_t *list, size_t size, Numbers *out) {
-    size_t index, i;
-    int refused = o[14] > 40 ? 11 : table_list(list, size, &index);
-    memset(out, 0, sizeof *out);
-    if (refused) {
-        out->n[0] = (uint64_t)refused;
-        if (refused == 10) out->n[1] = index;
-        return;
-    }
-    out->n[0] = 65536;
-    for (i = 0; i < be16_at(list); i++) {
+/* Gives 1 if the original does not know a code. Of byte 21 it knows nothing. */
+static int find_firsts(const uint8_t *o, const uint8_t *list, Firsts *firsts) {
+    long i;
+    int sort;
+    for (sort = 0; sort < SORTS; sort++) firsts->at[sort] = -1;
+    for (i = 0; i < (long)be16_at(list); i++) {
         const uint8_t *record = list + be16_at(list + 2) + 24 * i;
         uint8_t fit[14];
-        if (original_fit(record, list + be16_at(list + 6) + 2 * be16_at(record + 18), o, fit)) out->n[0] = 99;
-        keep_fit(fit, be16_at(record + 22), i, out);
-        if (fit[0] == 1) return;
+        if (original_fit(record, list + be16_at(list + 6) + 2 * be16_at(record + 18), o, fit)) return 1;
+        sort = fit[0] == 2 ? FUZZY : record[21] ? GENERIC : SPECIFIC;
+        if (fit[0] == 0 || firsts->at[sort] >= 0) continue;
+        firsts->at[sort] = i;
+        memcpy(firsts->fits[sort], fit, sizeof fit);
     }
+    return 0;
+}
+
+static void found_numbers(int sort, const uint8_t fit[14], const uint8_t *record, Numbers *out) {
+    out->n[0] = (sort == FUZZY ? 196608u : 131072u) + be16_at(record + 22);
+    out->n[6] = record[21];
+    if (sort != FUZZY) return;
+    out->n[2] = fit[1] ? 65536u + be32_at(fit + 2) : 0;
+    out->n[3] = be32_at(fit + 6);
+    out->n[4] = be32_at(fit + 10);
+}
+
+/* "first specific exact, else first generic exact, else first fuzzy of either kind", else none, over single fits. */
+int oracle_search(const uint8_t *o, const uint8_t *list, size_t size, Numbers *out) {
+    size_t index;
+    Firsts firsts;
+    int sort, refused = o[14] > 40 ? 11 : table_list(list, size, &index);
+    memset(out, 0, sizeof *out);
+    if (refused == 10) out->n[1] = index;
+    out->n[0] = refused ? (unsigned)refused : 65536;
+    if (refused) return 0;
+    if (find_firsts(o, list, &firsts)) return out->n[0] = 99, 0;
+    for (sort = 0; sort < SORTS && firsts.at[sort] < 0; sort++) {}
+    if (sort == SORTS) return 0;
+    out->n[5] = (uint64_t)firsts.at[sort];
+    found_numbers(sort, firsts.fits[sort], list + be16_at(list + 2) + 24 * firsts.at[sort], out);
+    return (sort < GENERIC && firsts.at[GENERIC] >= 0 && firsts.at[GENERIC] < firsts.at[sort] ? PASSED_GENERIC : 0) |
+           (sort < FUZZY && firsts.at[FUZZY] >= 0 && firsts.at[FUZZY] < firsts.at[sort] ? PASSED_FUZZY : 0);
 }
 
 void oracle_hops(const uint8_t ttls[6], Numbers *out) {

@@ -72,6 +72,7 @@ void port_search(const uint8_t *observation, const uint8_t *list, size_t size, N
     out->n[3] = read.added;
     out->n[4] = read.missing;
     out->n[5] = read.number;
+    out->n[6] = read.generic;
 }
 
 void port_hops(const uint8_t ttls[6], Numbers *out) {

@@ -5,8 +5,8 @@
 
 static const char *const answer_names[ANSWERS] = {
     "SYN", "SYN+ACK", "nothing", "refused 1", "refused 2", "refused 3", "refused 4", "refused 5", "refused 6", "refused 7",
-    "parsed", "malformed", "refused 8", "exact", "fuzzy", "none", "refused 9", "refused 10", "refused 11", "pairs", "hops",
-    "line", "refused 13",
+    "parsed", "malformed", "refused 8", "specific exact", "generic exact", "fuzzy", "none", "refused 9", "refused 10", "refused 11",
+    "pairs", "hops", "line", "refused 13",
 };
 
 static const char *const class_names[LINE_CLASSES] = {
@@ -118,6 +118,8 @@ static void report_counts(void) {
     row("TTL forms Value, Distance, Guess, Bad", counts.ttl_forms, 4);
     row("no multiplier, then by divisor 1 to 12", counts.divisors, 13);
     row("fuzzy with hops, added ecn, added id-, missing df, missing id+", counts.reasons, 5);
+    row("fuzzy by a specific record, by a generic one", counts.fuzzy_kinds, 2);
+    row("specific exact behind a generic exact one, behind a fuzzy one; generic exact behind a fuzzy one", counts.passed, 3);
 }
 
 uint64_t report(void) {

@@ -108,9 +108,10 @@ static void write_search_answer(const Numbers *answer) {
 static void offer_search(const uint8_t *o, const uint8_t *list, size_t size, int place) {
     Numbers answer;
     witness_observation w = observation_of(o);
+    int passed;
     if (size > INPUT - OBSERVATION) return;
-    oracle_search(o, list, size, &answer);
-    if (!new_search(o, list, &answer, place)) return;
+    passed = oracle_search(o, list, size, &answer);
+    if (!new_search(o, list, &answer, passed, place)) return;
     fputs("search.in ", stdout);
     write_observation(&w);
     fputs(" | ", stdout);
@@ -172,6 +173,10 @@ static void searches(void) {
         }
         if (chance(&r, 3)) size = below(&r, (uint32_t)size + 1), place = -2;
         offer_search(o, list, size, place);
+    }
+    for (i = 0; i < rows(3); i++) {
+        size = row(i, o, list);
+        if (i < rows(2) || row_fits(i)) offer_search(o, list, size, -3);
     }
 }
 

@@ -74,6 +74,7 @@ static void every_ttl(void) {
                     o[1] = 0, o[2] = (uint8_t)seen, o[3] = 0;
                     record[1] = (uint8_t)form, record[2] = (uint8_t)declared;
                     record[3] = distance == 2 ? 100 : (uint8_t)distance;
+                    record[21] = declared % 2;
                     try_search(o, list, size);
                 }
 }
@@ -104,14 +105,61 @@ static void at_boundaries(void) {
     }
 }
 
+static void every_row(void) {
+    uint8_t o[OBSERVATION], list[LIST_MOST];
+    int i;
+    family("every row of up to 6 records: exact, fuzzy or none, specific or generic", SEARCH);
+    for (i = 0; i < rows(ROW_MOST); i++) {
+        size_t size = row(i, o, list);
+        try_search(o, list, size);
+    }
+}
+
+/* Records many of which fit exactly, as many generic as specific. */
+static void mixed_kinds(unsigned times) {
+    uint8_t o[OBSERVATION], list[LIST_MOST];
+    Random r = {12};
+    unsigned i, j;
+    family("2 to 8 records, each changed once or not, half of them generic", SEARCH);
+    for (i = 0; i < times; i++) {
+        unsigned records = 2 + below(&r, 7);
+        size_t size;
+        if (i % 4 == 0) chance(&r, 50) ? invent(&r, o) : observe(&r, o);
+        size = make_list(&r, o, records, 1, list);
+        for (j = 0; j < records; j++) list[be16_at(list + 2) + RECORD * j + 21] = (uint8_t)chance(&r, 50);
+        try_search(o, list, size);
+    }
+}
+
+static void every_kind(unsigned lists) {
+    uint8_t o[OBSERVATION], list[LIST_MOST];
+    Random r = {13};
+    unsigned i, j, value, records;
+    family("every value of byte 21 of each record, of lists of 1 to 4 records", SEARCH);
+    for (i = 0; i < lists; i++) {
+        size_t size;
+        observe(&r, o);
+        records = 1 + i % 4;
+        size = make_list(&r, o, records, 1, list);
+        for (j = 0; j < records; j++) {
+            uint8_t *kind = list + be16_at(list + 2) + RECORD * j + 21, kept = *kind;
+            for (value = 0; value < 256; value++) *kind = (uint8_t)value, try_search(o, list, size);
+            *kind = kept;
+        }
+    }
+}
+
 void search_families(unsigned share) {
     at_boundaries();
+    every_row();
     derived("one record derived from a packet's observation, up to 3 changes", 1500000 / share, 4, 1, 3, 0);
     derived("2 records, derived and changed", 300000 / share, 5, 2, 3, 0);
     derived("0 to 11 records, derived and changed", 600000 / share, 6, 0, 4, 0);
     derived("observations that no packet gives, 0 to 11 records derived and changed", 1000000 / share, 7, 0, 3, 1);
+    mixed_kinds(1000000 / share);
     damaged(500000 / share);
     every_byte(share > 12 ? 1 : 12 / share);
+    every_kind(share > 50 ? 8 : 400 / share);
     every_ttl();
     every_hops();
 }

@@ -60,7 +60,7 @@ static int bad_scalars(const uint8_t *r) {
     if (r[5] > 1 || (r[5] == 0 && be16_at(r + 6) != 0)) return 1;
     if (r[8] > 4 || (r[8] == 0 && window != 0) || (r[8] >= 3 && window > 255)) return 1;
     if (r[11] > 1 || (r[11] == 0 && r[12] != 0)) return 1;
-    if (r[13] > 2 || r[21] != 0) return 1;
+    if (r[13] > 2 || r[21] > 1) return 1;
     return (be32_at(r + 14) & ~UINT32_C(0x1F03F03F)) != 0;
 }
 

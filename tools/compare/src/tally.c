@@ -20,11 +20,11 @@ static Family *tried(void) { return &counts.families[counts.used - 1]; }
 
 static int answer_of(Kind kind, const Numbers *a) {
     uint64_t n = a->n[0];
-    if (kind == PAIR) return 19;
-    if (kind == HOPS) return 20;
-    if (kind == LINE) return n == 13 ? 22 : 21;
+    if (kind == PAIR) return 20;
+    if (kind == HOPS) return 21;
+    if (kind == LINE) return n == 13 ? 23 : 22;
     if (kind == OPTIONS) return n == 8 ? 12 : a->n[1] ? 11 : 10;
-    if (kind == SEARCH) return n >= 196608 ? 14 : n >= 131072 ? 13 : n == 65536 ? 15 : (int)n + 7;
+    if (kind == SEARCH) return n >= 196608 ? 15 : n >= 131072 ? 13 + (int)a->n[6] : n == 65536 ? 16 : (int)n + 8;
     return n < 256 ? (int)n - 1 : (int)(n / 256) + 2;
 }
 
@@ -106,18 +106,25 @@ void try_options(const uint8_t *s, size_t size) {
     settle(OPTIONS, s, size, &port, &original);
 }
 
+static void count_found(const Numbers *found, int passed) {
+    counts.passed[0] += found->n[6] == 0 && passed & PASSED_GENERIC;
+    counts.passed[1] += found->n[6] == 0 && passed & PASSED_FUZZY;
+    counts.passed[2] += found->n[6] == 1 && passed & PASSED_FUZZY;
+    if (found->n[0] < 196608) return;
+    counts.fuzzy_kinds[found->n[6]]++;
+    counts.reasons[0] += found->n[2] != 0;
+    counts.reasons[1] += found->n[3] & 1;
+    counts.reasons[2] += found->n[3] >> 3 & 1;
+    counts.reasons[3] += found->n[4] >> 1 & 1;
+    counts.reasons[4] += found->n[4] >> 2 & 1;
+}
+
 Numbers try_search(const uint8_t *o, const uint8_t *list, size_t size) {
     Numbers port, original;
     uint8_t input[MOST];
-    oracle_search(o, list, size, &original);
+    int passed = oracle_search(o, list, size, &original);
+    count_found(&original, passed);
     port_search(o, list, size, &port);
-    if (original.n[0] >= 196608) {
-        counts.reasons[0] += original.n[2] != 0;
-        counts.reasons[1] += original.n[3] & 1;
-        counts.reasons[2] += original.n[3] >> 3 & 1;
-        counts.reasons[3] += original.n[4] >> 1 & 1;
-        counts.reasons[4] += original.n[4] >> 2 & 1;
-    }
     if (size > MOST - OBSERVATION) size = MOST - OBSERVATION;
     memcpy(input, o, OBSERVATION);
     memcpy(input + OBSERVATION, list, size);

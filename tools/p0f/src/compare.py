@@ -60,6 +60,8 @@ class Run:
             self.examples.append((case, packet, ours, theirs))
             if case.rule not in needed[0] | needed[1]:
                 self.unexplained.append(("example", case.rule, packet.hex(), needed))
+        if case.agreed and not ours.answer == theirs.answer == case.agreed:
+            self.unexplained.append(("agreed", case.agreed, packet.hex(), ours, theirs))
 
     def check(self, case, packet, ours, theirs):
         """Without a rule of p0f's the model must say what the port says, with all of them what p0f says."""
@@ -125,7 +127,7 @@ def main():
     table.print_versions(p0f, database)
     shipped = Run("p0f.fp", lines, [c for line in lines for c in cases_for(line)] + probes.random_cases(lines, 20000))
     made = [c for line in owned for c in cases_for(line)]
-    ours = Run("own.fp", owned, examples.examples() + made + probes.probes() + probes.random_cases(owned, 10000))
+    ours = Run("own.fp", owned, examples.examples() + examples.agreed(owned) + made + probes.probes() + probes.random_cases(owned, 10000))
     said = ask_p0f(p0f, shipped, folder)
     same_names(shipped, said, p0f_says(p0f, database, folder, "named", shipped.numbered))
     wrong = [shipped.compare(ask_port(port, shipped, folder), said)]

@@ -1,4 +1,5 @@
-"""The smallest inputs of docs/DIFFERENCES.md: document 01's packet A, changed in one thing for each rule of rules.py."""
+"""The smallest inputs of docs/DIFFERENCES.md: document 01's packet A, changed in one thing for each rule of rules.py. Packets that both
+must answer alike."""
 
 from dataclasses import replace
 
@@ -43,7 +44,19 @@ def examples():
         example("not read", replace(A, offset=4)),
         example("not read", replace(A, offset=7)),
         example("not read", replace(A, total=45)),
-        example("generic last", replace(A, ident=1)),
         example("tool", optioned("020405b40101080a000000010000000063040000", window=4321)),
         example("any version", optioned("020405b401010101", version=6)),
     ]
+
+
+def agreed(lines):
+    """Packets that show in which order specific, generic and fuzzy lines of own.fp answer, each with what both must say."""
+    number = {line.text: line.number for line in lines if line.request}
+    plain, other = replace(A, ident=1), optioned("020403e842040000", ident=1, window=4000)
+    return [Case("agreed", fields, agreed=(fit, number[text])) for fit, text, fields in (
+        ("exact", "*:64:0:*:5840,*:mss:df,id+:0", plain),
+        ("exact", "*:64:0:*:*,*:mss:df,id+:0", replace(plain, window=5841)),
+        ("fuzzy", "*:64:0:*:*,*:mss:df,id+:0", replace(plain, ttl=65)),
+        ("exact", "*:64:0:*:*,*:mss,?66:df,id+:0", other),
+        ("exact", "*:64:0:*:5840,*:mss,?66:df,id+:0", replace(other, window=5840)),
+    )]

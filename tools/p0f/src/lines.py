@@ -114,11 +114,11 @@ def record_of(line, first):
     return struct.pack(
         ">BBBBBBHBHBBBIHBBH", line.version, line.ttl_form, line.ttl, line.hops, line.olen, line.mss is not None, line.mss or 0,
         line.window_form, line.window, line.scale is not None, line.scale or 0, line.payload, line.quirks, first,
-        len(line.layout), 0, line.number)
+        len(line.layout), line.generic, line.number)
 
 
 def list_of(lines):
-    """Document 01's list: the records in order, each line's number as its label."""
+    """Document 01's list: the records in order, each line's number as its label, its kind (1 for a label of g) as byte 21."""
     records = entries = b""
     for line in lines:
         records += record_of(line, len(entries) // 2)

@@ -34,12 +34,13 @@ class Fields:
 @dataclass(frozen=True)
 class Case:
     """A packet of a family, the line it was made for, the rule it is an example of (if any); the peer's MSS of a SYN+ACK, which the
-    SYN before it carries (0: none)."""
+    SYN before it carries (0: none); the answer that p0f and the port must both give (if any)."""
     family: str
     fields: Fields
     line: int = 0
     peer: int = 0
     rule: str = ""
+    agreed: tuple | None = None
 
     @property
     def syn(self):

@@ -13,8 +13,9 @@ def asked(program, texts):
 
 
 def said(line):
+    """What a reader of the text alone gives: a line has neither number nor kind."""
     entries = "".join(f"{kind:02x}{left:02x}" for kind, left in line.layout)
-    return f"0 {record_of(replace(line, number=0), 0).hex()} {entries}".strip()
+    return f"0 {record_of(replace(line, number=0, generic=False), 0).hex()} {entries}".strip()
 
 
 def print_parsed(who, program, name, lines):

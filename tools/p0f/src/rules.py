@@ -19,7 +19,6 @@ READING = {
     "not read": "a data offset under 5 or past the end, an IP length past the end: no answer",
 }
 SEARCH = {
-    "generic last": "a generic line comes after all others that fit exactly",
     "tool": "a line of class ! never fits fuzzily, and hides a later fuzzy line",
     "any version": "the version of a line is not compared",
 }

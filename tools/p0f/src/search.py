@@ -1,4 +1,5 @@
-"""The search of a list for an observation: by document 01's rules, and by p0f's where a rule of rules.py is named."""
+"""The search of a list for an observation: by document 01's rules and document 02's Wish 3, and by p0f's where a rule of rules.py is
+named."""
 
 from collections import defaultdict
 
@@ -53,13 +54,13 @@ def fit(line, o, rules):
 
 
 def search(index, syn, o, rules):
-    """The answer and the number of its line."""
+    """The answer and the number of its line: the first specific exact one, else the first generic exact one, else the first fuzzy one."""
     fuzzy = generic = None
     for line in index.get((syn, o.layout), ()):
         found = fit(line, o, rules)
+        if found == EXACT and not line.generic:
+            return EXACT, line.number
         if found == EXACT:
-            if not line.generic or "generic last" not in rules:
-                return EXACT, line.number
             generic = generic or line
         elif found == FUZZY:
             fuzzy = fuzzy or line

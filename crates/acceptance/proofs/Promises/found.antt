@@ -11,5 +11,4 @@ promises =
       is-none-one = λ fit. answered tt (unique.is-none-one fit) (λ m. m) refl;
       found-of-one = λ hit fit. answered tt (unique.found-of-one hit fit) (λ m. m) refl;
       rank-of-one = λ found. answered tt (unique.rank-of-one found) (λ m. m) refl;
-      prefer-found-one = λ held other. answered tt (unique.prefer-found-one held other) (λ m. m) refl;
     }

@@ -18,6 +18,7 @@ promises =
       first-entry-one = λ κs raw. answered tt (unique.first-entry-one κs raw) (λ m. m) refl;
       entry-count-one = λ κs raw. answered tt (unique.entry-count-one κs raw) (λ m. m) refl;
       label-of-one = λ κs raw. answered tt (unique.label-of-one κs raw) (λ m. m) refl;
+      is-generic-one = λ κs raw. answered tt (unique.is-generic-one κs raw) (λ m. m) refl;
       scalars-well-formed-one = λ κs raw. answered tt (unique.scalars-well-formed-one κs raw) (λ m. m) refl;
       entry-good-one = λ kind byte. answered tt (unique.entry-good-one kind byte) (λ m. m) refl;
       entries-good-one = λ κs entries. answered tt (unique.entries-good-one κs entries) (λ m. m) refl;

@@ -3,11 +3,9 @@
 use Rattle.matching.specs.declared.SignatureFit.{SignatureFit}
 use Rattle.found.specs.declared.Found.{Found}
 use Rattle.found.specs.declared.Hit.{Hit}
-use Rattle.found.specs.Least.{prefer}
 use Rattle.found.specs.Rank.{foundOf, isNone, rankOf}
 use Rattle.found.proofs.found_of as found-of'
 use Rattle.found.proofs.is_none as is-none'
-use Rattle.found.proofs.prefer_found as prefer-found'
 use Rattle.found.proofs.rank_of as rank-of'
 use Rattle.acceptance.specs.Promised.{Answers}
 
@@ -21,7 +19,3 @@ pub record Promises : Type 0 where
   pub rank-of-one
       : (found : Found)
       → Answers rank-of'.signature tt (rank-of'.Reads.Pre tt) (rank-of'.Reads.Post tt) (found, tt) (rankOf found)
-  pub prefer-found-one
-      : (held other : Found)
-      → Answers prefer-found'.signature tt (prefer-found'.Reads.Pre tt) (prefer-found'.Reads.Post tt)
-      (held, (other, tt)) (prefer rankOf held other)

@@ -6,12 +6,13 @@ use lib.ListN.{length}
 use contract.Lifetimes.{Lfts}
 use denote.Ref.{RefT, now}
 use Rattle.sigrecord.specs.Layout.{entriesGood, entryGood}
-use Rattle.sigrecord.specs.Record.{entryCount, firstEntry, labelOf, signatureOf}
+use Rattle.sigrecord.specs.Record.{entryCount, firstEntry, isGeneric, labelOf, signatureOf}
 use Rattle.sigrecord.specs.WellFormed.{scalarsWellFormed}
 use Rattle.sigrecord.proofs.entries_good as entries-good'
 use Rattle.sigrecord.proofs.entry_count as entry-count'
 use Rattle.sigrecord.proofs.entry_good as entry-good'
 use Rattle.sigrecord.proofs.first_entry as first-entry'
+use Rattle.sigrecord.proofs.is_generic as is-generic'
 use Rattle.sigrecord.proofs.label_of as label-of'
 use Rattle.sigrecord.proofs.mss_of as mss-of'
 use Rattle.sigrecord.proofs.quirks_of as quirks-of'
@@ -54,6 +55,9 @@ pub record Promises : Type 0 where
   pub label-of-one
       : (κs : Lfts 1) (raw : RefT (List ℕ))
       → Answers label-of'.signature κs (label-of'.Reads.Pre κs) (label-of'.Reads.Post κs) (raw, tt) (labelOf (now raw))
+  pub is-generic-one
+      : (κs : Lfts 1) (raw : RefT (List ℕ))
+      → Answers is-generic'.signature κs (is-generic'.Reads.Pre κs) (is-generic'.Reads.Post κs) (raw, tt) (isGeneric (now raw))
   pub scalars-well-formed-one
       : (κs : Lfts 1) (raw : RefT (List ℕ))
       → Answers scalars-well-formed'.signature κs (scalars-well-formed'.Reads.Pre κs) (scalars-well-formed'.Reads.Post κs)
