@@ -44,6 +44,9 @@ pub struct TermreadResult {
 
 // ---- the fields
 
+// The bit of `marks` that says that the record is generic.
+const GENERIC: u8 = 4;
+
 fn plain(outcome: u8, kind: u8, label: u16, number: u16, marks: u8) -> TermreadResult
     ensures { λ r. ⌜ r ≡ plain outcome kind label number marks ⌝ }
 {
@@ -95,7 +98,7 @@ fn generic_mark(generic: bool) -> u8
     ensures { λ r. ⌜ r ≡ genericMark generic ⌝ }
 {
     if generic {
-        return 4;
+        return GENERIC;
     }
     0
 }
@@ -131,6 +134,7 @@ fn fuzzy(kind: u8, hit: Hit, reason: FuzzyReason) -> TermreadResult
     }
 }
 
+// A generic exact record leaves by a way of its own, so that on both ways the mark is a constant.
 fn found_parts(kind: u8, found: Found) -> TermreadResult
     ensures { λ r. ⌜ r ≡ foundParts kind found ⌝ }
 {
@@ -138,7 +142,7 @@ fn found_parts(kind: u8, found: Found) -> TermreadResult
         Found::None => plain(3, kind, 0, 0, 0),
         Found::Exact(hit) => {
             if hit.generic {
-                return plain(1, kind, hit.label, hit.number, 4);
+                return plain(1, kind, hit.label, hit.number, GENERIC);
             }
             plain(1, kind, hit.label, hit.number, 0)
         }
