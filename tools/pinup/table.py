@@ -1,0 +1,66 @@
+"""The table of all TTL bytes, read from the constants that the program carries (crates/ttl/src)."""
+import os
+import re
+
+ROOT = os.path.dirname(os.path.dirname(os.path.dirname(os.path.abspath(__file__))))
+SOURCES = os.path.join(ROOT, "crates", "ttl", "src")
+VALUE, DISTANCE, BAD = 0, 1, 3
+
+
+class Unfit(Exception):
+    """Of a table that the page cannot show as it is."""
+
+
+def constant(file, name):
+    """The entries of a constant: a line each, with the byte that it is for behind it."""
+    with open(os.path.join(SOURCES, file), encoding="utf-8") as source:
+        found = re.findall(rf"^pub\(crate\) const {name}: \[u8; 256\] = \[\n(.*?)^\];$", source.read(), re.M | re.S)
+    if len(found) != 1:
+        raise Unfit(f"{file} has not one constant {name} of 256 entries")
+    rows = [re.fullmatch(r"    (\d+), // (\d+)", line) for line in found[0].split("\n")[:-1]]
+    if len(rows) != 256 or any(not row or int(row[2]) != byte for byte, row in enumerate(rows)):
+        raise Unfit(f"{file}: the entries are not `CODE, // BYTE` from 0 to 255")
+    return [int(row[1]) for row in rows]
+
+
+class Entry:
+    """What a byte is taken for."""
+
+    def __init__(self, byte, code, guess):
+        self.byte, self.code, self.guess = byte, code, guess
+        self.start = byte + guess
+
+    def said(self):
+        words = {VALUE: "Value", DISTANCE: f"Distance, {self.guess} hops from {self.start}", BAD: "Bad"}
+        return f"{self.byte}: {words[self.code]}"
+
+
+def table():
+    codes, guesses = constant("class_table.rt", "CLASS_TABLE"), constant("guess_table.rt", "GUESS_TABLE")
+    entries = [Entry(byte, code, guess) for byte, (code, guess) in enumerate(zip(codes, guesses))]
+    for entry in entries:
+        if entry.code not in (VALUE, DISTANCE, BAD):
+            raise Unfit(f"byte {entry.byte} has the class {entry.code}, which has no name on the page")
+    return entries
+
+
+class Rule:
+    """The numbers of the rule, as the table has them. What the page says of them in words is held to every entry."""
+
+    def __init__(self, entries):
+        self.starts = sorted({entry.start for entry in entries})
+        self.most = max(entry.guess for entry in entries if entry.code == DISTANCE)
+        for entry in entries:
+            start = min((start for start in self.starts if start >= entry.byte), default=None)
+            code = BAD if entry.byte == 0 else DISTANCE if entry.guess <= self.most else VALUE
+            if (entry.start, entry.code) != (start, code):
+                raise Unfit(f"the page's two sentences are not true of byte {entry.byte}")
+
+    def sentences(self):
+        *before, last = (str(start) for start in self.starts)
+        starts = f"{', '.join(before)} and {last}"
+        return [
+            f"A packet is taken to have started with the least of {starts} that its TTL byte does not exceed, "
+            "and its hops are what the byte lacks to that start.",
+            f"Up to {self.most} hops make a Distance, more make a Value, and byte 0 is Bad.",
+        ]
