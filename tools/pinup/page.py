@@ -3,7 +3,7 @@ from pinup.shapes import Box, Group, Text
 from pinup.table import BAD, DISTANCE, VALUE, Unfit
 
 TITLE = "What a TTL byte is taken for"
-MADE = "Made by tools/ttl_page from the table that the program carries, crates/ttl/src."
+MADE = "Made by tools/ttl_page from the table that the program carries, crates/ttl/src/table.rt."
 LEFT, RIGHT, BOTTOM = 8, 203, 288
 COLUMNS = 16
 CELLS = 25.8  # where the cells begin; the start stands left of them

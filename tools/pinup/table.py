@@ -3,7 +3,8 @@ import os
 import re
 
 ROOT = os.path.dirname(os.path.dirname(os.path.dirname(os.path.abspath(__file__))))
-SOURCES = os.path.join(ROOT, "crates", "ttl", "src")
+SOURCE = "crates/ttl/src/table.rt"
+WIDTH = 8  # of a row
 VALUE, DISTANCE, BAD = 0, 1, 3
 
 
@@ -11,16 +12,15 @@ class Unfit(Exception):
     """Of a table that the page cannot show as it is."""
 
 
-def constant(file, name):
-    """The entries of a constant: a line each, with the byte that it is for behind it."""
-    with open(os.path.join(SOURCES, file), encoding="utf-8") as source:
-        found = re.findall(rf"^pub\(crate\) const {name}: \[u8; 256\] = \[\n(.*?)^\];$", source.read(), re.M | re.S)
+def constant(text, name):
+    """The entries of a constant: a row of eight a line, with the byte that it begins with behind it."""
+    found = re.findall(rf"^pub\(crate\) const {name}: \[\[u8; 8\]; 32\] = \[\n(.*?)^\];$", text, re.M | re.S)
     if len(found) != 1:
-        raise Unfit(f"{file} has not one constant {name} of 256 entries")
-    rows = [re.fullmatch(r"    (\d+), // (\d+)", line) for line in found[0].split("\n")[:-1]]
-    if len(rows) != 256 or any(not row or int(row[2]) != byte for byte, row in enumerate(rows)):
-        raise Unfit(f"{file}: the entries are not `CODE, // BYTE` from 0 to 255")
-    return [int(row[1]) for row in rows]
+        raise Unfit(f"{SOURCE} has not one constant {name} of 32 rows of eight")
+    rows = [re.fullmatch(r"    \[((?:\d+, ){7}\d+)\], // (\d+)", line) for line in found[0].split("\n")[:-1]]
+    if len(rows) != 32 or any(not row or int(row[2]) != WIDTH * place for place, row in enumerate(rows)):
+        raise Unfit(f"{SOURCE}: the rows of {name} are not `[..], // BYTE`, eight entries each, from byte 0 on")
+    return [int(entry) for row in rows for entry in row[1].split(", ")]
 
 
 class Entry:
@@ -36,7 +36,9 @@ class Entry:
 
 
 def table():
-    codes, guesses = constant("class_table.rt", "CLASS_TABLE"), constant("guess_table.rt", "GUESS_TABLE")
+    with open(os.path.join(ROOT, SOURCE), encoding="utf-8") as source:
+        text = source.read()
+    codes, guesses = constant(text, "CLASSES"), constant(text, "GUESSES")
     entries = [Entry(byte, code, guess) for byte, (code, guess) in enumerate(zip(codes, guesses))]
     for entry in entries:
         if entry.code not in (VALUE, DISTANCE, BAD):

@@ -1,3 +1,3 @@
 pub mod Laws
-pub mod Table
+pub mod TableLaws
 pub mod Unique

@@ -1,12 +1,13 @@
 // ttl.rs: what the TTL byte of a packet is taken for.
 ghost use mathlib.Core.Path.{_≡_};
-ghost use Rattle.ttl.specs.Table.{classOf, eachByte};
+ghost use Rattle.ttl.specs.Table.{classOf, eachByte, entryOf};
 ghost use Rattle.ttl.specs.Ttl.{byteOf, guessOf, maxDist, readingOf};
-use class_table::CLASS_TABLE;
-use guess_table::GUESS_TABLE;
+use rows::table_row;
+use table::CLASSES;
+use table::GUESSES;
 
-mod class_table;
-mod guess_table;
+mod rows;
+mod table;
 
 // One of four forms of a TTL reading.
 pub enum Ttl {
@@ -20,10 +21,12 @@ pub enum Ttl {
     Bad(u8),
 }
 
-// The classes of the table that are not Bad.
-const VALUE: u8 = 0;
-
-const DISTANCE: u8 = 1;
+// What the table holds of a TTL byte: what it is taken for, by the codes of a record's TTL form (0 Value, 1 Distance, 3 Bad), and its
+// guess, which only a Distance claims.
+pub struct TtlEntry {
+    pub class: u8,
+    pub guess: u8,
+}
 
 // The most hops that are still plausible (p0f's MAX_DIST).
 pub const MAX_DIST: u8 = 35;
@@ -47,46 +50,51 @@ pub fn observed_ttl(ttl: Ttl) -> u8
     }
 }
 
-// What each TTL byte is taken for, and the guess of each: the table of document 02's Wish 4. These promises hold the two constants to the
-// rule, at every byte.
-pub fn ttl_classes() -> [u8; 256]
+// The table whole: its promises hold the two constants to the rule, at every byte.
+pub fn ttl_classes() -> [[u8; 8]; 32]
     ensures { λ r. ⌜ r ≡ eachByte classOf ⌝ }
 {
-    CLASS_TABLE
+    CLASSES
 }
 
-pub fn ttl_guesses() -> [u8; 256]
+pub fn ttl_guesses() -> [[u8; 8]; 32]
     ensures { λ r. ⌜ r ≡ eachByte guessOf ⌝ }
 {
-    GUESS_TABLE
+    GUESSES
 }
 
-// The form of a TTL byte's reading, by the codes of a record.
-pub fn class_of(ttl: u8) -> u8
-    ensures { λ r. ⌜ r ≡ classOf ttl ⌝ }
+// The entry of a TTL byte in the table.
+pub fn ttl_entry(ttl: u8) -> TtlEntry
+    ensures { λ r. ⌜ r ≡ entryOf ttl ⌝ }
 {
-    let classes = ttl_classes();
-    classes[ttl as usize]
+    let row = table_row(ttl / 8);
+    let at = (ttl % 8) as usize;
+    let classes = row.classes;
+    let guesses = row.guesses;
+    TtlEntry {
+        class: classes[at],
+        guess: guesses[at],
+    }
 }
 
 // The hops from the next usual initial TTL.
 pub fn guess_distance(ttl: u8) -> u8
     ensures { λ r. ⌜ r ≡ guessOf ttl ⌝ }
 {
-    let guesses = ttl_guesses();
-    guesses[ttl as usize]
+    let entry = ttl_entry(ttl);
+    entry.guess
 }
 
-// The reading of a TTL byte.
+// The reading of a TTL byte, by its class in the codes of a record. The codes are four: that the remainder says so makes a reading without
+// a branch.
 pub fn calculate_ttl(ttl_observed: u8) -> Ttl
     ensures { λ r. ⌜ r ≡ readingOf «ttl_observed» ⌝ }
 {
-    let class = class_of(ttl_observed);
-    if class == DISTANCE {
-        return Ttl::Distance(ttl_observed, guess_distance(ttl_observed));
+    let entry = ttl_entry(ttl_observed);
+    match entry.class % 4 {
+        0 => Ttl::Value(ttl_observed),
+        1 => Ttl::Distance(ttl_observed, entry.guess),
+        2 => Ttl::Guess(ttl_observed),
+        _ => Ttl::Bad(ttl_observed),
     }
-    if class == VALUE {
-        return Ttl::Value(ttl_observed);
-    }
-    Ttl::Bad(ttl_observed)
 }

@@ -15,8 +15,8 @@ use Rattle.tcp.specs.declared.PayloadSize.{PayloadSize}
 use Rattle.tcp.specs.declared.PayloadSize.the-variants as payload
 use Rattle.ttl.specs.declared.Ttl.{Ttl}
 use Rattle.ttl.specs.declared.Ttl.the-variants as ttl
-use Rattle.ttl.specs.Table.{formOf, classOf}
-use Rattle.ttl.specs.Ttl.{byteOf, guessOf}
+use Rattle.ttl.specs.Table.{formOf, entryOf}
+use Rattle.ttl.specs.Ttl.{byteOf}
 use Rattle.window_size.specs.declared.Multiplier.{Multiplier}
 use Rattle.window_size.specs.declared.Multiplier.the-variants as multiplier
 use Rattle.observable.specs.declared.TcpObservation.{TcpObservation}
@@ -116,7 +116,7 @@ plainObservation o m =
 -- ---- a TTL byte's entry in the table
 
 unfoldable pub ttlRead : ℕ → PlainTtl
-ttlRead t = record { class = classOf t; guess = guessOf t }
+ttlRead t = record { class = entryOf t .class; guess = entryOf t .guess }
 
 -- ---- a packet
 

@@ -10,8 +10,7 @@ use report::PAGE;
 use searched::plain_search;
 use taken::observation_of;
 use taken::ttl_of;
-use ttl::class_of;
-use ttl::guess_distance;
+use ttl::ttl_entry;
 use written::plain_options;
 use written::plain_packet;
 
@@ -141,9 +140,10 @@ pub extern "C" fn witness_search(observation: PlainObservation, list: &[u8]) -> 
 pub extern "C" fn witness_ttl(ttl: u8) -> PlainTtl
     ensures { λ r. ⌜ r ≡ ttlRead ttl ⌝ }
 {
+    let entry = ttl_entry(ttl);
     PlainTtl {
-        class: class_of(ttl),
-        guess: guess_distance(ttl),
+        class: entry.class,
+        guess: entry.guess,
     }
 }
 

@@ -6,7 +6,7 @@ use Rattle.witness.proofs.witness_ttl.Tie as tie
 
 returns : tie.Need-returns
 unfolding ttlRead
-returns c = cc
+returns c = rw (c .ttl-entry .ensures)
 
 pub witness-ttl-spec : {M : Type 1} → statement M
-witness-ttl-spec = tie.close (tie.spec (λ c κs. search needs) (λ c κs. search needs) returns)
+witness-ttl-spec = tie.close (tie.spec (λ c κs. search needs) returns)

@@ -1,0 +1,61 @@
+// A row of the table. The compiler lays a constant that is indexed by a variable out on the stack, at every call; a `match` on the row's
+// number, each arm with a row of its own, it makes a table in read-only memory, which costs no more than comparing the TTL did
+// (docs/DECISIONS.md, 83).
+ghost use mathlib.Core.Path.{_≡_};
+ghost use Prim.Native.Nat.{_<_};
+ghost use Rattle.ttl.specs.Table.{bothRows};
+use crate::ttl_classes;
+use crate::ttl_guesses;
+
+pub(crate) struct TtlRow {
+    pub(crate) classes: [u8; 8],
+    pub(crate) guesses: [u8; 8],
+}
+
+fn both(classes: [u8; 8], guesses: [u8; 8]) -> TtlRow
+    ensures { λ r. ⌜ r ≡ record { classes = classes; guesses = guesses } ⌝ }
+{
+    TtlRow { classes, guesses }
+}
+
+pub(crate) fn table_row(row: u8) -> TtlRow
+    requires { ⌜ row < 32 ⌝ }
+    ensures { λ r. ⌜ r ≡ bothRows row ⌝ }
+{
+    let classes = ttl_classes();
+    let guesses = ttl_guesses();
+    match row {
+        0 => both(classes[0], guesses[0]),
+        1 => both(classes[1], guesses[1]),
+        2 => both(classes[2], guesses[2]),
+        3 => both(classes[3], guesses[3]),
+        4 => both(classes[4], guesses[4]),
+        5 => both(classes[5], guesses[5]),
+        6 => both(classes[6], guesses[6]),
+        7 => both(classes[7], guesses[7]),
+        8 => both(classes[8], guesses[8]),
+        9 => both(classes[9], guesses[9]),
+        10 => both(classes[10], guesses[10]),
+        11 => both(classes[11], guesses[11]),
+        12 => both(classes[12], guesses[12]),
+        13 => both(classes[13], guesses[13]),
+        14 => both(classes[14], guesses[14]),
+        15 => both(classes[15], guesses[15]),
+        16 => both(classes[16], guesses[16]),
+        17 => both(classes[17], guesses[17]),
+        18 => both(classes[18], guesses[18]),
+        19 => both(classes[19], guesses[19]),
+        20 => both(classes[20], guesses[20]),
+        21 => both(classes[21], guesses[21]),
+        22 => both(classes[22], guesses[22]),
+        23 => both(classes[23], guesses[23]),
+        24 => both(classes[24], guesses[24]),
+        25 => both(classes[25], guesses[25]),
+        26 => both(classes[26], guesses[26]),
+        27 => both(classes[27], guesses[27]),
+        28 => both(classes[28], guesses[28]),
+        29 => both(classes[29], guesses[29]),
+        30 => both(classes[30], guesses[30]),
+        _ => both(classes[31], guesses[31]),
+    }
+}
