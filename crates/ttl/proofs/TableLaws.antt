@@ -12,7 +12,8 @@ use Rattle.ttl.specs.declared.Ttl.{Ttl}
 use Rattle.ttl.specs.declared.Ttl.the-variants.{Value, Distance, Guess, Bad}
 use Rattle.ttl.specs.declared.TtlEntry.{TtlEntry}
 use Rattle.ttl.specs.declared.rows.TtlRow.{TtlRow}
-use Rattle.ttl.specs.Table.{formOf, classOf, inTurn, rowOf, eachByte, entryAt, entryOf, bothRows}
+use Rattle.ttl.specs.Table.{formOf, classOf, inTurn, rowOf, eachByte, entryAt, entryOf}
+use Rattle.ttl.specs.Rows.{bothRows}
 use Rattle.ttl.specs.Ttl.{guessOf, readingOf}
 
 -- ---- an entry

@@ -5,7 +5,6 @@ use lib.ListN.{getD}
 use Rattle.ttl.specs.declared.Ttl.{Ttl}
 use Rattle.ttl.specs.declared.Ttl.the-variants.{Value, Distance, Guess, Bad}
 use Rattle.ttl.specs.declared.TtlEntry.{TtlEntry}
-use Rattle.ttl.specs.declared.rows.TtlRow.{TtlRow}
 use Rattle.ttl.specs.Ttl.{guessOf, readingOf}
 
 -- ---- an entry
@@ -42,7 +41,3 @@ eachByte rule = inTurn (rowOf rule) 0 32
 -- The entry of a byte in such a table.
 abbrev pub entryAt : List (List ℕ) → ℕ → ℕ
 entryAt table t = getD (getD table (t / 8) []) (t % 8) 0
-
--- A row of the classes, and the same of the guesses.
-unfoldable pub bothRows : ℕ → TtlRow
-bothRows row = record { classes = rowOf classOf row; guesses = rowOf guessOf row }

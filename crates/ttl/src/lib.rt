@@ -2,6 +2,7 @@
 ghost use mathlib.Core.Path.{_≡_};
 ghost use Rattle.ttl.specs.Table.{classOf, eachByte, entryOf};
 ghost use Rattle.ttl.specs.Ttl.{byteOf, guessOf, maxDist, readingOf};
+use rows::byte_in;
 use rows::table_row;
 use table::CLASSES;
 use table::GUESSES;
@@ -68,12 +69,12 @@ pub fn ttl_entry(ttl: u8) -> TtlEntry
     ensures { λ r. ⌜ r ≡ entryOf ttl ⌝ }
 {
     let row = table_row(ttl / 8);
-    let at = (ttl % 8) as usize;
+    let at = ttl % 8;
     let classes = row.classes;
     let guesses = row.guesses;
     TtlEntry {
-        class: classes[at],
-        guess: guesses[at],
+        class: byte_in(classes, at),
+        guess: byte_in(guesses, at),
     }
 }
 
@@ -85,15 +86,17 @@ pub fn guess_distance(ttl: u8) -> u8
     entry.guess
 }
 
-// The reading of a TTL byte, by its class in the codes of a record. The codes are four: that the remainder says so makes a reading without
-// a branch.
+// The reading of a TTL byte, by its class in the codes of a record. That the codes are four, and that the guess is read whatever the class,
+// lets the compiler make the reading without a branch.
 pub fn calculate_ttl(ttl_observed: u8) -> Ttl
     ensures { λ r. ⌜ r ≡ readingOf «ttl_observed» ⌝ }
 {
     let entry = ttl_entry(ttl_observed);
-    match entry.class % 4 {
+    let class = entry.class;
+    let guess = entry.guess;
+    match class % 4 {
         0 => Ttl::Value(ttl_observed),
-        1 => Ttl::Distance(ttl_observed, entry.guess),
+        1 => Ttl::Distance(ttl_observed, guess),
         2 => Ttl::Guess(ttl_observed),
         _ => Ttl::Bad(ttl_observed),
     }

@@ -3,7 +3,8 @@
 // (docs/DECISIONS.md, 83).
 ghost use mathlib.Core.Path.{_≡_};
 ghost use Prim.Native.Nat.{_<_};
-ghost use Rattle.ttl.specs.Table.{bothRows};
+ghost use lib.ListN.{getD};
+ghost use Rattle.ttl.specs.Rows.{bothRows, Widened};
 use crate::ttl_classes;
 use crate::ttl_guesses;
 
@@ -58,4 +59,27 @@ pub(crate) fn table_row(row: u8) -> TtlRow
         30 => both(classes[30], guesses[30]),
         _ => both(classes[31], guesses[31]),
     }
+}
+
+fn wide(byte: u8) -> u64
+    ensures { λ r. ⌜ Widened byte r ⌝ }
+{
+    byte as u64
+}
+
+// The byte at a place of a row, by a shift of the row's number: the compiler takes eight bytes for what they are, and puts nothing on the
+// stack, as it does for an index.
+pub(crate) fn byte_in(row: [u8; 8], at: u8) -> u8
+    requires { ⌜ at < 8 ⌝ }
+    ensures { λ r. ⌜ r ≡ getD row at 0 ⌝ }
+{
+    let from_7 = wide(row[7]);
+    let from_6 = wide(row[6]) + 256 * from_7;
+    let from_5 = wide(row[5]) + 256 * from_6;
+    let from_4 = wide(row[4]) + 256 * from_5;
+    let from_3 = wide(row[3]) + 256 * from_4;
+    let from_2 = wide(row[2]) + 256 * from_3;
+    let from_1 = wide(row[1]) + 256 * from_2;
+    let word = wide(row[0]) + 256 * from_1;
+    ((word >> (8 * at)) % 256) as u8
 }

@@ -5,8 +5,8 @@ use Rattle.ttl.proofs.ttl_entry.Statement.{statement}
 use Rattle.ttl.proofs.ttl_entry.Tie as tie
 
 returns : tie.Need-returns
-returns c = in-rows _ _ (c .before .before .table-row .ensures)
+returns c = rw (c .byte-in2 .ensures, c .before .byte-in .ensures) (in-rows _ _ (c .before .before .before .before .table-row .ensures))
 
 pub ttl-entry-spec : {M : Type 1} → statement M
 ttl-entry-spec =
-    tie.close (tie.spec (λ c κs. search needs) (λ c. search needs) (λ c. search needs) (λ c. search needs) returns)
+    tie.close (tie.spec (λ c κs. search needs) (λ c κs. search needs) (λ c κs. search needs) returns)
