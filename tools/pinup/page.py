@@ -1,9 +1,9 @@
 """The page: every TTL byte in a cell, cells of one start together, and the rule in two sentences."""
-from pinup.shapes import Box, Group, Text
+from pinup.shapes import DIGIT_HEIGHT, Box, Group, Text
 from pinup.table import BAD, DISTANCE, VALUE, Unfit
 
 TITLE = "What a TTL byte is taken for"
-MADE = "Made by tools/ttl_page from the table that the program carries, crates/ttl/src/table.rt."
+MADE = "Made by tools/ttl_page from the table by which a TTL is read, crates/ttl/src/table.rt."
 LEFT, RIGHT, BOTTOM = 8, 203, 288
 COLUMNS = 16
 CELLS = 25.8  # where the cells begin; the start stands left of them
@@ -12,6 +12,7 @@ ROW = 13.7
 GAP = 2.6  # between two starts
 FRAME = 0.25
 BYTE, HOPS, WORDS, START, SMALL = 5.5, 5.0, 5.1, 9.0, 2.8  # sizes of letters
+FROM_A_METRE = 3.5  # the least height of a digit in a cell: 12 minutes of arc
 # The bytes that are explained in words.
 EXAMPLES = {DISTANCE: 52, VALUE: 200}
 
@@ -83,4 +84,6 @@ def drawn(entries, rule):
         shapes += row
     if y - GAP > BOTTOM:
         raise Unfit("the rows do not fit on the page")
+    if min(BYTE, HOPS) * DIGIT_HEIGHT < FROM_A_METRE:
+        raise Unfit("the digits of a cell are too small to be read from a metre")
     return shapes + [Text(LEFT, 293, SMALL, MADE)]

@@ -1,4 +1,4 @@
-"""The table of all TTL bytes, read from the constants that the program carries (crates/ttl/src)."""
+"""The table of all TTL bytes, taken from the constants by which the library reads one (crates/ttl/src/table.rt)."""
 import os
 import re
 
