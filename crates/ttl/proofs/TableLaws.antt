@@ -13,7 +13,7 @@ use Rattle.ttl.specs.declared.Ttl.the-variants.{Value, Distance, Guess, 
 use Rattle.ttl.specs.declared.TtlEntry.{TtlEntry}
 use Rattle.ttl.specs.declared.rows.TtlRow.{TtlRow}
 use Rattle.ttl.specs.Table.{formOf, classOf, inTurn, rowOf, eachByte, entryAt, entryOf}
-use Rattle.ttl.specs.Rows.{bothRows}
+use Rattle.ttl.specs.Rows.{bothRows, rowsAt}
 use Rattle.ttl.specs.Ttl.{guessOf, readingOf}
 
 -- ---- an entry
@@ -57,7 +57,7 @@ pub picked
     : (classes guesses : List (List ℕ)) (k row : ℕ) (r : TtlRow)
     → classes ≡ eachByte classOf
     → guesses ≡ eachByte guessOf
-    → r ≡ record { classes = getD classes k []; guesses = getD guesses k [] }
+    → r ≡ rowsAt classes guesses k
     → row ≡ k
     → k < 32
     → r ≡ bothRows row

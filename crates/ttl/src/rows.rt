@@ -4,7 +4,7 @@
 ghost use mathlib.Core.Path.{_≡_};
 ghost use Prim.Native.Nat.{_<_};
 ghost use lib.ListN.{getD};
-ghost use Rattle.ttl.specs.Rows.{bothRows, Widened};
+ghost use Rattle.ttl.specs.Rows.{bothRows, rowsAt, Widened};
 use crate::ttl_classes;
 use crate::ttl_guesses;
 
@@ -13,51 +13,59 @@ pub(crate) struct TtlRow {
     pub(crate) guesses: [u8; 8],
 }
 
-fn both(classes: [u8; 8], guesses: [u8; 8]) -> TtlRow
-    ensures { λ r. ⌜ r ≡ record { classes = classes; guesses = guesses } ⌝ }
+fn both(classes: &[[u8; 8]; 32], guesses: &[[u8; 8]; 32], row: usize) -> TtlRow
+    requires { ⌜ row < 32 ⌝ }
+    ensures { λ r. ⌜ r ≡ rowsAt (now (classes .entry)) (now (guesses .entry)) row ⌝ }
 {
-    TtlRow { classes, guesses }
+    let of_classes = classes[row];
+    let of_guesses = guesses[row];
+    TtlRow {
+        classes: of_classes,
+        guesses: of_guesses,
+    }
 }
 
 pub(crate) fn table_row(row: u8) -> TtlRow
     requires { ⌜ row < 32 ⌝ }
     ensures { λ r. ⌜ r ≡ bothRows row ⌝ }
 {
-    let classes = ttl_classes();
-    let guesses = ttl_guesses();
+    let all_classes = ttl_classes();
+    let all_guesses = ttl_guesses();
+    let classes = &all_classes;
+    let guesses = &all_guesses;
     match row {
-        0 => both(classes[0], guesses[0]),
-        1 => both(classes[1], guesses[1]),
-        2 => both(classes[2], guesses[2]),
-        3 => both(classes[3], guesses[3]),
-        4 => both(classes[4], guesses[4]),
-        5 => both(classes[5], guesses[5]),
-        6 => both(classes[6], guesses[6]),
-        7 => both(classes[7], guesses[7]),
-        8 => both(classes[8], guesses[8]),
-        9 => both(classes[9], guesses[9]),
-        10 => both(classes[10], guesses[10]),
-        11 => both(classes[11], guesses[11]),
-        12 => both(classes[12], guesses[12]),
-        13 => both(classes[13], guesses[13]),
-        14 => both(classes[14], guesses[14]),
-        15 => both(classes[15], guesses[15]),
-        16 => both(classes[16], guesses[16]),
-        17 => both(classes[17], guesses[17]),
-        18 => both(classes[18], guesses[18]),
-        19 => both(classes[19], guesses[19]),
-        20 => both(classes[20], guesses[20]),
-        21 => both(classes[21], guesses[21]),
-        22 => both(classes[22], guesses[22]),
-        23 => both(classes[23], guesses[23]),
-        24 => both(classes[24], guesses[24]),
-        25 => both(classes[25], guesses[25]),
-        26 => both(classes[26], guesses[26]),
-        27 => both(classes[27], guesses[27]),
-        28 => both(classes[28], guesses[28]),
-        29 => both(classes[29], guesses[29]),
-        30 => both(classes[30], guesses[30]),
-        _ => both(classes[31], guesses[31]),
+        0 => both(classes, guesses, 0),
+        1 => both(classes, guesses, 1),
+        2 => both(classes, guesses, 2),
+        3 => both(classes, guesses, 3),
+        4 => both(classes, guesses, 4),
+        5 => both(classes, guesses, 5),
+        6 => both(classes, guesses, 6),
+        7 => both(classes, guesses, 7),
+        8 => both(classes, guesses, 8),
+        9 => both(classes, guesses, 9),
+        10 => both(classes, guesses, 10),
+        11 => both(classes, guesses, 11),
+        12 => both(classes, guesses, 12),
+        13 => both(classes, guesses, 13),
+        14 => both(classes, guesses, 14),
+        15 => both(classes, guesses, 15),
+        16 => both(classes, guesses, 16),
+        17 => both(classes, guesses, 17),
+        18 => both(classes, guesses, 18),
+        19 => both(classes, guesses, 19),
+        20 => both(classes, guesses, 20),
+        21 => both(classes, guesses, 21),
+        22 => both(classes, guesses, 22),
+        23 => both(classes, guesses, 23),
+        24 => both(classes, guesses, 24),
+        25 => both(classes, guesses, 25),
+        26 => both(classes, guesses, 26),
+        27 => both(classes, guesses, 27),
+        28 => both(classes, guesses, 28),
+        29 => both(classes, guesses, 29),
+        30 => both(classes, guesses, 30),
+        _ => both(classes, guesses, 31),
     }
 }
 
