@@ -253,4 +253,15 @@ def line():
         yield bad, BAD
 
 
-LINES = {"observe": observe, "options": options, "search": search_lines, "batch": batch, "line": line}
+def ttl():
+    """Both sides of each start and of 30 hops, and byte 0."""
+    for byte, entry in ((0, "3 32"), (1, "0 31"), (2, "1 30"), (31, "1 1"), (32, "1 0"), (33, "0 31"), (34, "1 30"), (64, "1 0"),
+                        (65, "0 63"), (97, "0 31"), (98, "1 30"), (128, "1 0"), (129, "0 126"), (224, "0 31"), (225, "1 30"),
+                        (254, "1 1"), (255, "1 0")):
+        yield str(byte), entry
+    yield "052", "1 12"
+    for bad in ("", "-", "256", "1000", "99999999999999999999", "+1", "-1", " 1", "1 ", "1 1", "0x10", "1.", "a", "1\r", "1\0"):
+        yield bad, BAD
+
+
+LINES = {"observe": observe, "options": options, "search": search_lines, "batch": batch, "line": line, "ttl": ttl}

@@ -100,6 +100,9 @@ def antt_type(f, type_):
     row = re.fullmatch(r"(&(?:'\w+ )?(?:mut )?)?\[(\w+)(?:; [^\]]+)?\]", type_)
     if row and row.group(2) in NUMBERS:
         return ("RefT (List ℕ)" if row.group(1) else "List ℕ"), []
+    rows = re.fullmatch(r"\[\[(\w+); \w+\]; \w+\]", type_ or "")
+    if rows and rows.group(1) in NUMBERS:
+        return "List (List ℕ)", []
     if re.fullmatch(r"\w+", type_ or ""):
         crate, module = type_module(f, type_)
         return type_, [(f"Rattle.{crate}.specs.{module}", type_)]

@@ -75,10 +75,16 @@ typedef struct {
     uint8_t bytes[40];
 } witness_line_read;
 
+/* The entry of a TTL byte in the table of all of them. */
+typedef struct {
+    uint8_t class; /* 0 value, 1 distance, 3 bad */
+    uint8_t guess; /* the hops up to 32, 64, 128 or 255, of every byte */
+} witness_ttl_entry;
+
 /* As many bytes as the source's structs have, by C's layout on x86-64. */
 typedef char witness_structs_have_their_sizes[sizeof(witness_observation) == 120 && sizeof(witness_packet_read) == 128 &&
                                               sizeof(witness_options_read) == 96 && sizeof(witness_search_read) == 24 &&
-                                              sizeof(witness_line_read) == 128 ? 1 : -1];
+                                              sizeof(witness_line_read) == 128 && sizeof(witness_ttl_entry) == 2 ? 1 : -1];
 
 /* The bits of a mode: none for the plain reading; what is not named here is not read. */
 enum {
@@ -93,6 +99,8 @@ witness_options_read witness_options(const uint8_t *options, size_t length);
 
 /* The search of a list for an observation. */
 witness_search_read witness_search(witness_observation observation, const uint8_t *list, size_t length);
+
+witness_ttl_entry witness_ttl(uint8_t ttl);
 
 /* The hop distance that is reported for two TTLs of three bytes each (form, TTL, distance): an observed one, then a signature's. */
 uint8_t witness_hops(const uint8_t *ttls, size_t length);

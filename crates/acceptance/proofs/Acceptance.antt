@@ -11,6 +11,7 @@ use Rattle.acceptance.proofs.OnPaper.{on-paper}
 use Rattle.acceptance.proofs.Refusals.{refusals}
 use Rattle.acceptance.proofs.Stages.{stages}
 use Rattle.acceptance.proofs.TextLines.{text-lines}
+use Rattle.acceptance.proofs.TtlTable.{ttl-table}
 use Rattle.acceptance.proofs.Unchecked.{unchecked}
 
 pub acceptance : Acceptance
@@ -28,4 +29,5 @@ acceptance =
       textLines = text-lines;
       modes = modes;
       genericLast = generic-last;
+      ttlTable = ttl-table;
     }

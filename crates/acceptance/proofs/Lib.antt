@@ -28,5 +28,6 @@ pub mod Refusals
 pub mod Stages
 pub mod StrictValues
 pub mod TextLines
+pub mod TtlTable
 pub mod Unchecked
 pub mod Values

@@ -11,6 +11,7 @@ use Rattle.acceptance.specs.OnPaper.{OnPaper}
 use Rattle.acceptance.specs.Refusals.{Refusals}
 use Rattle.acceptance.specs.Stages.{Stages}
 use Rattle.acceptance.specs.TextLines.{TextLines}
+use Rattle.acceptance.specs.TtlTable.{TtlTable}
 use Rattle.acceptance.specs.Unchecked.{Unchecked}
 
 pub record Acceptance : Type 1 where
@@ -35,3 +36,5 @@ pub record Acceptance : Type 1 where
   pub modes : Modes
   -- D1: specific and generic records (document 02, Wish 3).
   pub genericLast : GenericLast
+  -- D1: the table of all TTL bytes (document 02, Wish 4).
+  pub ttlTable : TtlTable

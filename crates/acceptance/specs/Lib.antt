@@ -17,5 +17,6 @@ pub mod Promises
 pub mod Refusals
 pub mod Stages
 pub mod TextLines
+pub mod TtlTable
 pub mod Unchecked
 pub mod Values

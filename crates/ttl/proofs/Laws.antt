@@ -1,32 +1,12 @@
 -- Laws of the TTL reading.
 use mathlib.Core.Path.{_≡_, refl, sym}
 use mathlib.Core.Bool.{Bool, true, false, cond}
-use Prim.Native.Nat.{ℕ, _<_, _≤_}
+use Prim.Native.Nat.{ℕ}
 use native.Mathlib.Omega.{arith}
 use lib.Dec.{leb, eqb}
-use borrow.Author.Tests.{le-leb, lt-leb, eqb-true}
+use borrow.Author.Tests.{eqb-true}
 use Rattle.ttl.specs.declared.Ttl.the-variants.{Value, Distance, Guess, Bad}
-use Rattle.ttl.specs.Ttl.{initialOf, guessOf, readingOf, byteOf}
-
--- ---- the initial TTL of each range
-
-pub initial-255 : (t : ℕ) → 128 < t → initialOf t ≡ 255
-unfolding initialOf
-initial-255 t h = simp (lt-leb t 32 (omega arith), lt-leb t 64 (omega arith), lt-leb t 128 h)
-
-pub initial-128 : (t : ℕ) → 64 < t → t ≤ 128 → initialOf t ≡ 128
-unfolding initialOf
-initial-128 t h k = simp (lt-leb t 32 (omega arith), lt-leb t 64 h, le-leb t 128 k)
-
-pub initial-64 : (t : ℕ) → 32 < t → t ≤ 64 → initialOf t ≡ 64
-unfolding initialOf
-initial-64 t h k = simp (lt-leb t 32 h, le-leb t 64 k)
-
-pub initial-32 : (t : ℕ) → t ≤ 32 → initialOf t ≡ 32
-unfolding initialOf
-initial-32 t k = simp (le-leb t 32 k)
-
--- ---- the forms of a reading
+use Rattle.ttl.specs.Ttl.{guessOf, readingOf, byteOf}
 
 -- "The reader never gives Guess."
 pub never-guess : (t g : ℕ) → readingOf t ≡ Guess g → ⊥

@@ -1,6 +1,14 @@
 // ttl.rs: what the TTL byte of a packet is taken for.
 ghost use mathlib.Core.Path.{_≡_};
+ghost use Rattle.ttl.specs.Table.{classOf, eachByte, entryOf};
 ghost use Rattle.ttl.specs.Ttl.{byteOf, guessOf, maxDist, readingOf};
+use rows::byte_in;
+use rows::table_row;
+use table::CLASSES;
+use table::GUESSES;
+
+mod rows;
+mod table;
 
 // One of four forms of a TTL reading.
 pub enum Ttl {
@@ -14,11 +22,15 @@ pub enum Ttl {
     Bad(u8),
 }
 
+// What the table holds of a TTL byte: what it is taken for, by the codes of a record's TTL form (0 Value, 1 Distance, 3 Bad), and its
+// guess, which only a Distance claims.
+pub struct TtlEntry {
+    pub class: u8,
+    pub guess: u8,
+}
+
 // The most hops that are still plausible (p0f's MAX_DIST).
 pub const MAX_DIST: u8 = 35;
-
-// The most hops for which a reading is a Distance.
-const MAX_HOPS_ACCEPTABLE: u8 = 30;
 
 // The constant above, which its promise holds to document 01's number.
 pub fn max_dist() -> u8
@@ -39,31 +51,53 @@ pub fn observed_ttl(ttl: Ttl) -> u8
     }
 }
 
+// The table whole: its promises hold the two constants to the rule, at every byte.
+pub fn ttl_classes() -> [[u8; 8]; 32]
+    ensures { λ r. ⌜ r ≡ eachByte classOf ⌝ }
+{
+    CLASSES
+}
+
+pub fn ttl_guesses() -> [[u8; 8]; 32]
+    ensures { λ r. ⌜ r ≡ eachByte guessOf ⌝ }
+{
+    GUESSES
+}
+
+// The entry of a TTL byte in the table.
+pub fn ttl_entry(ttl: u8) -> TtlEntry
+    ensures { λ r. ⌜ r ≡ entryOf ttl ⌝ }
+{
+    let row = table_row(ttl / 8);
+    let at = ttl % 8;
+    let classes = row.classes;
+    let guesses = row.guesses;
+    TtlEntry {
+        class: byte_in(classes, at),
+        guess: byte_in(guesses, at),
+    }
+}
+
 // The hops from the next usual initial TTL.
 pub fn guess_distance(ttl: u8) -> u8
     ensures { λ r. ⌜ r ≡ guessOf ttl ⌝ }
 {
-    if ttl > 128 {
-        255 - ttl
-    } else if ttl > 64 {
-        128 - ttl
-    } else if ttl > 32 {
-        64 - ttl
-    } else {
-        32 - ttl
-    }
+    let entry = ttl_entry(ttl);
+    entry.guess
 }
 
-// The reading of a TTL byte.
+// The reading of a TTL byte, by its class in the codes of a record. That the codes are four, and that the guess is read whatever the class,
+// lets the compiler make the reading without a branch.
 pub fn calculate_ttl(ttl_observed: u8) -> Ttl
     ensures { λ r. ⌜ r ≡ readingOf «ttl_observed» ⌝ }
 {
-    if ttl_observed != 0 {
-        let distance = guess_distance(ttl_observed);
-        if distance <= MAX_HOPS_ACCEPTABLE {
-            return Ttl::Distance(ttl_observed, distance);
-        }
-        return Ttl::Value(ttl_observed);
+    let entry = ttl_entry(ttl_observed);
+    let class = entry.class;
+    let guess = entry.guess;
+    match class % 4 {
+        0 => Ttl::Value(ttl_observed),
+        1 => Ttl::Distance(ttl_observed, guess),
+        2 => Ttl::Guess(ttl_observed),
+        _ => Ttl::Bad(ttl_observed),
     }
-    Ttl::Bad(ttl_observed)
 }

@@ -15,9 +15,10 @@ use Rattle.witness.specs.declared.PlainOptions.{PlainOptions}
 use Rattle.witness.specs.declared.PlainPacket.{PlainPacket}
 use Rattle.witness.specs.declared.PlainProgress.{PlainProgress}
 use Rattle.witness.specs.declared.PlainSearch.{PlainSearch}
+use Rattle.witness.specs.declared.PlainTtl.{PlainTtl}
 use Rattle.witness.specs.Lined.{lineRead}
 use Rattle.witness.specs.Taken.{hopsRead, searchRead}
-use Rattle.witness.specs.Written.{optionsRead, packetRead, plainPacket}
+use Rattle.witness.specs.Written.{optionsRead, packetRead, plainPacket, ttlRead}
 use Rattle.witness.proofs.witness_first_page.Reads as witness-first-page'
 use Rattle.witness.proofs.witness_hops.Reads as witness-hops'
 use Rattle.witness.proofs.witness_line.Reads as witness-line'
@@ -25,6 +26,7 @@ use Rattle.witness.proofs.witness_next_page.Reads as witness-next-page'
 use Rattle.witness.proofs.witness_options.Reads as witness-options'
 use Rattle.witness.proofs.witness_packet.Reads as witness-packet'
 use Rattle.witness.proofs.witness_search.Reads as witness-search'
+use Rattle.witness.proofs.witness_ttl.Reads as witness-ttl'
 use Rattle.witness.proofs.written.plain_packet.Reads as plain-packet'
 
 pub witness-packet-one
@@ -46,6 +48,9 @@ pub witness-search-one
     : (κs : Lfts 1) (observation : PlainObservation) (list : RefT (List ℕ))
     → ExactlyOne PlainSearch (λ (r : PlainSearch). witness-search'.Post κs (observation, (list, tt)) r (observation, (list, tt)))
 witness-search-one κs observation list = equation (searchRead observation (now list))
+
+pub witness-ttl-one : (ttl : ℕ) → ExactlyOne PlainTtl (λ (r : PlainTtl). witness-ttl'.Post tt (ttl, tt) r (ttl, tt))
+witness-ttl-one ttl = equation (ttlRead ttl)
 
 pub witness-hops-one : (κs : Lfts 1) (ttls : RefT (List ℕ)) → ExactlyOne ℕ (λ (r : ℕ). witness-hops'.Post κs (ttls, tt) r (ttls, tt))
 witness-hops-one κs ttls = equation (hopsRead (now ttls))

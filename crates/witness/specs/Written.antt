@@ -15,6 +15,7 @@ use Rattle.tcp.specs.declared.PayloadSize.{PayloadSize}
 use Rattle.tcp.specs.declared.PayloadSize.the-variants as payload
 use Rattle.ttl.specs.declared.Ttl.{Ttl}
 use Rattle.ttl.specs.declared.Ttl.the-variants as ttl
+use Rattle.ttl.specs.Table.{formOf, entryOf}
 use Rattle.ttl.specs.Ttl.{byteOf}
 use Rattle.window_size.specs.declared.Multiplier.{Multiplier}
 use Rattle.window_size.specs.declared.Multiplier.the-variants as multiplier
@@ -44,18 +45,13 @@ use Rattle.witness.specs.declared.PlainPacket.{PlainPacket}
 use Rattle.witness.specs.declared.PlainOptions.{PlainOptions}
 use Rattle.witness.specs.declared.PlainSearch.{PlainSearch}
 use Rattle.witness.specs.declared.PlainProgress.{PlainProgress}
+use Rattle.witness.specs.declared.PlainTtl.{PlainTtl}
 
 -- ---- an observation
 
 abbrev pub versionNumber : IpVersion → ℕ
 versionNumber version.V4 = 4
 versionNumber version.V6 = 6
-
-abbrev pub ttlForm : Ttl → ℕ
-ttlForm (ttl.Value v) = 0
-ttlForm (ttl.Distance v hops) = 1
-ttlForm (ttl.Guess v) = 2
-ttlForm (ttl.Bad v) = 3
 
 abbrev pub ttlHops : Ttl → ℕ
 ttlHops (ttl.Value v) = 0
@@ -103,7 +99,7 @@ plainObservation o m =
       multiple = multipleNumber m;
       «multiple_of» = multipleOf m;
       version = versionNumber (o .version);
-      «ttl_form» = ttlForm (o .ittl);
+      «ttl_form» = formOf (o .ittl);
       ttl = byteOf (o .ittl);
       hops = ttlHops (o .ittl);
       olen = o .olen;
@@ -116,6 +112,11 @@ plainObservation o m =
       kinds = o .olayout .kinds;
       bytes = o .olayout .bytes;
     }
+
+-- ---- a TTL byte's entry in the table
+
+unfoldable pub ttlRead : ℕ → PlainTtl
+ttlRead t = record { class = entryOf t .class; guess = entryOf t .guess }
 
 -- ---- a packet
 

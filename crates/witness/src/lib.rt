@@ -1,6 +1,6 @@
 // Outside witnesses: the answers as structs of numbers, for C drivers (tools/witness/witness.h); not part of the product.
 ghost use mathlib.Core.Path.{_≡_};
-ghost use Rattle.witness.specs.Written.{packetRead, optionsRead, plainProgress, firstOf, nextOf, Paged};
+ghost use Rattle.witness.specs.Written.{packetRead, optionsRead, ttlRead, plainProgress, firstOf, nextOf, Paged};
 ghost use Rattle.witness.specs.Taken.{searchRead, hopsRead};
 ghost use Rattle.witness.specs.Lined.{lineRead};
 use flow::mode_of;
@@ -10,6 +10,7 @@ use report::PAGE;
 use searched::plain_search;
 use taken::observation_of;
 use taken::ttl_of;
+use ttl::ttl_entry;
 use written::plain_options;
 use written::plain_packet;
 
@@ -63,6 +64,12 @@ pub struct PlainOptions {
     pub wscale: u8,
     pub kinds: [u8; 40],
     pub bytes: [u8; 40],
+}
+
+#[repr(C)]
+pub struct PlainTtl {
+    pub class: u8,
+    pub guess: u8,
 }
 
 #[repr(C)]
@@ -126,6 +133,18 @@ pub extern "C" fn witness_search(observation: PlainObservation, list: &[u8]) -> 
     ensures { λ r. ⌜ r ≡ searchRead observation (now (list .entry)) ⌝ }
 {
     plain_search(search::search(observation_of(observation), list))
+}
+
+// The entry of a TTL byte in the table: what it is taken for, by the codes of a record, and its guess.
+#[no_mangle]
+pub extern "C" fn witness_ttl(ttl: u8) -> PlainTtl
+    ensures { λ r. ⌜ r ≡ ttlRead ttl ⌝ }
+{
+    let entry = ttl_entry(ttl);
+    PlainTtl {
+        class: entry.class,
+        guess: entry.guess,
+    }
 }
 
 // The hop distance that is reported for two TTLs of three bytes each (form, TTL, distance): an observed one, then a signature's.

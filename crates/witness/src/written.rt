@@ -1,6 +1,7 @@
 // A reading, and what is parsed of an option string, as structs of numbers.
 ghost use mathlib.Core.Path.{_≡_};
-ghost use Rattle.witness.specs.Written.{versionNumber, ttlForm, ttlHops, hasMss, mssNumber, hasScale, scaleNumber, payloadNumber};
+ghost use Rattle.ttl.specs.Table.{formOf};
+ghost use Rattle.witness.specs.Written.{versionNumber, ttlHops, hasMss, mssNumber, hasScale, scaleNumber, payloadNumber};
 ghost use Rattle.witness.specs.Written.{multipleNumber, multipleOf, plainObservation};
 ghost use Rattle.witness.specs.Written.{answerNumber, answerRefusal, answerFlags, plainPacket, optionsRefusal, plainOptions};
 use crate::PlainObservation;
@@ -34,7 +35,7 @@ fn version_number(version: IpVersion) -> u8
 }
 
 fn ttl_form(ttl: Ttl) -> u8
-    ensures { λ r. ⌜ r ≡ ttlForm ttl ⌝ }
+    ensures { λ r. ⌜ r ≡ formOf ttl ⌝ }
 {
     match ttl {
         Ttl::Value(_) => 0,

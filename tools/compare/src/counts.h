@@ -5,7 +5,7 @@
 #include "linetext.h"
 #include "tally.h"
 
-enum { FAMILIES = 64, ANSWERS = 24, MOST = 4096 };
+enum { FAMILIES = 64, ANSWERS = 25, MOST = 4096 };
 
 typedef struct {
     const char *name;

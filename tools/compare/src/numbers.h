@@ -6,7 +6,8 @@
    search   0 answer (65536 none, 131072 + label exact, 196608 + label fuzzy, or the refusal)
             1 index of refusal 10   2 hops   3 added   4 missing   5 the number of the record, from 0   6 whether it is generic
    line     0 answer (1 read, 13 refused)   1 offset   2 to 4 the record   20 to 30 layout
-   hops     0 the hop distance that is reported for two TTLs of three bytes */
+   hops     0 the hop distance that is reported for two TTLs of three bytes
+   ttl      0 the form of a byte's reading (0 value, 1 distance, 3 bad)   1 its byte   2 its distance   3 the byte's guess */
 #ifndef NUMBERS_H
 #define NUMBERS_H
 
@@ -25,6 +26,7 @@ void port_options(const uint8_t *s, size_t size, Numbers *out);
 void port_search(const uint8_t *observation, const uint8_t *list, size_t size, Numbers *out);
 
 void port_hops(const uint8_t ttls[6], Numbers *out);
+void port_ttl(uint8_t byte, Numbers *out);
 void port_line(const uint8_t *s, size_t size, Numbers *out);
 
 /* present: whether the original is told of a peer at all; with 0 that makes no difference.
@@ -37,6 +39,7 @@ typedef enum { PASSED_GENERIC = 1, PASSED_FUZZY = 2 } Passed;
 int oracle_search(const uint8_t *observation, const uint8_t *list, size_t size, Numbers *out);
 
 void oracle_hops(const uint8_t ttls[6], Numbers *out);
+void oracle_ttl(uint8_t byte, Numbers *out);
 
 /* The documents' tables in C, written from their text alone. */
 int table_packet(const uint8_t *p, size_t size, uint8_t *flags);

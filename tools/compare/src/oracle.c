@@ -133,3 +133,12 @@ void oracle_hops(const uint8_t ttls[6], Numbers *out) {
     memset(out, 0, sizeof *out);
     out->n[0] = (uint64_t)original_report_hop_distance(ttls, ttls + 3);
 }
+
+void oracle_ttl(uint8_t byte, Numbers *out) {
+    uint8_t reading[3];
+    int i;
+    memset(out, 0, sizeof *out);
+    original_calculate_ttl(byte, reading);
+    for (i = 0; i < 3; i++) out->n[i] = reading[i];
+    out->n[3] = original_guess_distance(byte);
+}

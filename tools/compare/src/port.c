@@ -80,6 +80,16 @@ void port_hops(const uint8_t ttls[6], Numbers *out) {
     out->n[0] = witness_hops(ttls, 6);
 }
 
+/* The table's entry, and the reading that it says. */
+void port_ttl(uint8_t byte, Numbers *out) {
+    witness_ttl_entry entry = witness_ttl(byte);
+    memset(out, 0, sizeof *out);
+    out->n[0] = entry.class;
+    out->n[1] = byte;
+    out->n[2] = entry.class == 1 ? entry.guess : 0;
+    out->n[3] = entry.guess;
+}
+
 void port_line(const uint8_t *s, size_t size, Numbers *out) {
     witness_line_read read = witness_line(s, size);
     int i;

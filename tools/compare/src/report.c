@@ -6,7 +6,7 @@
 static const char *const answer_names[ANSWERS] = {
     "SYN", "SYN+ACK", "nothing", "refused 1", "refused 2", "refused 3", "refused 4", "refused 5", "refused 6", "refused 7",
     "parsed", "malformed", "refused 8", "specific exact", "generic exact", "fuzzy", "none", "refused 9", "refused 10", "refused 11",
-    "pairs", "hops", "line", "refused 13",
+    "pairs", "hops", "line", "refused 13", "TTL bytes",
 };
 
 static const char *const class_names[LINE_CLASSES] = {
@@ -22,7 +22,7 @@ static void hex(const char *name, const uint8_t *p, size_t size) {
 
 static void show_difference(int kind, int which, const Difference *d) {
     static const char *const names[KINDS] = {"packet (peer MSS before it)", "options", "search (observation, list)", "pair",
-                                             "hops (two TTLs)", "line (the grammar's answer for the original's)",
+                                             "hops (two TTLs)", "line (the grammar's answer for the original's)", "TTL byte",
                                              "packet in strict mode (peer MSS before it; what is expected for the original's)",
                                              "pair in strict mode"};
     int i;
@@ -133,9 +133,11 @@ uint64_t report(void) {
         all[f->kind] += f->inputs;
         wrong += f->differences;
     }
-    printf("\npackets %llu, option strings %llu, searches %llu, pairs %llu, hop distances %llu, lines %llu, differences %llu\n",
+    printf("\npackets %llu, option strings %llu, searches %llu, pairs %llu, hop distances %llu, lines %llu, TTL bytes %llu, "
+           "differences %llu\n",
            (unsigned long long)all[PACKET], (unsigned long long)all[OPTIONS], (unsigned long long)all[SEARCH],
-           (unsigned long long)all[PAIR], (unsigned long long)all[HOPS], (unsigned long long)all[LINE], (unsigned long long)wrong);
+           (unsigned long long)all[PAIR], (unsigned long long)all[HOPS], (unsigned long long)all[LINE],
+           (unsigned long long)all[TTL], (unsigned long long)wrong);
     for (j = 0; j < ANSWERS; j++) printf("%s %llu%s", answer_names[j], (unsigned long long)sums[j], j + 1 < ANSWERS ? ", " : "\n");
     if (all[PACKET] || all[PAIR]) report_strict();
     report_counts();

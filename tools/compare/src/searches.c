@@ -95,6 +95,13 @@ static void every_hops(void) {
                 }
 }
 
+/* The table of all TTL bytes. */
+static void every_byte_of_the_table(void) {
+    unsigned byte;
+    family("the table's entry of every TTL byte", TTL);
+    for (byte = 0; byte < 256; byte++) try_ttl((uint8_t)byte);
+}
+
 static void at_boundaries(void) {
     uint8_t o[OBSERVATION], list[LIST_MOST];
     int i;
@@ -162,4 +169,5 @@ void search_families(unsigned share) {
     every_kind(share > 50 ? 8 : 400 / share);
     every_ttl();
     every_hops();
+    every_byte_of_the_table();
 }

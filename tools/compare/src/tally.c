@@ -23,6 +23,7 @@ static int answer_of(Kind kind, const Numbers *a) {
     if (kind == PAIR) return 20;
     if (kind == HOPS) return 21;
     if (kind == LINE) return n == 13 ? 23 : 22;
+    if (kind == TTL) return 24;
     if (kind == OPTIONS) return n == 8 ? 12 : a->n[1] ? 11 : 10;
     if (kind == SEARCH) return n >= 196608 ? 15 : n >= 131072 ? 13 + (int)a->n[6] : n == 65536 ? 16 : (int)n + 8;
     return n < 256 ? (int)n - 1 : (int)(n / 256) + 2;
@@ -137,6 +138,13 @@ void try_hops(const uint8_t ttls[6]) {
     oracle_hops(ttls, &original);
     port_hops(ttls, &port);
     settle(HOPS, ttls, 6, &port, &original);
+}
+
+void try_ttl(uint8_t byte) {
+    Numbers port, original;
+    oracle_ttl(byte, &original);
+    port_ttl(byte, &port);
+    settle(TTL, &byte, 1, &port, &original);
 }
 
 /* What the original says of a line must be what its own grammar says; and where that is not what is said here, why. */

@@ -5,7 +5,7 @@
 #include "numbers.h"
 
 /* The strict kinds are of differences alone: what is tried is also asked in the strict mode, and counted beside. */
-typedef enum { PACKET, OPTIONS, SEARCH, PAIR, HOPS, LINE, STRICT_PACKET, STRICT_PAIR, KINDS } Kind;
+typedef enum { PACKET, OPTIONS, SEARCH, PAIR, HOPS, LINE, TTL, STRICT_PACKET, STRICT_PAIR, KINDS } Kind;
 
 void family(const char *name, Kind kind);
 
@@ -16,6 +16,7 @@ void try_options(const uint8_t *s, size_t size);
 Numbers try_search(const uint8_t *observation, const uint8_t *list, size_t size);
 
 void try_hops(const uint8_t ttls[6]);
+void try_ttl(uint8_t byte);
 
 /* The port's answer to a line beside what the grammar says, and the original's: where that differs, it must be of a named class. */
 void try_line(const uint8_t *s, size_t size);
