@@ -1,11 +1,7 @@
 """A page as PDF, with the fonts that every reader of PDF has. Nothing is packed and no date stands in it: one table, one file."""
-from pinup.shapes import HEIGHT, WIDTH, Box, Group
+from pinup.shapes import HEIGHT, WIDTH, Box, Group, number
 
 POINTS = 72 / 25.4  # in a millimetre
-
-
-def number(value):
-    return f"{value:.2f}".rstrip("0").rstrip(".")
 
 
 def points(*values):

@@ -6,6 +6,11 @@ DIGIT_HEIGHT = 0.71
 WIDTHS = {**dict.fromkeys("0123456789", 0.556), "+": 0.584}
 
 
+def number(value):
+    """A number as both forms write it."""
+    return f"{value:.2f}".rstrip("0").rstrip(".")
+
+
 class Box:
     """A rectangle: its frame's strength (0: none), and whether it is filled with black."""
 

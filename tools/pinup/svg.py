@@ -1,11 +1,7 @@
 """A page as SVG."""
-from pinup.shapes import HEIGHT, WIDTH, Box, Group
+from pinup.shapes import HEIGHT, WIDTH, Box, Group, number
 
 FONT = "Helvetica, Arial, 'Liberation Sans', sans-serif"
-
-
-def number(value):
-    return f"{value:.2f}".rstrip("0").rstrip(".")
 
 
 def words(text):

@@ -4,7 +4,7 @@ import re
 
 ROOT = os.path.dirname(os.path.dirname(os.path.dirname(os.path.abspath(__file__))))
 SOURCE = "crates/ttl/src/table.rt"
-WIDTH = 8  # of a row
+IN_A_ROW = 8
 VALUE, DISTANCE, BAD = 0, 1, 3
 
 
@@ -18,7 +18,7 @@ def constant(text, name):
     if len(found) != 1:
         raise Unfit(f"{SOURCE} has not one constant {name} of 32 rows of eight")
     rows = [re.fullmatch(r"    \[((?:\d+, ){7}\d+)\], // (\d+)", line) for line in found[0].split("\n")[:-1]]
-    if len(rows) != 32 or any(not row or int(row[2]) != WIDTH * place for place, row in enumerate(rows)):
+    if len(rows) != 32 or any(not row or int(row[2]) != IN_A_ROW * place for place, row in enumerate(rows)):
         raise Unfit(f"{SOURCE}: the rows of {name} are not `[..], // BYTE`, eight entries each, from byte 0 on")
     return [int(entry) for row in rows for entry in row[1].split(", ")]
 

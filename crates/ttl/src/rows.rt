@@ -75,8 +75,8 @@ fn wide(byte: u8) -> u64
     byte as u64
 }
 
-// The byte at a place of a row, by a shift of the row's number: the compiler takes eight bytes for what they are, and puts nothing on the
-// stack, as it does for an index.
+// The byte at a place of a row, by a shift of the row's number: the compiler sees that the number is the row's eight bytes as they lie. A
+// row that is indexed it puts on the stack first.
 pub(crate) fn byte_in(row: [u8; 8], at: u8) -> u8
     requires { ⌜ at < 8 ⌝ }
     ensures { λ r. ⌜ r ≡ getD row at 0 ⌝ }
