@@ -22,6 +22,7 @@ use numbers::wide;
 use observable::TcpObservation;
 use quirks::QuirkSet;
 use refusals::PacketRefusal;
+use syn_options::StopBefore;
 use syn_options::Walked;
 use syn_options::walk_options;
 use tcp::Mss;
@@ -152,15 +153,27 @@ fn options_end(tcp: &[u8]) -> usize
     end
 }
 
-// The observation of a SYN or SYN+ACK: the options are a further part, and the walk goes on after clipping.
-fn observe(facts: IpFacts, tcp: &[u8], syn: bool, peer_mss: Mss) -> TcpObservation
+// The options that the mode's walk stops before.
+fn stop_of(mode: Mode) -> StopBefore
+    ensures { λ r. ⌜ r ≡ stopOf mode ⌝ }
+{
+    let strict = mode.strict;
+    StopBefore {
+        past: strict,
+        short: strict,
+    }
+}
+
+// The observation of a SYN or SYN+ACK: the options are a further part.
+fn observe(facts: IpFacts, tcp: &[u8], syn: bool, peer_mss: Mss, mode: Mode) -> TcpObservation
     requires { ⌜ 20 ≤ length (now tcp) ⌝ }
-    ensures { λ r. ⌜ r ≡ observationFrom facts (now (tcp .entry)) syn (cond syn Mss.Absent (knownPeer «peer_mss»)) ⌝ }
+    ensures { λ r. ⌜ r ≡ observationIn mode facts (now (tcp .entry)) syn (cond syn Mss.Absent (knownPeer «peer_mss»)) ⌝ }
 {
     let end = options_end(tcp);
     let before = facts.quirks;
     let quirks = shown_quirks(tcp, before);
-    let walked = walk_options(&tcp[20..end], false, syn, quirks);
+    let walk = walk_options(&tcp[20..end], stop_of(mode), syn, quirks);
+    let walked = walk.walked;
     tcp_observation(facts, tcp, walked, peer_taken(syn, peer_mss))
 }
 
@@ -241,7 +254,7 @@ pub fn read_packet_in(packet: &[u8], peer_mss: Mss, mode: Mode) -> Reading
             if syn | (masked == SYN_ACK) {
                 return Reading {
                     answer: opening_answer(syn),
-                    observation: observe(facts, tcp, syn, peer_mss),
+                    observation: observe(facts, tcp, syn, peer_mss, mode),
                 };
             }
             if is_valid(flags) {

@@ -1,3 +1,4 @@
+pub mod Cut
 pub mod Options
 pub mod See
 pub mod Unique

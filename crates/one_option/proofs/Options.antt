@@ -12,7 +12,7 @@ use lib.ListN.{length, take, drop, length-take, length-drop, List·getD-eq-defau
 use lib.Seq.{drop-cons, drop-drop, drop-nil, take-nil, getD-take, getD-drop}
 use borrow.Author.Tests.{ltb-true, lt-ltb, le-ltb, ne-eqb}
 use Rattle.basis.specs.Bytes.{byteAt, part}
-use Rattle.basis.proofs.Tests.{and-left, and-right}
+use Rattle.basis.proofs.Tests.{and-left, and-right, and-false}
 use Rattle.one_option.specs.declared.OptionStep.{OptionStep}
 use Rattle.one_option.specs.Options.{Opt, asked, runsPast, shortLength, optionsAfter, optionsOf, optionAt, stepOf}
 
@@ -128,7 +128,7 @@ module _ (s : List ℕ) (at : ℕ) (inside : at < length s) where
       let ends : min (at + 1 + 0) (length s) ≡ at + 1 = omega arith in
       rw (e, asked-nop 1 own refl, le-ltb (length own) 0 (omega arith), asked-nop 1 (drop (at + 1) s) refl, ends)
 
-  pub sized-step
+  sized-step
       : (byteAt s at ≡ 0 → ⊥)
       → (byteAt s at ≡ 1 → ⊥)
       → record {
@@ -150,3 +150,43 @@ module _ (s : List ℕ) (at : ℕ) (inside : at < length s) where
       let ends : at + 1 + m ≡ at + max b 2 = omega arith in
       rw (asks, asked-sized (byteAt s at) (take m left) n0 n1, length-byte, size, ends)
       (rw (past-places at (length s) b inside, lt-ltb 1 (byteAt s at) (omega arith), byte-places at (length s) b))
+
+  -- Case by case: without its length byte, with one of 0 or 1, past the end, and sound.
+  module _ (n0 : byteAt s at ≡ 0 → ⊥) (n1 : byteAt s at ≡ 1 → ⊥) where
+    abbrev next : ℕ
+    next = byteAt s (at + 1)
+
+    pub cut-step : length s ≤ at + 1 → record { kind = byteAt s at; end = length s; past = true; short = false } ≡ stepOf s at
+    cut-step cut =
+        let ends : min (at + max next 2) (length s) ≡ length s = omega arith in
+        rw (← sized-step n0 n1, lt-ltb (length s) (at + max next 2) (omega arith), le-ltb (at + 1) (length s) cut, ends)
+
+    pub short-step
+        : at + 1 < length s
+        → next < 2
+        → record { kind = byteAt s at; end = at + 1 + 1; past = false; short = true } ≡ stepOf s at
+    short-step whole small =
+        let ends : min (at + max next 2) (length s) ≡ at + 1 + 1 = omega arith in
+        rw (
+          ← sized-step n0 n1,
+          le-ltb (length s) (at + max next 2) (omega arith),
+          lt-ltb (at + 1) (length s) whole,
+          lt-ltb next 2 small,
+          ends,
+        )
+
+    pub past-step
+        : 2 ≤ next
+        → length s < at + next
+        → record { kind = byteAt s at; end = length s; past = true; short = false } ≡ stepOf s at
+    past-step large past =
+        let ends : min (at + max next 2) (length s) ≡ length s = omega arith in
+        rw (← sized-step n0 n1, lt-ltb (length s) (at + max next 2) (omega arith), le-ltb next 2 large, ends) (rw (and-false (ltb (at + 1) (length s))))
+
+    pub sound-step
+        : 2 ≤ next
+        → at + next ≤ length s
+        → record { kind = byteAt s at; end = at + next; past = false; short = false } ≡ stepOf s at
+    sound-step large fits =
+        let ends : min (at + max next 2) (length s) ≡ at + next = omega arith in
+        rw (← sized-step n0 n1, le-ltb (length s) (at + max next 2) (omega arith), le-ltb next 2 large, ends) (rw (and-false (ltb (at + 1) (length s))))

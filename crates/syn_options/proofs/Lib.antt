@@ -1,3 +1,5 @@
 pub mod Entries
+pub mod Readers
+pub mod Rows
 pub mod Unique
-pub mod Walk
+mod Walk
