@@ -1,6 +1,6 @@
 pub mod Observed
 pub mod Opening
-mod Stage
+pub mod Stage
 pub mod Parts
 pub mod Peer
 pub mod FirstRow

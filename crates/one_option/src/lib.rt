@@ -79,11 +79,12 @@ pub fn option_step(options: &[u8], at: usize) -> OptionStep
     if kind == NOP {
         return sound_step(kind, start);
     }
-    if all <= start {
-        return past_step(kind, all);
-    }
     let length = byte_at(options, start) as usize;
-    if length < 2 {
+    let end = at + length;
+    if (1 < length) & (end <= all) {
+        return sound_step(kind, end);
+    }
+    if (start < all) & (length < 2) {
         return OptionStep {
             kind,
             end: start + 1,
@@ -91,11 +92,7 @@ pub fn option_step(options: &[u8], at: usize) -> OptionStep
             short: true,
         };
     }
-    let end = at + length;
-    if all < end {
-        return past_step(kind, all);
-    }
-    sound_step(kind, end)
+    past_step(kind, all)
 }
 
 // ---- what it says

@@ -14,9 +14,8 @@ use Rattle.tcp.specs.declared.Layout.{Layout}
 use Rattle.quirks.specs.Named.{empty}
 use Rattle.syn_options.specs.declared.OptionsAnswer.the-variants as answer
 use Rattle.syn_options.specs.declared.OptionsRead.{OptionsRead}
-use Rattle.syn_options.specs.declared.Walked.{Walked}
 use Rattle.one_option.specs.Options.{Opt, asked, runsPast, optionsAfter, optionsOf}
-use Rattle.syn_options.specs.Walk.{putEntry, putOption, walkFrom, startWalk, walkOf, parsedOf, parseOptionsRaw, optionsRefusal}
+use Rattle.syn_options.specs.Walk.{Walked, putEntry, putOption, walkFrom, startWalk, walkOf, parsedOf, parseOptionsRaw, optionsRefusal}
 
 -- A string has no more options than bytes.
 pub options-few : (skip : ℕ) (s : List ℕ) → length (optionsAfter skip s) ≤ length s

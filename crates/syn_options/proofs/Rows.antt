@@ -12,31 +12,31 @@ use borrow.Author.Tests.{lt-ltb, le-ltb}
 use Rattle.quirks.specs.declared.QuirkSet.{QuirkSet}
 use Rattle.one_option.specs.Options.{Opt, runsPast, shortLength, optionsOf}
 use Rattle.one_option.proofs.Cut.{cut, options-cut}
-use Rattle.syn_options.specs.declared.Walked.{Walked}
 use Rattle.syn_options.specs.declared.Place.{Place}
 use Rattle.syn_options.specs.declared.Place.the-variants as place
 use Rattle.syn_options.specs.declared.Places.{Places}
 use Rattle.syn_options.specs.declared.StopBefore.{StopBefore}
 use Rattle.syn_options.specs.declared.OptionWalk.{OptionWalk}
-use Rattle.syn_options.specs.declared.OptionsAnswer.the-variants as answer
-use Rattle.syn_options.specs.Walk.{putOption, walkFrom, startWalk, walkOf}
+use Rattle.syn_options.specs.Walk.{Walked, putOption, walkFrom, startWalk, walkOf}
 use Rattle.syn_options.specs.Places.{sizeOf, firstFrom, noPlaces}
-use Rattle.syn_options.specs.Stops.{stopsBefore, stopped, walkUpTo, cameTo, walkTo, firstKnown}
+use Rattle.syn_options.specs.Stops.{stopsBefore, stopped, walkUpTo, walkWith, cameTo, walkTo}
 
 -- ---- the walk of a row
 
-abbrev pub given : Walked → Places → OptionWalk
-given w p = record { answer = answer.Parsed; walked = w; places = p }
+-- A place that is known stays; else an option with the damage gives it.
+unfoldable pub notedIf : Bool → Place → ℕ → Place
+notedIf damaged place.None at = cond damaged (place.At at) place.None
+notedIf damaged (place.At n) at = place.At n
 
 -- What is known of the places after one option more, which begins at a place.
 abbrev pub noted : Places → Opt → ℕ → Places
-noted p o at = record { past = firstKnown (p .past) (runsPast o) at; short = firstKnown (p .short) (shortLength o) at }
+noted p o at = record { past = notedIf (runsPast o) (p .past) at; short = notedIf (shortLength o) (p .short) at }
 
 unfoldable pub rowWalk : StopBefore → Bool → Walked → Places → ℕ → List Opt → OptionWalk
-rowWalk stop syn w p at [] = given w p
+rowWalk stop syn w p at [] = walkWith w p
 rowWalk stop syn w p at (o ∷ os) =
     cond (stopsBefore stop o)
-    (given (stopped w) (noted p o at))
+    (walkWith (stopped w) (noted p o at))
     (rowWalk stop syn (putOption syn w o) (noted p o at) (at + sizeOf o) os)
 
 -- ---- what it says of the options
@@ -104,33 +104,33 @@ row-cut test at (o ∷ os) =
 unfoldable notedFrom : (Opt → Bool) → (Opt → Bool) → Place → ℕ → List Opt → Place
 notedFrom stops test known at [] = known
 notedFrom stops test known at (o ∷ os) =
-    cond (stops o) (firstKnown known (test o) at) (notedFrom stops test (firstKnown known (test o) at) (at + sizeOf o) os)
+    cond (stops o) (notedIf (test o) known at) (notedFrom stops test (notedIf (test o) known at) (at + sizeOf o) os)
 
-row-given
+row-walkWith
     : (stop : StopBefore) (syn : Bool) (w : Walked) (p : Places) (at : ℕ) (os : List Opt)
     → rowWalk stop syn w p at os
-    ≡ given (stoppedAt (firstFrom (stopsBefore stop) at os) (walkFrom false syn w (before (stopsBefore stop) os)))
+    ≡ walkWith (stoppedAt (firstFrom (stopsBefore stop) at os) (walkFrom false syn w (before (stopsBefore stop) os)))
     (record {
       past = notedFrom (stopsBefore stop) runsPast (p .past) at os;
       short = notedFrom (stopsBefore stop) shortLength (p .short) at os;
     })
 unfolding rowWalk firstFrom before notedFrom walkFrom
-row-given stop syn w p at [] = refl
-row-given stop syn w p at (o ∷ os) =
-    by-test (stopsBefore stop o) _ _ _ _ _ (row-given stop syn (putOption syn w o) (noted p o at) (at + sizeOf o) os)
+row-walkWith stop syn w p at [] = refl
+row-walkWith stop syn w p at (o ∷ os) =
+    by-test (stopsBefore stop o) _ _ _ _ _ (row-walkWith stop syn (putOption syn w o) (noted p o at) (at + sizeOf o) os)
   where
     by-test
         : (t : Bool) (rest : OptionWalk) (later : Place) (ahead : List Opt) (past short : Place)
-        → rest ≡ given (stoppedAt later (walkFrom false syn (putOption syn w o) ahead)) (record { past = past; short = short })
-        → cond t (given (stopped w) (noted p o at)) rest
-        ≡ given (stoppedAt (cond t (place.At at) later) (walkFrom false syn w (cond t [] (o ∷ ahead))))
+        → rest ≡ walkWith (stoppedAt later (walkFrom false syn (putOption syn w o) ahead)) (record { past = past; short = short })
+        → cond t (walkWith (stopped w) (noted p o at)) rest
+        ≡ walkWith (stoppedAt (cond t (place.At at) later) (walkFrom false syn w (cond t [] (o ∷ ahead))))
         (record { past = cond t (noted p o at .past) past; short = cond t (noted p o at .short) short })
     by-test true rest later ahead past short h = refl
     by-test false rest later ahead past short h = h
 
 module _ (stops test : Opt → Bool) where
   known-stays : (n at : ℕ) (os : List Opt) → notedFrom stops test (place.At n) at os ≡ place.At n
-  unfolding notedFrom firstKnown
+  unfolding notedFrom notedIf
   known-stays n at [] = refl
   known-stays n at (o ∷ os) = by-test (stops o) (known-stays n (at + sizeOf o) os)
     where
@@ -142,7 +142,7 @@ module _ (stops test : Opt → Bool) where
       by-test false h = h
 
   came-to : (at : ℕ) (os : List Opt) → notedFrom stops test place.None at os ≡ cameTo (firstFrom stops at os) (firstFrom test at os)
-  unfolding notedFrom firstFrom firstKnown cameTo
+  unfolding notedFrom firstFrom notedIf cameTo
   came-to at [] = refl
   came-to at (o ∷ os) =
       by-tests (stops o) (test o) (firstFrom stops (at + sizeOf o) os) (firstFrom test (at + sizeOf o) os)
@@ -191,5 +191,5 @@ unfolding walkTo
 row-is-walk stop syn quirks s h =
     let stops = stopsBefore stop in
     let os = optionsOf s in
-    row-given stop syn (startWalk quirks) noPlaces 0 os
+    row-walkWith stop syn (startWalk quirks) noPlaces 0 os
     ∙ rw (← row-cut stops 0 os, came-to stops runsPast 0 os, came-to stops shortLength 0 os, up-to syn quirks s h (firstFrom stops 0 os))

@@ -11,9 +11,11 @@ use Rattle.quirks.specs.declared.QuirkSet.{QuirkSet}
 use Rattle.syn_options.specs.declared.OptionWalk.{OptionWalk}
 use Rattle.syn_options.specs.declared.OptionsRead.{OptionsRead}
 use Rattle.syn_options.specs.declared.StopBefore.{StopBefore}
-use Rattle.syn_options.specs.Stops.{walkOptions}
+use Rattle.syn_options.specs.declared.WalkRead.{WalkRead}
+use Rattle.syn_options.specs.Stops.{readOptions, walkOptions}
 use Rattle.syn_options.specs.Walk.{parseOptionsRaw}
 use Rattle.syn_options.proofs.parse_options_raw.Reads as parse-options-raw'
+use Rattle.syn_options.proofs.read_options.Reads as read-options'
 use Rattle.syn_options.proofs.walk_options.Reads as walk-options'
 
 pub walk-options-one
@@ -21,6 +23,11 @@ pub walk-options-one
     → ExactlyOne OptionWalk
     (λ (r : OptionWalk). walk-options'.Post κs (options, (stop, (syn, (quirks, tt)))) r (options, (stop, (syn, (quirks, tt)))))
 walk-options-one κs options stop syn quirks = equation (walkOptions stop syn quirks (now options))
+
+pub read-options-one
+    : (κs : Lfts 1) (buf : RefT (List ℕ)) (stop : StopBefore) (syn : Bool) (quirks : QuirkSet)
+    → ExactlyOne WalkRead (λ (r : WalkRead). read-options'.Post κs (buf, (stop, (syn, (quirks, tt)))) r (buf, (stop, (syn, (quirks, tt)))))
+read-options-one κs buf stop syn quirks = equation (readOptions stop syn quirks (now buf))
 
 pub parse-options-raw-one
     : (κs : Lfts 1) (buf : RefT (List ℕ))

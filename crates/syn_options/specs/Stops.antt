@@ -9,15 +9,15 @@ use Rattle.quirks.specs.declared.Quirk.the-variants as quirk
 use Rattle.quirks.specs.declared.QuirkSet.{QuirkSet}
 use Rattle.quirks.specs.Quirks.{with}
 use Rattle.quirks.specs.Named.{empty}
-use Rattle.syn_options.specs.declared.Walked.{Walked}
 use Rattle.syn_options.specs.declared.Place.{Place}
 use Rattle.syn_options.specs.declared.Place.the-variants as place
 use Rattle.syn_options.specs.declared.StopBefore.{StopBefore}
+use Rattle.syn_options.specs.declared.Places.{Places}
 use Rattle.syn_options.specs.declared.OptionWalk.{OptionWalk}
+use Rattle.syn_options.specs.declared.WalkRead.{WalkRead}
 use Rattle.syn_options.specs.declared.OptionsAnswer.the-variants as answer
-use Rattle.one_option.specs.declared.OptionStep.{OptionStep}
 use Rattle.one_option.specs.Options.{Opt, runsPast, shortLength}
-use Rattle.syn_options.specs.Walk.{startWalk, walkOf}
+use Rattle.syn_options.specs.Walk.{Walked, startWalk, walkOf}
 use Rattle.syn_options.specs.Places.{firstOf, placesOf, noPlaces}
 
 -- ---- which options a walk stops before
@@ -51,6 +51,13 @@ unfoldable pub walkUpTo : Place → Bool → QuirkSet → List ℕ → Walked
 walkUpTo place.None syn quirks s = walkOf false syn quirks s
 walkUpTo (place.At k) syn quirks s = stopped (walkOf false syn quirks (take k s))
 
+-- What the walk says, and the places with it.
+abbrev pub walkWith : Walked → Places → OptionWalk
+walkWith w places = record { olayout = w .olayout; seen = w .seen; malformed = w .malformed; places = places }
+
+abbrev pub walkedOf : OptionWalk → Walked
+walkedOf walk = record { olayout = walk .olayout; seen = walk .seen; malformed = walk .malformed }
+
 -- A place that the walk comes to: not behind the one where it stops.
 unfoldable pub cameTo : Place → Place → Place
 cameTo place.None found = found
@@ -60,29 +67,28 @@ cameTo (place.At k) (place.At n) = cond (ltb k n) place.None (place.At n)
 -- The walk of a string, stopping at a place.
 abbrev pub walkStopping : Place → Bool → QuirkSet → List ℕ → OptionWalk
 walkStopping stop syn quirks s =
-    record {
-      answer = answer.Parsed;
-      walked = walkUpTo stop syn quirks s;
-      places = record { past = cameTo stop (placesOf s .past); short = cameTo stop (placesOf s .short) };
-    }
+    walkWith (walkUpTo stop syn quirks s)
+    (record { past = cameTo stop (placesOf s .past); short = cameTo stop (placesOf s .short) })
 
 -- The walk that stops before the first of these options.
 unfoldable pub walkTo : StopBefore → Bool → QuirkSet → List ℕ → OptionWalk
 walkTo stop syn quirks s = walkStopping (firstOf (stopsBefore stop) s) syn quirks s
 
--- "Over 40 bytes the walk refuses 8, as the string reader does"; a refusal gives nothing: beside it stands an empty walk.
-abbrev pub refusedWalk : OptionWalk
-refusedWalk = record { answer = answer.Refused; walked = startWalk empty; places = noPlaces }
-
+-- The walk of a string, of which at most forty bytes are options: a data offset gives no more.
 unfoldable pub walkOptions : StopBefore → Bool → QuirkSet → List ℕ → OptionWalk
-walkOptions stop syn quirks s = cond (ltb 40 (length s)) refusedWalk (walkTo stop syn quirks s)
+walkOptions stop syn quirks s = walkTo stop syn quirks (take 40 s)
 
--- ---- one option, in places of the string
+-- A string by itself: "Over 40 bytes the walk refuses 8, as the string reader does". A refusal gives nothing: beside it stands an empty walk.
+abbrev pub refusedWalk : WalkRead
+refusedWalk = record { answer = answer.Refused; walk = walkWith (startWalk empty) noPlaces }
 
-abbrev pub stopsAt : StopBefore → OptionStep → Bool
-stopsAt stop step = stop .past && step .past || stop .short && step .short
+unfoldable pub readOptions : StopBefore → Bool → QuirkSet → List ℕ → WalkRead
+readOptions stop syn quirks s =
+    cond (ltb 40 (length s)) refusedWalk (record { answer = answer.Parsed; walk = walkOptions stop syn quirks s })
 
--- A place that is known stays; else an option with the damage gives it.
-unfoldable pub firstKnown : Place → Bool → ℕ → Place
-firstKnown place.None damaged at = cond damaged (place.At at) place.None
-firstKnown (place.At n) damaged at = place.At n
+-- ---- a place while the walk goes on
+
+-- A place that is known stays.
+unfoldable pub firstKnown : Place → ℕ → Place
+firstKnown place.None at = place.At at
+firstKnown (place.At n) at = place.At n

@@ -1,10 +1,12 @@
-// syn_options.rs, and the option walk of flow.rs: one walk, which stops before an option that runs past the end or goes on
-// after clipping it.
+// syn_options.rs, and the option walk of flow.rs: one walk, which goes on behind damaged options or stops before them, and gives their
+// places.
 ghost use mathlib.Core.Path.{_≡_};
 ghost use Prim.Native.Nat.{_<_, _≤_};
 ghost use lib.ListN.{length};
-ghost use Rattle.syn_options.specs.Stops.{stopsAt, firstKnown, walkTo, walkOptions};
-ghost use Rattle.syn_options.specs.Walk.{StepInside, entryByte, parsedOf, parseOptionsRaw};
+ghost use Rattle.quirks.specs.Named.{empty};
+ghost use Rattle.syn_options.specs.Stops.{walkedOf, firstKnown, walkTo, walkOptions, readOptions};
+ghost use Rattle.syn_options.specs.Walk.{StepInside, startWalk, parsedOf, parseOptionsRaw};
+use numbers::least;
 use one_option::OptionStep;
 use one_option::Seen;
 use one_option::later_mss;
@@ -22,14 +24,6 @@ const EOL: u8 = 0;
 
 // The most bytes that options take: a data offset of 15 words, less the header's five.
 const MOST_OPTIONS: usize = 40;
-
-// What a walk says of the options.
-pub struct Walked {
-    pub olayout: Layout,
-    pub seen: Seen,
-    // It stopped before an option.
-    pub malformed: bool,
-}
 
 // The place of an option: the offset of its kind byte in the string, from 0.
 pub enum Place {
@@ -69,11 +63,12 @@ impl StopBefore {
     };
 }
 
-// What a walk gives: what it says of the options, and the places of damage that it came to. A string over forty bytes is refused (number
-// 8), with nothing beside.
+// What a walk gives: what it says of the options, and the places of damage that it came to.
 pub struct OptionWalk {
-    pub answer: OptionsAnswer,
-    pub walked: Walked,
+    pub olayout: Layout,
+    pub seen: Seen,
+    // It stopped before an option.
+    pub malformed: bool,
     pub places: Places,
 }
 
@@ -85,10 +80,15 @@ pub struct ParsedTcpOptions {
     pub malformed: bool,
 }
 
-// An option string is parsed, or refused (number 8) with empty options beside.
+// An option string is parsed, or refused (number 8) with empty options, or an empty walk, beside.
 pub enum OptionsAnswer {
     Parsed,
     Refused,
+}
+
+pub struct WalkRead {
+    pub answer: OptionsAnswer,
+    pub walk: OptionWalk,
 }
 
 pub struct OptionsRead {
@@ -98,13 +98,6 @@ pub struct OptionsRead {
 
 // ---- the walk
 
-fn entry_byte(kind: u8, left: usize) -> u8
-    requires { ⌜ left ≤ 40 ⌝ }
-    ensures { λ r. ⌜ r ≡ entryByte kind left ⌝ }
-{
-    if kind == EOL { left as u8 } else { 0 }
-}
-
 // The option at a place of the string: it ends behind its kind byte, and within the string.
 fn step_inside(options: &[u8], at: usize) -> OptionStep
     requires { ⌜ at < length (now options) ⌝ }
@@ -113,129 +106,148 @@ fn step_inside(options: &[u8], at: usize) -> OptionStep
     option_step(options, at)
 }
 
-fn stops(stop: StopBefore, step: OptionStep) -> bool
-    ensures { λ r. ⌜ r ≡ stopsAt stop step ⌝ }
+// A place that is known stays.
+fn first_place(known: Place, at: usize) -> Place
+    ensures { λ r. ⌜ r ≡ firstKnown known at ⌝ }
 {
-    (stop.past & step.past) | (stop.short & step.short)
-}
-
-// A place that is known stays; else an option with the damage gives it.
-fn first_place(known: Place, damaged: bool, at: usize) -> Place
-    ensures { λ r. ⌜ r ≡ firstKnown known damaged at ⌝ }
-{
-    if damaged {
-        return match known {
-            Place::None => Place::At(at),
-            Place::At(first) => Place::At(first),
-        };
+    match known {
+        Place::None => Place::At(at),
+        Place::At(first) => Place::At(first),
     }
-    known
 }
 
-// The walk of at most forty bytes. Each option fills one entry of the layout, so that the entries never outnumber the bytes.
-// MSS, scale and quirks are variables of their own: one struct of them is packed and unpacked at every turn (30 instructions). All that
-// damage asks for stands behind one test, which sound options pass over.
+fn empty_layout() -> Layout
+    ensures { λ r. ⌜ r ≡ startWalk empty .olayout ⌝ }
+{
+    Layout {
+        kinds: [0u8; 40],
+        bytes: [0u8; 40],
+        count: 0,
+    }
+}
+
+fn seen_of(mss: Mss, wscale: Wscale, quirks: QuirkSet) -> Seen
+    ensures { λ r. ⌜ r ≡ record { mss = mss; wscale = wscale; quirks = quirks } ⌝ }
+{
+    Seen {
+        mss,
+        wscale,
+        quirks,
+    }
+}
+
+fn places_of(past: Place, short: Place) -> Places
+    ensures { λ r. ⌜ r ≡ record { past = past; short = short } ⌝ }
+{
+    Places { past, short }
+}
+
+// The walk of at most forty bytes. Each option fills one entry of the layout, so that the entries never outnumber the bytes; its byte is 0
+// already but for an end-of-options. MSS, scale and quirks are variables of their own: one struct of them is packed and unpacked at every
+// turn (30 instructions). A walk that stops returns from where it does, and the entry is written last (docs/DECISIONS.md, 89).
 fn walk_part(options: &[u8], stop: StopBefore, syn: bool, quirks: QuirkSet) -> OptionWalk
     requires { ⌜ length (now options) ≤ 40 ⌝ }
     ensures { λ r. ⌜ r ≡ walkTo stop syn quirks (now (options .entry)) ⌝ }
 {
-    let mut olayout = Layout {
-        kinds: [0u8; 40],
-        bytes: [0u8; 40],
-        count: 0,
-    };
+    let mut olayout = empty_layout();
     let mut count = 0;
     let mut mss = Mss::Absent;
     let mut wscale = Wscale::Absent;
     let mut shown = quirks;
-    let mut malformed = false;
     let mut past = Place::None;
     let mut short = Place::None;
     let mut at = 0;
     while at < options.len() {
         let step = step_inside(options, at);
-        if step.past | step.short {
-            past = first_place(past, step.past, at);
-            short = first_place(short, step.short, at);
-            if stops(stop, step) {
-                shown = shown.insert(Quirk::OptBad);
-                malformed = true;
-                break;
+        if step.past {
+            past = first_place(past, at);
+            if stop.past {
+                olayout.count = count;
+                return OptionWalk {
+                    olayout,
+                    seen: seen_of(mss, wscale, shown.insert(Quirk::OptBad)),
+                    malformed: true,
+                    places: places_of(past, short),
+                };
+            }
+        }
+        if step.short {
+            short = first_place(short, at);
+            if stop.short {
+                olayout.count = count;
+                return OptionWalk {
+                    olayout,
+                    seen: seen_of(mss, wscale, shown.insert(Quirk::OptBad)),
+                    malformed: true,
+                    places: places_of(past, short),
+                };
             }
         }
         let start = at + 1;
         let end = step.end;
-        olayout.kinds[count] = step.kind;
-        olayout.bytes[count] = entry_byte(step.kind, end - start);
-        count += 1;
         let own = &options[start..end];
         mss = later_mss(step.kind, own, mss);
         wscale = later_scale(step.kind, own, wscale);
         shown = later_quirks(step.kind, own, syn, shown);
+        olayout.kinds[count] = step.kind;
+        if step.kind == EOL {
+            olayout.bytes[count] = (end - start) as u8;
+        }
+        count += 1;
         at = end;
     }
     olayout.count = count;
     OptionWalk {
-        answer: OptionsAnswer::Parsed,
-        walked: Walked {
-            olayout,
-            seen: Seen {
-                mss,
-                wscale,
-                quirks: shown,
-            },
-            malformed,
-        },
-        places: Places {
-            past,
-            short,
-        },
+        olayout,
+        seen: seen_of(mss, wscale, shown),
+        malformed: false,
+        places: places_of(past, short),
     }
 }
 
-// The walk of an option string; refusal 8 over forty bytes.
+// The walk of an option string, of which no more than forty bytes are read.
 pub fn walk_options(options: &[u8], stop: StopBefore, syn: bool, quirks: QuirkSet) -> OptionWalk
     ensures { λ r. ⌜ r ≡ walkOptions stop syn quirks (now (options .entry)) ⌝ }
 {
-    if MOST_OPTIONS < options.len() {
-        return OptionWalk {
+    let end = least(options.len(), MOST_OPTIONS);
+    walk_part(&options[0..end], stop, syn, quirks)
+}
+
+// The walk of an option string by itself; refusal 8 over forty bytes.
+pub fn read_options(buf: &[u8], stop: StopBefore, syn: bool, quirks: QuirkSet) -> WalkRead
+    ensures { λ r. ⌜ r ≡ readOptions stop syn quirks (now (buf .entry)) ⌝ }
+{
+    if MOST_OPTIONS < buf.len() {
+        return WalkRead {
             answer: OptionsAnswer::Refused,
-            walked: Walked {
-                olayout: Layout {
-                    kinds: [0u8; 40],
-                    bytes: [0u8; 40],
-                    count: 0,
-                },
-                seen: Seen {
-                    mss: Mss::Absent,
-                    wscale: Wscale::Absent,
-                    quirks: QuirkSet::EMPTY,
-                },
+            walk: OptionWalk {
+                olayout: empty_layout(),
+                seen: seen_of(Mss::Absent, Wscale::Absent, QuirkSet::EMPTY),
                 malformed: false,
-            },
-            places: Places {
-                past: Place::None,
-                short: Place::None,
+                places: places_of(Place::None, Place::None),
             },
         };
     }
-    walk_part(options, stop, syn, quirks)
+    WalkRead {
+        answer: OptionsAnswer::Parsed,
+        walk: walk_options(buf, stop, syn, quirks),
+    }
 }
 
 // ---- parse_options_raw
 
-fn parsed(walked: Walked) -> ParsedTcpOptions
-    ensures { λ r. ⌜ r ≡ parsedOf walked ⌝ }
+fn parsed(walk: OptionWalk) -> ParsedTcpOptions
+    ensures { λ r. ⌜ r ≡ parsedOf (walkedOf walk) ⌝ }
 {
-    let olayout = walked.olayout;
-    let seen = walked.seen;
+    let olayout = walk.olayout;
+    let seen = walk.seen;
     let mss = seen.mss;
     let wscale = seen.wscale;
     ParsedTcpOptions {
         olayout,
         mss,
         wscale,
-        malformed: walked.malformed,
+        malformed: walk.malformed,
     }
 }
 
@@ -243,11 +255,11 @@ fn parsed(walked: Walked) -> ParsedTcpOptions
 pub fn parse_options_raw(buf: &[u8]) -> OptionsRead
     ensures { λ r. ⌜ r ≡ parseOptionsRaw (now (buf .entry)) ⌝ }
 {
-    let walk = walk_options(buf, StopBefore::PAST, false, QuirkSet::EMPTY);
-    let answer = walk.answer;
-    let walked = walk.walked;
+    let read = read_options(buf, StopBefore::PAST, false, QuirkSet::EMPTY);
+    let answer = read.answer;
+    let walk = read.walk;
     OptionsRead {
         answer,
-        options: parsed(walked),
+        options: parsed(walk),
     }
 }

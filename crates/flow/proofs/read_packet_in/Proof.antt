@@ -81,7 +81,7 @@ returns-3 c =
       at-type .tcp-type .ensures,
       read-on (a .mode) _ _ (a .peer-mss) _ handed (at-header .header-bytes .ensures) kept,
     )
-    (opening-read (facts .given .0 .0) _ _ (omega arith) (rw (← at-type .tcp-type .ensures) (c .before .before .if2 .taken)))
+    (opening-read _ _ _ (omega arith) (rw (← at-type .tcp-type .ensures) (c .before .before .if2 .taken)))
 
 returns-4 : tie.Need-returns-4
 returns-4 c =

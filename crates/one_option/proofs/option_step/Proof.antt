@@ -1,8 +1,7 @@
 -- `one_option::option_step` meets its contract.
 use mathlib.Core.Path.{_≡_, sym, _∙_}
-use native.Mathlib.Omega.{arith}
 use Rattle.basis.specs.Bytes.{byteAt}
-use Rattle.one_option.proofs.Options.{inside-nonzero, last-step, nop-step, cut-step, short-step, past-step, sound-step}
+use Rattle.one_option.proofs.Options.{inside-nonzero, last-step, nop-step, sound-step, short-step, past-step}
 use borrow.Author.Needs.{needs}
 use Rattle.one_option.proofs.option_step.Statement.{statement}
 use Rattle.one_option.proofs.option_step.Tie as tie
@@ -33,14 +32,31 @@ returns-2 c =
 
 -- ---- an option with a length byte
 
+add-end : tie.Need-add-end
+add-end c =
+    let a = c .before .before .before .before .before .args in
+    let kind = c .before .before .before .byte-at in
+    let inside = inside-nonzero (a .options .now) (a .at) (λ e. c .before .before .if1 .left (kind .ensures ∙ e)) in
+    search needs
+
 returns-3 : tie.Need-returns-3
 returns-3 c =
-    let a = c .before .before .before .before .before .before .args in
-    let kind = c .before .before .before .before .byte-at in
-    let some : byteAt (a .options .now) (a .at) ≡ 0 → ⊥ = λ e. c .before .before .before .if1 .left (kind .ensures ∙ e) in
-    let other : byteAt (a .options .now) (a .at) ≡ 1 → ⊥ = λ e. c .before .before .if2 .left (kind .ensures ∙ e) in
-    rw (c .past-step .ensures, kind .ensures)
-    (cut-step (a .options .now) (a .at) (inside-nonzero (a .options .now) (a .at) some) some other (c .before .if3 .taken))
+    let at-length = c .before .before in
+    let a = at-length .before .before .before .before .before .args in
+    let kind = at-length .before .before .before .byte-at in
+    let some : byteAt (a .options .now) (a .at) ≡ 0 → ⊥ = λ e. at-length .before .before .if1 .left (kind .ensures ∙ e) in
+    let other : byteAt (a .options .now) (a .at) ≡ 1 → ⊥ = λ e. at-length .before .if2 .left (kind .ensures ∙ e) in
+    rw (c .sound-step3 .ensures, kind .ensures, at-length .byte-at2 .ensures)
+    (sound-step (a .options .now) (a .at) (inside-nonzero (a .options .now) (a .at) some) some other
+    (rw (← at-length .byte-at2 .ensures) (c .before .if3 .taken)))
+
+add-t12 : tie.Need-add-t12
+add-t12 c =
+    let at-length = c .before .before in
+    let a = at-length .before .before .before .before .before .args in
+    let kind = at-length .before .before .before .byte-at in
+    let inside = inside-nonzero (a .options .now) (a .at) (λ e. at-length .before .before .if1 .left (kind .ensures ∙ e)) in
+    search needs
 
 returns-4 : tie.Need-returns-4
 returns-4 c =
@@ -51,35 +67,22 @@ returns-4 c =
     let other : byteAt (a .options .now) (a .at) ≡ 1 → ⊥ = λ e. at-length .before .if2 .left (kind .ensures ∙ e) in
     rw (kind .ensures)
     (short-step (a .options .now) (a .at) (inside-nonzero (a .options .now) (a .at) some) some other
-    (omega (arith, at-length .if3 .left)) (omega (arith, c .if4 .taken, c .before .byte-at2 .ensures)))
+    (rw (← at-length .byte-at2 .ensures) (c .if4 .taken)))
 
 returns-5 : tie.Need-returns-5
 returns-5 c =
-    let at-length = c .before .before .before .before in
+    let at-length = c .before .before .before in
     let a = at-length .before .before .before .before .before .args in
     let kind = at-length .before .before .before .byte-at in
-    let length-byte = c .before .before .before .byte-at2 .ensures in
     let some : byteAt (a .options .now) (a .at) ≡ 0 → ⊥ = λ e. at-length .before .before .if1 .left (kind .ensures ∙ e) in
     let other : byteAt (a .options .now) (a .at) ≡ 1 → ⊥ = λ e. at-length .before .if2 .left (kind .ensures ∙ e) in
-    rw (c .past-step2 .ensures, kind .ensures)
+    rw (c .past-step .ensures, kind .ensures)
     (past-step (a .options .now) (a .at) (inside-nonzero (a .options .now) (a .at) some) some other
-    (omega (arith, c .before .before .if4 .left, length-byte)) (omega (arith, c .before .if5 .taken, length-byte)))
-
-returns-6 : tie.Need-returns-6
-returns-6 c =
-    let at-length = c .before .before .before .before in
-    let a = at-length .before .before .before .before .before .args in
-    let kind = at-length .before .before .before .byte-at in
-    let length-byte = c .before .before .before .byte-at2 .ensures in
-    let some : byteAt (a .options .now) (a .at) ≡ 0 → ⊥ = λ e. at-length .before .before .if1 .left (kind .ensures ∙ e) in
-    let other : byteAt (a .options .now) (a .at) ≡ 1 → ⊥ = λ e. at-length .before .if2 .left (kind .ensures ∙ e) in
-    rw (c .sound-step3 .ensures, kind .ensures, length-byte)
-    (sound-step (a .options .now) (a .at) (inside-nonzero (a .options .now) (a .at) some) some other
-    (omega (arith, c .before .before .if4 .left, length-byte)) (omega (arith, c .before .if5 .left, length-byte)))
+    (rw (← at-length .byte-at2 .ensures) (c .before .before .if3 .left)) (rw (← at-length .byte-at2 .ensures) (c .before .if4 .left)))
 
 pub option-step-spec : {M : Type 1} → statement M
 option-step-spec =
     tie.close
     (tie.spec (λ c κs. search needs) (λ c κs. search needs) returns add-start (λ c κs. search needs) returns-2
-    (λ c κs. search needs) returns-3 (λ c κs. search needs) (λ c. search needs) (λ c. search needs) returns-4 (λ c. search needs)
-    (λ c κs. search needs) returns-5 (λ c κs. search needs) returns-6)
+    (λ c κs. search needs) (λ c. search needs) add-end (λ c κs. search needs) returns-3 add-t12 returns-4
+    (λ c κs. search needs) returns-5)

@@ -7,7 +7,7 @@ use Rattle.syn_options.proofs.parse_options_raw.Tie as tie
 
 returns : tie.Need-returns
 returns c =
-    rw (c .parsed .ensures, c .before .before .walk-options .ensures, ← empty-bits)
+    rw (c .parsed .ensures, c .before .before .read-options .ensures, ← empty-bits)
     (parsed-of-walk (c .before .before .before .before .args .buf .now))
 
 pub parse-options-raw-spec : {M : Type 1} → statement M
