@@ -9,10 +9,9 @@ use native.Mathlib.Decide.{decLe}
 use lib.ListN.{length}
 use Rattle.basis.specs.Bytes.{byteAt, be32}
 use Rattle.one_option.specs.declared.Seen.{Seen}
-use Rattle.syn_options.specs.declared.Walked.{Walked}
 use Rattle.one_option.specs.Options.{Opt, asked, runsPast}
 use Rattle.one_option.specs.See.{seeOption}
-use Rattle.syn_options.specs.Walk.{entryByte, putEntry, putOption, walkFrom}
+use Rattle.syn_options.specs.Walk.{Walked, entryByte, putEntry, putOption, walkFrom}
 use Rattle.one_option.proofs.See.{opt, stamps-none, stamps-own, stamps-both}
 use Rattle.alike.specs.Free.{ZeroAlike}
 use Rattle.alike.specs.Options.{AlikeStamps, AlikeOption, AlikeRow}

@@ -8,8 +8,7 @@ use Rattle.quirks.specs.declared.QuirkSet.{QuirkSet}
 use Rattle.rfc.specs.Rfc9293 as tcp
 use Rattle.tcp.specs.declared.Mss.{Mss}
 use Rattle.tcp.specs.declared.Mss.the-variants as mss
-use Rattle.syn_options.specs.declared.Walked.{Walked}
-use Rattle.syn_options.specs.Walk.{walkOf}
+use Rattle.syn_options.specs.Walk.{Walked, walkOf}
 use Rattle.ip.specs.declared.IpFacts.{IpFacts}
 use Rattle.flow.specs.Tcp.{quirksOfHeaders, payloadClass, observationOf, observationFrom, knownPeer, readTcp}
 use Rattle.tcp_header.specs.HeaderQuirks.{headerQuirks}

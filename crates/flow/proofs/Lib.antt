@@ -5,3 +5,4 @@ pub mod Parts
 pub mod Peer
 pub mod FirstRow
 pub mod Unique
+pub mod Walks

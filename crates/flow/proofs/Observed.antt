@@ -13,10 +13,9 @@ use Rattle.tcp.specs.declared.Mss.the-variants as mss
 use Rattle.observable.specs.declared.TcpObservation.{TcpObservation}
 use Rattle.observable.specs.Observation.{emptyLayout, emptyObservation}
 use Rattle.rfc.specs.Rfc9293.{control, options}
-use Rattle.syn_options.specs.declared.Walked.{Walked}
 use Rattle.one_option.specs.Options.{Opt, runsPast, optionsOf}
 use Rattle.one_option.specs.See.{laterQuirks, seeOption}
-use Rattle.syn_options.specs.Walk.{putOption, walkFrom, startWalk, walkOf}
+use Rattle.syn_options.specs.Walk.{Walked, putOption, walkFrom, startWalk, walkOf}
 use Rattle.syn_options.proofs.Entries.{Tidy, at-most-forty, past-count, zero-row}
 use Rattle.ip.specs.declared.IpFacts.{IpFacts}
 use Rattle.ip.specs.declared.IpRead.{IpRead}

@@ -9,8 +9,7 @@ use Rattle.tcp.specs.declared.Mss.{Mss}
 use Rattle.tcp.specs.declared.Mss.the-variants as mss
 use Rattle.observable.specs.declared.TcpObservation.{TcpObservation}
 use Rattle.observable.specs.Observation.{emptyObservation}
-use Rattle.syn_options.specs.Places.{firstOf}
-use Rattle.syn_options.specs.Stops.{damage, stopsBefore, walkUpTo}
+use Rattle.syn_options.specs.Stops.{damage, walkedOf, walkOptions}
 use Rattle.ip.specs.declared.IpFacts.{IpFacts}
 use Rattle.refusals.specs.declared.PacketRefusal.the-variants as refusal
 use Rattle.tcp_header.specs.Flags.{flagsInvalid, isSynType, isSynAckType}
@@ -26,7 +25,7 @@ contradictsItself t = ltb (tcp.dataOffset t) 5 || ltb (length t) (4 * tcp.dataOf
 -- the walk says ends there; all else, payload class and `tot_hdr` among it, is by the header as in document 01.
 unfoldable pub strictObservation : IpFacts → List ℕ → Bool → Mss → TcpObservation
 strictObservation f t syn peer =
-    observationOf f t (walkUpTo (firstOf (stopsBefore damage) (tcp.options t)) syn (quirksOfHeaders t (f .quirks)) (tcp.options t)) peer
+    observationOf f t (walkedOf (walkOptions damage syn (quirksOfHeaders t (f .quirks)) (tcp.options t))) peer
 
 -- Document 01's TCP stage (`readTcp`) with an observation of one's own in place of its `observationFrom f t`.
 unfoldable pub readTcpBy : (Bool → Mss → TcpObservation) → List ℕ → Mss → Reading
