@@ -1,3 +1,4 @@
+pub mod Begins
 pub mod Cut
 pub mod Options
 pub mod See

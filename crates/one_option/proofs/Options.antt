@@ -37,15 +37,15 @@ take-clipped (suc k) (b ∷ s) = rw suc-min-suc (ap (_∷_ b) (take-clipped k s)
 -- ---- what an option asks for, kind by kind
 
 module _ (kind : ℕ) (rest : List ℕ) where
-  asked-last : kind ≡ 0 → asked kind rest ≡ length rest
+  pub asked-last : kind ≡ 0 → asked kind rest ≡ length rest
   unfolding asked
   asked-last e = rw e
 
-  asked-nop : kind ≡ 1 → asked kind rest ≡ 0
+  pub asked-nop : kind ≡ 1 → asked kind rest ≡ 0
   unfolding asked
   asked-nop e = rw e
 
-  asked-sized : (kind ≡ 0 → ⊥) → (kind ≡ 1 → ⊥) → asked kind rest ≡ max (byteAt rest 0) 2 - 1
+  pub asked-sized : (kind ≡ 0 → ⊥) → (kind ≡ 1 → ⊥) → asked kind rest ≡ max (byteAt rest 0) 2 - 1
   unfolding asked
   asked-sized n0 n1 = rw (ne-eqb kind 0 n0, ne-eqb kind 1 n1)
 

@@ -1,5 +1,7 @@
 pub mod Entries
+pub mod First
 pub mod Readers
 pub mod Rows
+pub mod Strict
 pub mod Unique
-mod Walk
+pub mod Walk

@@ -2,7 +2,7 @@
 -- length byte is 0 or 1". A place is the offset of the option's kind byte, from 0; that there is none is a case of its own. What begins at
 -- an offset is said by `OptionBegins` (crate `one_option`); that these are the first places in that sense is a theorem (`TheFirst`, below).
 use mathlib.Core.Path.{_≡_}
-use Prim.Native.Nat.{ℕ, suc, _+_, _≤_}
+use Prim.Native.Nat.{ℕ, suc, _+_, _≤_, min}
 use mathlib.Core.Bool.{Bool, true, false, cond}
 use mathlib.Core.List.{List, [], _∷_}
 use lib.ListN.{length}
@@ -29,6 +29,12 @@ placesOf s = record { past = firstOf runsPast s; short = firstOf shortLength s }
 
 abbrev pub noPlaces : Places
 noPlaces = record { past = place.None; short = place.None }
+
+-- The earlier of two places.
+unfoldable pub earlier : Place → Place → Place
+earlier place.None other = other
+earlier (place.At m) place.None = place.At m
+earlier (place.At m) (place.At n) = place.At (min m n)
 
 -- ---- what the first place is
 
