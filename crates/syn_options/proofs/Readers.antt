@@ -6,7 +6,7 @@ use Prim.Native.Nat.{ℕ, _+_, _≤_}
 use native.Mathlib.Omega.{arith}
 use lib.Dec.{ltb}
 use lib.ListN.{length, take, length-take}
-use lib.Seq.{take-take}
+use lib.Seq.{take-all, take-take}
 use Rattle.quirks.specs.declared.QuirkSet.{QuirkSet}
 use Rattle.quirks.specs.Named.{empty}
 use Rattle.one_option.specs.Options.{Opt, runsPast, shortLength, optionsOf}
@@ -63,6 +63,22 @@ unfolding walkOptions walkOf
 string-walk syn quirks s =
     let few : length (take 40 s) ≤ 40 = rw length-take (omega arith) in
     rw (← row-is-walk pastTheEnd syn quirks (take 40 s) few) (string-row syn (startWalk quirks) noPlaces 0 (optionsOf (take 40 s)))
+
+-- It stops at the first option past the end: so the answer is the walk of the bytes before it.
+past-stops : (at : ℕ) (os : List Opt) → firstFrom (stopsBefore pastTheEnd) at os ≡ firstFrom runsPast at os
+unfolding firstFrom stopsBefore
+past-stops at [] = refl
+past-stops at (o ∷ os) = by-test (runsPast o) _ _ (past-stops (at + sizeOf o) os)
+  where
+    by-test : (t : Bool) (a b : Place) → a ≡ b → cond (t || false) (place.At at) a ≡ cond t (place.At at) b
+    by-test true a b h = refl
+    by-test false a b h = h
+
+pub string-up-to
+    : (s : List ℕ) → length s ≤ 40 → parsedOf (walkOf true false empty s) ≡ parsedOf (walkUpTo (placesOf s .past) false empty s)
+unfolding walkOptions walkTo
+string-up-to s few =
+    sym (string-walk false empty s) ∙ rw (take-all 40 s few, past-stops 0 (optionsOf s))
 
 -- What `parse_options_raw` draws from the walk of a string.
 abbrev drawn : WalkRead → OptionsRead
