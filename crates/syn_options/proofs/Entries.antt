@@ -98,12 +98,12 @@ past-count stop syn quirks s =
 up-to-forty : (k : Place) (syn : Bool) (quirks : QuirkSet) (s : List ℕ) → walkUpTo k syn quirks s .olayout .count ≤ 40
 unfolding walkUpTo
 up-to-forty place.None syn quirks s = at-most-forty false syn quirks s
-up-to-forty (place.At k) syn quirks s = at-most-forty false syn quirks (take k s)
+up-to-forty (place.At k) syn quirks s = at-most-forty false syn quirks _
 
 up-to-tidy : (k : Place) (syn : Bool) (quirks : QuirkSet) (s : List ℕ) → Tidy (walkUpTo k syn quirks s .olayout)
 unfolding walkUpTo
 up-to-tidy place.None syn quirks s = past-count false syn quirks s
-up-to-tidy (place.At k) syn quirks s = past-count false syn quirks (take k s)
+up-to-tidy (place.At k) syn quirks s = past-count false syn quirks _
 
 module _ (stop : StopBefore) (syn : Bool) (quirks : QuirkSet) (s : List ℕ) where
   pub walk-at-most-forty : walkOptions stop syn quirks s .olayout .count ≤ 40
