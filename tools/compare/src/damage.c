@@ -5,12 +5,12 @@
 
 #include <string.h>
 
-enum { LONGEST = 40, TS1_ZERO = 1 << 24, TS2_NONZERO = 1 << 25, TRAILING = 1 << 26, BIG_SCALE = 1 << 27, OPT_BAD = 1 << 28 };
+enum { LONGEST = 40, TS1_ZERO = 1 << 24, TS2_NONZERO = 1 << 25, TRAILING = 1 << 26, BIG_SCALE = 1 << 27 };
 
 /* The option that would begin at an offset. */
 typedef struct {
-    size_t behind;         /* where the next one would begin */
-    size_t data;           /* its bytes after kind and length byte, clipped */
+    size_t behind; /* where the next one would begin */
+    size_t data;   /* its bytes after kind and length byte, clipped */
     int past, is_short;
 } At;
 
@@ -18,7 +18,7 @@ typedef struct {
 typedef struct {
     int past, is_short, mss, scale, malformed;
     uint32_t quirks;
-    size_t next;           /* the offset of the next option, SIZE_MAX if there is none */
+    size_t next; /* the offset behind the option, SIZE_MAX if there is none or the walk stops before it */
 } From;
 
 static At option_at(const uint8_t *s, size_t size, size_t k) {
@@ -100,7 +100,6 @@ int first_damage(const Numbers *walk) {
     return first ? (int)(first - 65536) : -1;
 }
 
-/* Where the options of a packet that has a whole TCP header begin, and how many bytes they have. */
 size_t packet_options(const uint8_t *p, size_t size, const uint8_t **options) {
     size_t start, end, header;
     tcp_part(p, size, &start, &end);

@@ -4,13 +4,15 @@
 
 #include "numbers.h"
 
+enum { OPT_BAD = 1 << 28 };
+
 /* A walk over an option string, in the numbering of numbers.h; stop as for witness_walk. */
 void model_walk(const uint8_t *s, size_t size, uint8_t stop, int syn, Numbers *out);
 
 /* The first place of damage that a walk came to, -1 if there is none. */
 int first_damage(const Numbers *walk);
 
-/* The option string of a packet that has a whole TCP header. */
+/* The option string of a packet that has a whole TCP header, and its length. */
 size_t packet_options(const uint8_t *p, size_t size, const uint8_t **options);
 
 /* Puts no-ops in the place of a packet's first damaged option and of all options behind it, and gives how many; 0 if none is damaged. The

@@ -75,17 +75,16 @@ static void free_bytes(Random *r, uint8_t *p, size_t size) {
 
 /* The option strings of both, where they have a whole TCP header: alike packets have the same places of damage. */
 static void same_places(const uint8_t *p, const uint8_t *q, size_t size) {
-    const uint8_t *s[2];
+    const uint8_t *options;
     Numbers walks[2];
     uint8_t flags;
     size_t n;
-    int row = table_packet(p, size, &flags), syn;
+    int row = table_packet(p, size, &flags);
     if (row >= 1 && row <= 6) return;
-    n = packet_options(p, size, &s[0]);
-    if (packet_options(q, size, &s[1]) != n) n = 0;
-    syn = (s[0][-7] & 0x12) == 2;
-    port_walk(s[0], n, WITNESS_NOTHING, syn, &walks[0]);
-    port_walk(s[1], n, WITNESS_NOTHING, syn, &walks[1]);
+    n = packet_options(p, size, &options);
+    port_walk(options, n, WITNESS_NOTHING, 1, &walks[0]);
+    n = packet_options(q, size, &options);
+    port_walk(options, n, WITNESS_NOTHING, 1, &walks[1]);
     try_walk_pair(&walks[0], &walks[1], p, size);
 }
 

@@ -4,7 +4,7 @@
 #include "tally.h"
 #include "../../witness/witness.h"
 
-enum { OPT_BAD = 1 << 28, STOPS = 4 };
+enum { STOPS = 4 };
 
 /* The packet walk of the bytes before a place, or of all if there is none. */
 static Numbers before(const uint8_t *s, size_t size, int place, int syn) {
