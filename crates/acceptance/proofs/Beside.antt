@@ -58,7 +58,10 @@ pick : (t : Bool) {s : List ℕ} {a b x y : Reading} → Beside s a x → Beside
 pick true h k = h
 pick false h k = k
 
-set-aside : (t : Bool) {s : List ℕ} {plain strict : Reading} → Beside s plain strict → Beside s plain (cond t (refusing refusal.DataOffset) strict)
+set-aside
+    : (t : Bool) {s : List ℕ} {plain strict : Reading}
+    → Beside s plain strict
+    → Beside s plain (cond t (refusing refusal.DataOffset) strict)
 set-aside true h = aside
 set-aside false h = h
 
@@ -77,7 +80,9 @@ pub beside : (p : List ℕ) (peer : Mss) → Beside (optionsIn p) (readPacket p 
 unfolding readPacket readIn readTcpStrict
 beside p peer = by-stage (readIp p)
   where
-    of-part : (f : IpFacts) → Beside (take 40 (options (tcpPart f p))) (readTcp f (tcpPart f p) peer) (tcpStage strictMode f (tcpPart f p) peer)
+    of-part
+        : (f : IpFacts)
+        → Beside (take 40 (options (tcpPart f p))) (readTcp f (tcpPart f p) peer) (tcpStage strictMode f (tcpPart f p) peer)
     of-part f = rw (plain-by f (tcpPart f p) peer) (set-aside (contradictsItself (tcpPart f p)) (by-flags f (tcpPart f p) peer))
 
     by-stage : (r : IpRead) → Beside (optionsGiven r p) (afterIp readTcp r p peer) (afterIp (tcpStage strictMode) r p peer)
@@ -134,7 +139,11 @@ kind-same aside other = absurd (other aside-number)
 kind-same (same n m) other = refl
 kind-same (opened syn f t m) other = refl
 
-pub rest-same : {s : List ℕ} {plain x : Reading} → Beside s plain x → (Aside x → ⊥) → SameBesideOptions (x .observation) (plain .observation)
+pub rest-same
+    : {s : List ℕ} {plain x : Reading}
+    → Beside s plain x
+    → (Aside x → ⊥)
+    → SameBesideOptions (x .observation) (plain .observation)
 unfolding strictObservation observationFrom observationOf
 rest-same aside other = absurd (other aside-number)
 rest-same (same n m) other =

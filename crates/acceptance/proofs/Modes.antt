@@ -163,4 +163,12 @@ mode-numbers =
     }
 
 pub modes : Modes
-modes = record { plain = plain-mode; strict = strict-mode; every = every-mode; numbers = mode-numbers; values = strict-values; damage = damage-values }
+modes =
+    record {
+      plain = plain-mode;
+      strict = strict-mode;
+      every = every-mode;
+      numbers = mode-numbers;
+      values = strict-values;
+      damage = damage-values;
+    }

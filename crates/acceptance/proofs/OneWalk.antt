@@ -113,7 +113,9 @@ bad-fits =
           is-none _ (λ other.
           true≢false
           (sym has
-          ∙ sym (fits-agree quirk.OptBad bad-rigid (featuresOf (readPacket p peer .observation)) kinds bytes s count entries (clean .small) small other)
+          ∙ sym
+          (fits-agree quirk.OptBad bad-rigid (featuresOf (readPacket p peer .observation)) kinds bytes s count entries (clean .small) small
+          other)
           ∙ clean .notBad));
     }
   where

@@ -1,5 +1,5 @@
--- Alike rows of options are walked alike, and damaged at the same places: of a timestamps option the walk looks at its size, its length byte, and whether each
--- half is zero.
+-- Alike rows of options are walked alike, and damaged at the same places: of a timestamps option the walk looks at its size, its length
+-- byte, and whether each half is zero.
 use mathlib.Core.Path.{_≡_, refl, sym, _∙_}
 use mathlib.Core.Bool.{Bool}
 use mathlib.Core.List.{List, [], _∷_}

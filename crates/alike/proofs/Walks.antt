@@ -26,7 +26,10 @@ module _ (s t : List ℕ) (r : LikeRow (optionsOf s) (optionsOf t)) (syn : Bool)
   like-walked stop = walk-like stop syn (startWalk q) (first-like 40 s t r)
 
 like-up-to
-    : (s t : List ℕ) → LikeRow (optionsOf s) (optionsOf t) → (k : Place) (syn : Bool) (q : QuirkSet) → walkUpTo k syn q s ≡ walkUpTo k syn q t
+    : (s t : List ℕ)
+    → LikeRow (optionsOf s) (optionsOf t)
+    → (k : Place) (syn : Bool) (q : QuirkSet)
+    → walkUpTo k syn q s ≡ walkUpTo k syn q t
 unfolding walkUpTo
 like-up-to s t r place.None syn q = like-walked s t r syn q false
 like-up-to s t r (place.At k) syn q = rw (like-walked (take k s) (take k t) (first-like k s t r) syn q false)

@@ -36,8 +36,8 @@ pub data Half : ℕ → Type 0 where
   peer : Half 6
 
 -- "either four-byte half, wholly present, of a timestamps option that the walk reaches", which stays zero or stays nonzero:
--- the option's length byte and the string both have room for it. The walk reaches every option that begins in the string (in a string of more
--- than forty bytes, which no packet has, those past them count too).
+-- the option's length byte and the string both have room for it. The walk reaches every option that begins in the string (in a string of
+-- more than forty bytes, which no packet has, those past them count too).
 pub data FreeStamp (s t : List ℕ) : ℕ → ℕ → Type 0 where
   half
       : {at k : ℕ}

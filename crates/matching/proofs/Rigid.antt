@@ -42,7 +42,8 @@ pub record Rigid (q : Quirk) : Type 0 where
 
 empty-has-none : (s : QuirkSet) (q : Quirk) → isEmpty s ≡ true → contains s q ≡ false
 unfolding isEmpty contains holds
-empty-has-none s q none = ap (λ (n : ℕ). eqb (digit n (placeOf q)) 1) (eqb-true (bitsOf s) 0 none) ∙ ap (λ (n : ℕ). eqb n 1) (digit-of-zero (placeOf q))
+empty-has-none s q none =
+    ap (λ (n : ℕ). eqb (digit n (placeOf q)) 1) (eqb-true (bitsOf s) 0 none) ∙ ap (λ (n : ℕ). eqb n 1) (digit-of-zero (placeOf q))
 
 module _ (q : Quirk) (rigid : Rigid q) where
   -- What is left of a set of differences when nothing but tolerated quirks is in it.
@@ -108,7 +109,10 @@ module _ (q : Quirk) (rigid : Rigid q) where
   masked-same s sigversion.V4 seen = refl
   masked-same s sigversion.V6 seen = refl
 
-  masked-small : (s : QuirkSet) (declared : SigVersion) (seen : IpVersion) → bitsOf s < 2 ^ 32 → bitsOf (maskedQuirks s declared seen) < 2 ^ 32
+  masked-small
+      : (s : QuirkSet) (declared : SigVersion) (seen : IpVersion)
+      → bitsOf s < 2 ^ 32
+      → bitsOf (maskedQuirks s declared seen) < 2 ^ 32
   unfolding maskedQuirks difference
   masked-small s sigversion.Any version.V4 small = omega (arith, and-le-l (bitsOf s) (2 ^ 32 - 1 - bitsOf maskWhenObsV4))
   masked-small s sigversion.Any version.V6 small = omega (arith, and-le-l (bitsOf s) (2 ^ 32 - 1 - bitsOf maskWhenObsV6))

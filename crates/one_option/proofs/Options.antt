@@ -173,7 +173,13 @@ module _ (s : List ℕ) (at : ℕ) (inside : at < length s) where
         let whole = ltb-true (at + 1) (length s) (and-left _ _ short) in
         let small = ltb-true next 2 (and-right (ltb (at + 1) (length s)) _ short) in
         let ends : min (at + max next 2) (length s) ≡ at + 1 + 1 = omega arith in
-        rw (← sized-step n0 n1, le-ltb (length s) (at + max next 2) (omega arith), lt-ltb (at + 1) (length s) whole, lt-ltb next 2 small, ends)
+        rw (
+          ← sized-step n0 n1,
+          le-ltb (length s) (at + max next 2) (omega arith),
+          lt-ltb (at + 1) (length s) whole,
+          lt-ltb next 2 small,
+          ends,
+        )
 
     cut-step : length s ≤ at + 1 → record { kind = byteAt s at; end = length s; past = true; short = false } ≡ stepOf s at
     cut-step cut =

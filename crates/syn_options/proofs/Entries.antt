@@ -22,7 +22,8 @@ use Rattle.syn_options.specs.Stops.{stopsBefore, walkUpTo, walkTo, walkO
 use Rattle.syn_options.specs.declared.OptionWalk.{OptionWalk}
 use Rattle.syn_options.specs.declared.WalkRead.{WalkRead}
 use Rattle.one_option.specs.Options.{Opt, asked, runsPast, optionsAfter, optionsOf}
-use Rattle.syn_options.specs.Walk.{Walked, putEntry, putOption, walkFrom, startWalk, walkOf, parsedOf, parseOptionsRaw, optionsRefusal}
+use Rattle.syn_options.specs.Walk.{Walked, putEntry, putOption, walkFrom, startWalk, walkOf}
+use Rattle.syn_options.specs.Walk.{parsedOf, parseOptionsRaw, optionsRefusal}
 
 -- A string has no more options than bytes.
 pub options-few : (skip : ℕ) (s : List ℕ) → length (optionsAfter skip s) ≤ length s

@@ -54,7 +54,8 @@ module _ (test : Opt → Bool) (b : ℕ) (rest : List ℕ) where
           omega arith
 
   one-more
-      : TheFirst test (drop (asked b rest) rest) (firstOf test (drop (asked b rest) rest)) → TheFirst test (b ∷ rest) (firstOf test (b ∷ rest))
+      : TheFirst test (drop (asked b rest) rest) (firstOf test (drop (asked b rest) rest))
+      → TheFirst test (b ∷ rest) (firstOf test (b ∷ rest))
   unfolding firstFrom optionsAfter
   one-more later =
       let size : 0 + sizeOf (optionOf b rest) ≡ sizeOf (optionOf b rest) + 0 = omega arith in

@@ -78,7 +78,8 @@ walkTo stop syn quirks s = walkStopping (firstOf (stopsBefore stop) s) syn quirk
 unfoldable pub walkOptions : StopBefore → Bool → QuirkSet → List ℕ → OptionWalk
 walkOptions stop syn quirks s = walkTo stop syn quirks (take 40 s)
 
--- A string by itself: "Over 40 bytes the walk refuses 8, as the string reader does". A refusal gives nothing: beside it stands an empty walk.
+-- A string by itself. Over forty bytes it is refused by 8, as the option-string reader refuses it ("option string over 40 bytes", document
+-- 01). A refusal gives nothing: beside it stands an empty walk.
 abbrev pub refusedWalk : WalkRead
 refusedWalk = record { answer = answer.Refused; walk = walkWith (startWalk empty) noPlaces }
 
