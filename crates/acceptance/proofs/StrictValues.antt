@@ -20,10 +20,10 @@ use Rattle.acceptance.specs.Modes.{StrictValues, DamageValues}
 
 pub strict-values : StrictValues
 unfolding readPacket readIn readIp readIpv4 ipv4Facts ipv4Quirks readIpv6 ipv6Facts ipv6Quirks readTcp readTcpBy readTcpStrict
-    contradictsItself flagsInvalid maskedType isSynType isSynAckType strictObservation observationFrom observationOf quirksOfHeaders headerQuirks walkOptions walkTo walkUpTo walkOf
-    walkFrom putEntry entryByte seeOption laterMss laterScale laterQuirks trailingNonzero excessiveScaling ownTimestampZero
-    peerTimestampNonzero addIf with bitOf placeOf optionsAfter asked runsPast shortLength stopsBefore firstFrom cameTo empty fromQuirks
-    be16 be32 anyNonzero refusalOf
+    contradictsItself flagsInvalid maskedType isSynType isSynAckType strictObservation observationFrom observationOf quirksOfHeaders
+    headerQuirks walkOptions walkTo walkUpTo walkOf walkFrom putEntry entryByte seeOption laterMss laterScale laterQuirks trailingNonzero
+    excessiveScaling ownTimestampZero peerTimestampNonzero addIf with bitOf placeOf optionsAfter asked runsPast shortLength stopsBefore
+    firstFrom cameTo empty fromQuirks be16 be32 anyNonzero refusalOf
 strict-values =
     record {
       offset-4 = refl;
