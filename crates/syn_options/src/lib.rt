@@ -37,29 +37,17 @@ pub struct Places {
     pub short: Place,
 }
 
-// Which options a walk stops before.
+// Which options a walk stops before: the packet reader's before none, going on after clipping; the strict entry's before both.
 pub struct StopBefore {
     pub past: bool,
     pub short: bool,
 }
 
 impl StopBefore {
-    // flow.rs: a walk of all options, which goes on after clipping.
-    pub const NOTHING: Self = Self {
-        past: false,
-        short: false,
-    };
-
     // parse_options_raw.
     pub const PAST: Self = Self {
         past: true,
         short: false,
-    };
-
-    // The strict entry.
-    pub const DAMAGE: Self = Self {
-        past: true,
-        short: true,
     };
 }
 
