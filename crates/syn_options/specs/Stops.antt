@@ -16,6 +16,7 @@ use Rattle.syn_options.specs.declared.Places.{Places}
 use Rattle.syn_options.specs.declared.OptionWalk.{OptionWalk}
 use Rattle.syn_options.specs.declared.WalkRead.{WalkRead}
 use Rattle.syn_options.specs.declared.OptionsAnswer.the-variants as answer
+use Rattle.one_option.specs.declared.OptionStep.{OptionStep}
 use Rattle.one_option.specs.Options.{Opt, runsPast, shortLength}
 use Rattle.syn_options.specs.Walk.{Walked, startWalk, walkOf}
 use Rattle.syn_options.specs.Places.{firstOf, placesOf, noPlaces}
@@ -87,7 +88,11 @@ unfoldable pub readOptions : StopBefore → Bool → QuirkSet → List ℕ → W
 readOptions stop syn quirks s =
     cond (ltb 40 (length s)) refusedWalk (record { answer = answer.Parsed; walk = walkOptions stop syn quirks s })
 
--- ---- a place while the walk goes on
+-- ---- one option while the walk goes on
+
+-- Whether it stops before the option.
+abbrev pub stopsAt : StopBefore → OptionStep → Bool
+stopsAt stop step = stop .past && step .past || stop .short && step .short
 
 -- A place that is known stays.
 unfoldable pub firstKnown : Place → ℕ → Place

@@ -4,7 +4,7 @@ ghost use mathlib.Core.Path.{_≡_};
 ghost use Prim.Native.Nat.{_<_, _≤_};
 ghost use lib.ListN.{length};
 ghost use Rattle.quirks.specs.Named.{empty};
-ghost use Rattle.syn_options.specs.Stops.{walkedOf, firstKnown, walkTo, walkOptions, readOptions};
+ghost use Rattle.syn_options.specs.Stops.{walkedOf, stopsAt, firstKnown, walkTo, walkOptions, readOptions};
 ghost use Rattle.syn_options.specs.Walk.{StepInside, startWalk, parsedOf, parseOptionsRaw};
 use numbers::least;
 use one_option::OptionStep;
@@ -114,25 +114,15 @@ fn empty_layout() -> Layout
     }
 }
 
-fn seen_of(mss: Mss, wscale: Wscale, quirks: QuirkSet) -> Seen
-    ensures { λ r. ⌜ r ≡ record { mss = mss; wscale = wscale; quirks = quirks } ⌝ }
+fn stops(stop: StopBefore, step: OptionStep) -> bool
+    ensures { λ r. ⌜ r ≡ stopsAt stop step ⌝ }
 {
-    Seen {
-        mss,
-        wscale,
-        quirks,
-    }
-}
-
-fn places_of(past: Place, short: Place) -> Places
-    ensures { λ r. ⌜ r ≡ record { past = past; short = short } ⌝ }
-{
-    Places { past, short }
+    (stop.past & step.past) | (stop.short & step.short)
 }
 
 // The walk of at most forty bytes. Each option fills one entry of the layout, so that the entries never outnumber the bytes; its byte is 0
 // already but for an end-of-options. MSS, scale and quirks are variables of their own: one struct of them is packed and unpacked at every
-// turn (30 instructions). A walk that stops returns from where it does, and the entry is written last (docs/DECISIONS.md, 89).
+// turn (30 instructions). The entry is written last, which the compiler makes the least of (docs/DECISIONS.md, 89).
 fn walk_part(options: &[u8], stop: StopBefore, syn: bool, quirks: QuirkSet) -> OptionWalk
     requires { ⌜ length (now options) ≤ 40 ⌝ }
     ensures { λ r. ⌜ r ≡ walkTo stop syn quirks (now (options .entry)) ⌝ }
@@ -142,6 +132,7 @@ fn walk_part(options: &[u8], stop: StopBefore, syn: bool, quirks: QuirkSet) -> O
     let mut mss = Mss::Absent;
     let mut wscale = Wscale::Absent;
     let mut shown = quirks;
+    let mut malformed = false;
     let mut past = Place::None;
     let mut short = Place::None;
     let mut at = 0;
@@ -149,27 +140,14 @@ fn walk_part(options: &[u8], stop: StopBefore, syn: bool, quirks: QuirkSet) -> O
         let step = step_inside(options, at);
         if step.past {
             past = first_place(past, at);
-            if stop.past {
-                olayout.count = count;
-                return OptionWalk {
-                    olayout,
-                    seen: seen_of(mss, wscale, shown.insert(Quirk::OptBad)),
-                    malformed: true,
-                    places: places_of(past, short),
-                };
-            }
         }
         if step.short {
             short = first_place(short, at);
-            if stop.short {
-                olayout.count = count;
-                return OptionWalk {
-                    olayout,
-                    seen: seen_of(mss, wscale, shown.insert(Quirk::OptBad)),
-                    malformed: true,
-                    places: places_of(past, short),
-                };
-            }
+        }
+        if stops(stop, step) {
+            shown = shown.insert(Quirk::OptBad);
+            malformed = true;
+            break;
         }
         let start = at + 1;
         let end = step.end;
@@ -187,9 +165,13 @@ fn walk_part(options: &[u8], stop: StopBefore, syn: bool, quirks: QuirkSet) -> O
     olayout.count = count;
     OptionWalk {
         olayout,
-        seen: seen_of(mss, wscale, shown),
-        malformed: false,
-        places: places_of(past, short),
+        seen: Seen {
+            mss,
+            wscale,
+            quirks: shown,
+        },
+        malformed,
+        places: Places { past, short },
     }
 }
 
@@ -210,9 +192,16 @@ pub fn read_options(buf: &[u8], stop: StopBefore, syn: bool, quirks: QuirkSet) -
             answer: OptionsAnswer::Refused,
             walk: OptionWalk {
                 olayout: empty_layout(),
-                seen: seen_of(Mss::Absent, Wscale::Absent, QuirkSet::EMPTY),
+                seen: Seen {
+                    mss: Mss::Absent,
+                    wscale: Wscale::Absent,
+                    quirks: QuirkSet::EMPTY,
+                },
                 malformed: false,
-                places: places_of(Place::None, Place::None),
+                places: Places {
+                    past: Place::None,
+                    short: Place::None,
+                },
             },
         };
     }

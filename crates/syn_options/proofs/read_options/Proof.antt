@@ -12,10 +12,8 @@ returns : tie.Need-returns
 unfolding readOptions
 returns c =
     rw (
-      lt-ltb 40 (length (c .before .before .before .before .before .args .buf .now)) (c .before .before .before .if1 .taken),
-      c .places-of .ensures,
-      c .before .seen-of .ensures,
-      c .before .before .empty-layout .ensures,
+      lt-ltb 40 (length (c .before .before .before .args .buf .now)) (c .before .if1 .taken),
+      c .empty-layout .ensures,
       ← empty-bits,
     )
 
@@ -30,4 +28,4 @@ returns-2 c =
 pub read-options-spec : {M : Type 1} → statement M
 read-options-spec =
     tie.close
-    (tie.spec (λ c κs. search needs) (λ c κs. search needs) (λ c κs. search needs) returns (λ c κs. search needs) returns-2)
+    (tie.spec (λ c κs. search needs) returns (λ c κs. search needs) returns-2)
