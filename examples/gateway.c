@@ -3,7 +3,7 @@
 
    usage: gateway [-r] [-s] [-u] <BUNDLE
      -r   print behind each line the number of the record, whether it is generic, the reason of a fuzzy answer, and what a refusal gives
-     -s   ask in strict mode: TCP headers whose data offset contradicts them are refused (14)
+     -s   ask in strict mode: TCP headers whose data offset contradicts them are refused (14), options are read up to a damaged one
      -u   have the list checked with each packet, instead of once
 
    Built and run by tools/link_examples:

@@ -69,8 +69,10 @@ pub enum PacketRefusal {
 /// How a packet is read. The default is the plain mode.
 #[derive(Clone, Copy, Debug, Default, PartialEq, Eq)]
 pub struct Mode {
-    /// Refuses a TCP header whose data offset contradicts it, which the plain mode reads on; else it answers as the plain mode does.
-    /// The TCP part ends with the packet's bytes: a sound header whose options the capture cut off is refused too.
+    /// Refuses a TCP header whose data offset contradicts it, which the plain mode reads on. Reads the options up to the first damaged
+    /// one, which runs past the end or has a length byte of 0 or 1, and shows the quirk `bad`: only records that ask for it fit then. Else
+    /// it answers as the plain mode does. The TCP part ends with the packet's bytes: a sound header whose options the capture cut off is
+    /// refused too.
     pub strict: bool,
 }
 

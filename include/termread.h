@@ -122,7 +122,12 @@ termread_result termread_answer(const uint8_t *packet, size_t packet_length, uin
 
    The plain functions above read on where a TCP header contradicts itself: a data offset under 5 gives no options, one that is longer
    than the packet gives those that are there. In strict mode such a header is refused by 14, before its flags are looked at: so is a
-   packet that would be TERMREAD_NOTHING, or refused by 7, otherwise. Every other answer is the plain one, refusals 1 to 7 included.
+   packet that would be TERMREAD_NOTHING, or refused by 7, otherwise.
+
+   They also read on where an option is damaged: one that runs past the end of the options is clipped, a length byte of 0 or 1 counts as 2.
+   In strict mode the options of a SYN or SYN+ACK are read up to the first such option and no further, and the quirk `bad` is shown: it fits
+   records that ask for `bad`, and those only, exactly or fuzzily as by the rest. A packet with neither gets the plain answer, refusals 1 to
+   7 included; so does every packet that is no SYN or SYN+ACK and is not refused by 14, whatever its options.
 
    The TCP part ends where the IP length says, and never past the packet's bytes: strict mode refuses by 14 a sound header too, if the
    capture cut its options off. Give it whole packets, or at least all of their headers. A header that fills the part is no 14. */

@@ -35,7 +35,7 @@ def contradicts(packet):
 
 
 def strictly(packet, plain):
-    """The strict answer of a packet whose plain one is given."""
+    """The strict answer to a packet without damaged options (damage.py), whose plain one is given."""
     return REFUSED if contradicts(packet) else plain
 
 
@@ -48,11 +48,3 @@ def parts(bundle):
         packets.append((number(bundle, at), bundle[at + 4:at + 4 + size]))
         at += 4 + size
     return packets, bundle[start:start + length]
-
-
-def strict_output(bundle, plain):
-    """The strict output of a bundle whose plain one is given: a bundle or a list that is refused stays so."""
-    first, *lines = plain.split("\n")[:-1]
-    if lines:
-        lines = [strictly(packet, line) for (_, packet), line in zip(parts(bundle)[0], lines, strict=True)]
-    return "\n".join([first, *lines, ""])

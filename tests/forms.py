@@ -1,4 +1,5 @@
 """Lines for tools/ask whose answers are worked out by hand from the documents' text: a command, its lines, their answers."""
+import places
 from bundles import A, B, C, EMPTY_LIST, LIST, SYNACK, WHOLE, be16, record, siglist, tcp, v4, v6
 
 BAD = "bad line"
@@ -264,4 +265,5 @@ def ttl():
         yield bad, BAD
 
 
-LINES = {"observe": observe, "options": options, "search": search_lines, "batch": batch, "line": line, "ttl": ttl}
+LINES = {"observe": observe, "options": options, "search": search_lines, "batch": batch, "line": line, "ttl": ttl,
+         "places": places.lines}

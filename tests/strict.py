@@ -1,9 +1,10 @@
-"""Packets on both sides of refusal 14, which the strict mode alone gives. Of each, worked out by hand from the text of documents 01 and
-02: what `observe` says in the plain mode, what the search of the whole example's list finds, and whether the strict mode refuses it.
+"""Packets on both sides of refusal 14, which the strict mode alone gives, and of damaged options, before which its walk stops. Of each,
+worked out by hand from the text of documents 01 and 02: what `observe` says in the plain mode, what the search of the whole example's list
+finds, whether the strict mode refuses it, and what it observes else, if it is not the same.
 """
 from typing import NamedTuple
 
-from bundles import A, SYNACK, bundle, tcp, v4, v6
+from bundles import A, SYNACK, bundle, record, siglist, tcp, v4, v6
 from cases import lines
 from contradictions import REFUSED
 from forms import SEEN, seen
@@ -16,10 +17,17 @@ class Packet(NamedTuple):
     found: str  # behind `syn` or `synack` in a line of the program; of other answers nothing
     refused: bool
     peer: int = 0
+    stopped: str = ""  # the strict mode's observation, if its walk stops; the search finds none for it
 
     def line(self):
         words = self.plain.split(" ")
         return f"{words[0]} {self.found}" if self.found else " ".join(words[:2])
+
+    def strict(self):
+        return REFUSED if self.refused else self.stopped or self.plain
+
+    def strict_line(self):
+        return REFUSED if self.refused else f"{self.stopped.split(' ')[0]} {NONE}" if self.stopped else self.line()
 
 
 NONE, EXACT = "none", "exact 7"
@@ -136,23 +144,83 @@ def syn_acks():
     yield Packet("SYN, peer 12, offset 7", v4(tcp(words=7)), "syn " + seen(tot_hdr=48), EXACT, True, 12)
 
 
-FAMILIES = (offsets, ends, ip_options, version_six, other_answers, syn_acks)
+def sound_options():
+    """Options without damage, and what looks like it behind an end-of-options: the same in both modes."""
+    for options, fields in (("02 04 05 b4 01 01 04 02", dict(layout="2/0,1/0,1/0,4/0")),
+                            ("02 04 05 b4 01 03 03 0e", dict(layout="2/0,1/0,3/0", wscale=14)),
+                            ("02 04 05 b4 ff 02 ff 02", dict(layout="2/0,255/0,255/0")),
+                            ("02 04 05 b4 00 02 00 08", dict(layout="2/0,0/3", quirks="0x04000002")),
+                            ("02 04 05 b4 01 00 02 04", dict(layout="2/0,1/0,0/2", quirks="0x04000002"))):
+        yield Packet(f"options {options}", v4(tcp(options=options)), "syn " + seen(tot_hdr=48, **fields), NONE, False)
+
+
+def damaged(options, plain, stopped, found=NONE):
+    """A SYN in whose options the strict walk stops: the fields that differ from packet A's, in the plain mode and in the strict one."""
+    total, bad = 40 + len(bytes.fromhex(options)), "0x10000002"
+    return Packet(f"damaged options {options}", v4(tcp(options=options)), "syn " + seen(**{"tot_hdr": total, **plain}), found, False,
+                  stopped="syn " + seen(**{"tot_hdr": total, "quirks": bad, **stopped}))
+
+
+def damaged_options():
+    nothing = dict(layout="-", mss="-", win="-")
+    # Past the end: the plain mode clips. Without its options A's layout does not fit the record.
+    yield damaged("02 0a 05 b4", {}, nothing, EXACT)
+    yield damaged("02 04 05 b4 02 0a 05 b4", dict(layout="2/0,2/0"), {})
+    yield damaged("02 04 05 b4 03 03 01 08", dict(layout="2/0,3/0,8/0", wscale=1), dict(layout="2/0,3/0", wscale=1))
+    yield damaged("01 01 01 02", {**nothing, "layout": "1/0,1/0,1/0,2/0"}, {**nothing, "layout": "1/0,1/0,1/0"})
+    # A short length: the plain mode takes two bytes.
+    for length in ("00", "01"):
+        yield damaged(f"02 04 05 b4 03 {length} 01 01", dict(layout="2/0,3/0,1/0,1/0"), {})
+        yield damaged(f"01 01 03 {length}", {**nothing, "layout": "1/0,1/0,3/0"}, {**nothing, "layout": "1/0,1/0"})
+    # Both, and what stands behind the damage: a number, a scale, quirks.
+    yield damaged("02 00 05 b4", {**nothing, "layout": "2/0,5/0"}, nothing)
+    yield damaged("03 00 02 04 05 b4 01 01", dict(layout="3/0,2/0,1/0,1/0"), nothing)
+    yield damaged("03 00 03 03 0f 00 ff ff", {**nothing, "layout": "3/0,3/0,0/2", "wscale": 15, "quirks": "0x0C000002"}, nothing)
+    stamps = "08 0a 00 00 00 00 00 00 00 01 03 00"
+    yield damaged(stamps, {**nothing, "layout": "8/0,3/0", "quirks": "0x03000002"}, {**nothing, "layout": "8/0", "quirks": "0x13000002"})
+    reply = v4(tcp(flags=0x12, ack=1, options=stamps))
+    yield Packet("SYN+ACK, damaged options", reply, "synack " + seen(tot_hdr=52, layout="8/0,3/0", mss="-", win="-", quirks="0x01000002"),
+                 NONE, False, stopped="synack " + seen(tot_hdr=52, layout="8/0", mss="-", win="-", quirks="0x11000002"))
+    six = dict(v=6, tot_hdr=68)
+    yield Packet("version 6, damaged options", v6(tcp(options="02 04 05 b4 03 00 01 01")), "syn " + seen(
+        layout="2/0,3/0,1/0,1/0", quirks="0x00000000", **six), NONE, False, stopped="syn " + seen(quirks="0x10000000", **six))
+    payload = v4(tcp(options="02 04 05 b4 01 01 01 08", payload=b"\x0a" * 10))
+    yield Packet("an option that would end in the payload", payload, "syn " + seen(
+        layout="2/0,1/0,1/0,1/0,8/0", pclass="+", tot_hdr=48), NONE, False, stopped="syn " + seen(
+        layout="2/0,1/0,1/0,1/0", pclass="+", tot_hdr=48, quirks="0x10000002"))
+
+
+def damaged_elsewhere():
+    """Where options are not read, or 14 comes first, damage changes nothing."""
+    for options in ("02 0a 05 b4", "02 00 05 b4", "02 04 05 02"):
+        for flags in (0x10, 0x11, 0x14):
+            yield Packet(f"flags {flags:#x}, options {options}", v4(tcp(flags=flags, ack=1, options=options)), "nothing", "", False)
+        yield Packet(f"flags 0, options {options}", v4(tcp(flags=0, options=options)), "refused 7 0x00", "", False)
+        yield Packet(f"offset 5, then {options}", v4(tcp(options=options, words=5)), bare(pclass="+", tot_hdr=40), NONE, False)
+    yield Packet("damaged options, offset 7 of 24 bytes", v4(tcp(options="02 00 01 01", words=7)), bare(
+        layout="2/0,1/0,1/0", tot_hdr=48), NONE, True)
+
+
+FAMILIES = (offsets, ends, ip_options, version_six, other_answers, syn_acks, sound_options, damaged_options, damaged_elsewhere)
 PACKETS = [packet for family in FAMILIES for packet in family()]
 
 
 def observed(mode):
     """The lines of `observe` in a mode, with their answers."""
     for packet in PACKETS:
-        yield f"{packet.peer} {packet.data.hex()}", REFUSED if packet.refused and mode == "strict" else packet.plain
+        yield f"{packet.peer} {packet.data.hex()}", packet.strict() if mode == "strict" else packet.plain
 
 
 def bundles():
     """A bundle of each family and one of them all: a name, the bytes, the program's output, the strict one."""
     for name, packets in [(family.__name__, list(family())) for family in FAMILIES] + [("all", PACKETS)]:
         plain = [packet.line() for packet in packets]
-        strict = [REFUSED if packet.refused else line for packet, line in zip(packets, plain)]
+        strict = [packet.strict_line() for packet in packets]
         data = bundle([(packet.data, packet.peer) for packet in packets])
-        yield f"data offsets: {name.replace('_', ' ')}", data, lines(*plain), lines(*strict)
+        yield f"modes: {name.replace('_', ' ')}", data, lines(*plain), lines(*strict)
+    # A record that asks for OptBad: a quirk like any other.
+    one = damaged("02 04 05 b4 03 00 01 01", {}, {}).data
+    yield "modes: a record of OptBad", bundle([one], siglist([record(quirks=0x10000002)])), lines("syn none"), lines("syn exact 7")
 
 
 def plain_bundles():

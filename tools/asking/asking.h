@@ -37,6 +37,7 @@ int scan_observation(Line *line, witness_observation *observation);
 
 void write_absent_or(const char *name, int present, uint32_t number);
 void write_layout(uint64_t count, const uint8_t *kinds, const uint8_t *bytes);
+void write_options(const witness_options_read *read);
 void write_observation(const witness_observation *observation);
 
 #endif

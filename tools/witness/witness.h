@@ -2,6 +2,7 @@
 #ifndef WITNESS_H
 #define WITNESS_H
 
+#include <stdbool.h>
 #include <stddef.h>
 #include <stdint.h>
 
@@ -51,6 +52,25 @@ typedef struct {
     uint8_t bytes[40];
 } witness_options_read;
 
+/* What a walk over an option string gives. The places are offsets of an option's kind byte, from 0: of the first option that runs past the
+   end, of the first whose length byte is 0 or 1; of a walk that stops, those that it came to. */
+typedef struct {
+    uint64_t count;
+    uint64_t past_at;
+    uint64_t short_at;
+    uint32_t quirks;
+    uint16_t mss;
+    uint8_t refusal;   /* 8, else 0 */
+    uint8_t malformed; /* it stopped */
+    uint8_t has_past;
+    uint8_t has_short;
+    uint8_t has_mss;
+    uint8_t has_wscale;
+    uint8_t wscale;
+    uint8_t kinds[40];
+    uint8_t bytes[40];
+} witness_walk_read;
+
 /* What a search answers. */
 typedef struct {
     uint32_t added;      /* the reason of a fuzzy answer, all bits */
@@ -83,19 +103,31 @@ typedef struct {
 
 /* As many bytes as the source's structs have, by C's layout on x86-64. */
 typedef char witness_structs_have_their_sizes[sizeof(witness_observation) == 120 && sizeof(witness_packet_read) == 128 &&
-                                              sizeof(witness_options_read) == 96 && sizeof(witness_search_read) == 24 &&
-                                              sizeof(witness_line_read) == 128 && sizeof(witness_ttl_entry) == 2 ? 1 : -1];
+                                              sizeof(witness_options_read) == 96 && sizeof(witness_walk_read) == 120 &&
+                                              sizeof(witness_search_read) == 24 && sizeof(witness_line_read) == 128 &&
+                                              sizeof(witness_ttl_entry) == 2 ? 1 : -1];
 
 /* The bits of a mode: none for the plain reading; what is not named here is not read. */
 enum {
     WITNESS_PLAIN = 0,
-    WITNESS_STRICT = 1 /* a TCP header whose data offset contradicts it is refused: 14 */
+    WITNESS_STRICT = 1 /* a TCP header whose data offset contradicts it is refused: 14; the walk stops before damaged options */
+};
+
+/* Which options a walk stops before, bits too. */
+enum {
+    WITNESS_NOTHING = 0, /* the packet reader's walk */
+    WITNESS_PAST = 1,    /* an option that runs past the end: the option-string reader's */
+    WITNESS_SHORT = 2,   /* one whose length byte is 0 or 1 */
+    WITNESS_DAMAGE = 3   /* either: the strict mode's */
 };
 
 /* The reading of a packet in a mode; a peer's MSS of 0 is an absent one. */
 witness_packet_read witness_packet(const uint8_t *packet, size_t length, uint16_t peer_mss, uint8_t mode);
 
 witness_options_read witness_options(const uint8_t *options, size_t length);
+
+/* The walk of an option string, as of a SYN or not, from no quirks. */
+witness_walk_read witness_walk(const uint8_t *options, size_t length, uint8_t stop, bool syn);
 
 /* The search of a list for an observation. */
 witness_search_read witness_search(witness_observation observation, const uint8_t *list, size_t length);

@@ -8,6 +8,7 @@ use Rattle.acceptance.proofs.Honesty.{honesty}
 use Rattle.acceptance.proofs.Lines.{lines}
 use Rattle.acceptance.proofs.Modes.{modes}
 use Rattle.acceptance.proofs.OnPaper.{on-paper}
+use Rattle.acceptance.proofs.OneWalk.{one-walk}
 use Rattle.acceptance.proofs.Refusals.{refusals}
 use Rattle.acceptance.proofs.Stages.{stages}
 use Rattle.acceptance.proofs.TextLines.{text-lines}
@@ -30,4 +31,5 @@ acceptance =
       modes = modes;
       genericLast = generic-last;
       ttlTable = ttl-table;
+      oneWalk = one-walk;
     }

@@ -32,13 +32,14 @@ use Rattle.alike.proofs.Equivalence.{alike-refl, alike-sym, alike-trans}
 use Rattle.alike.proofs.Exact.{exact, free-byte}
 use Rattle.alike.proofs.TcpExact.{exact-tcp}
 use Rattle.alike.proofs.OptionsDiffer.{exact-options}
-use Rattle.alike.proofs.Walks.{walk-alike, parse-alike}
+use Rattle.alike.proofs.Walks.{walk-alike, parse-alike, read-options-alike}
 use Rattle.alike.proofs.Ip.{keeps-level}
 use Rattle.alike.proofs.Tcp.{tcp-alike}
 use Rattle.alike.proofs.Packets.{read-alike}
 use Rattle.acceptance.specs.Demand3.{TheRelation, Read, Run, SameAnswer, AlikeFrom, AlikeBundles, Demand3, GatewaySame}
 use Rattle.acceptance.proofs.Corners.{corners}
 use Rattle.acceptance.proofs.NotFree.{not-free}
+use Rattle.acceptance.proofs.PlacesAlike.{places-in, walks-in}
 
 -- ---- the relation
 
@@ -104,6 +105,9 @@ same-answer =
       tcp-stage = tcp-alike;
       option-walks = walk-alike;
       option-strings = parse-alike;
+      one-walk = read-options-alike;
+      places = places-in;
+      walks = walks-in;
       reader = read-alike;
       search = search-alike;
       returned = λ mode p q list peer r s a b alike x y.

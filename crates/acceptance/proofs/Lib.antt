@@ -1,5 +1,6 @@
 pub mod Acceptance
 pub mod BadRecord
+pub mod Beside
 pub mod BundleRefusals
 pub mod Corners
 pub mod Demand1
@@ -15,6 +16,7 @@ pub mod Modes
 pub mod NotFree
 pub mod Observation
 pub mod OnPaper
+pub mod OneWalk
 pub mod Outcome
 pub mod Overlap
 pub mod PacketGives
@@ -22,6 +24,7 @@ pub mod PacketRefusals
 pub mod PaperRows
 pub mod PaperStages
 pub mod PaperTold
+pub mod PlacesAlike
 pub mod Promised
 pub mod Promises
 pub mod Refusals

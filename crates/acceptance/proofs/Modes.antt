@@ -2,22 +2,22 @@
 use mathlib.Core.Path.{_≡_, refl, sym, _∙_, ap}
 use mathlib.Core.Bool.{Bool, true, false, cond}
 use mathlib.Core.List.{List}
+use mathlib.Core.Logic.{⊎-elim}
 use Prim.Native.Nat.{ℕ, zero, suc, _+_, _%_, _<_, _≤_}
 use native.Mathlib.Omega.{arith}
 use borrow.Author.Tests.{eq-eqb, ne-eqb}
+use Rattle.quirks.specs.declared.Quirk.the-variants as quirk
+use Rattle.quirks.specs.Quirks.{contains}
+use Rattle.quirks.proofs.Within.{Within}
 use Rattle.tcp.specs.declared.Mss.{Mss}
 use Rattle.tcp.specs.declared.Mss.the-variants as mss
-use Rattle.ip.specs.declared.IpFacts.{IpFacts}
-use Rattle.ip.specs.declared.IpRead.{IpRead}
-use Rattle.ip.specs.declared.IpRead.the-variants as ip
-use Rattle.ip.specs.Ip.{readIp}
 use Rattle.refusals.specs.declared.PacketRefusal.the-variants as refusal
 use Rattle.flow.specs.declared.Mode.{Mode}
 use Rattle.flow.specs.declared.Reading.{Reading}
-use Rattle.flow.specs.Tcp.{refusing, readTcp}
-use Rattle.flow.specs.Strict.{contradictsItself, readTcpStrict}
-use Rattle.flow.specs.Modes.{plainMode, strictMode, tcpStage, readIn}
-use Rattle.flow.specs.Reading.{tcpPart, afterIp, readPacket, refusalOf}
+use Rattle.flow.specs.Tcp.{refusing}
+use Rattle.flow.specs.Modes.{plainMode, strictMode, readIn}
+use Rattle.flow.specs.Reading.{readPacket, refusalOf}
+use Rattle.flow.proofs.Observed.{sound, sound-in}
 use Rattle.flow.specs.Peer.{withPeer}
 use Rattle.flow.proofs.Peer.{with-peer-in}
 use Rattle.siglist.specs.List.{checkList}
@@ -30,10 +30,11 @@ use Rattle.bundle.specs.Answers.{answerAt, startOf, answersFrom, afterBundleChe
 use Rattle.report.specs.Pages.{outputIn, outputOfInput, outputOfInputIn}
 use Rattle.gateway.specs.Parts.{afterList, gatewayAnswer, gatewayIn}
 use Rattle.acceptance.specs.Refusals.{First, plainOrder}
-use Rattle.acceptance.specs.Modes.{SetAside, PlainMode, StrictMode, InEveryMode, ModeNumbers, Modes}
+use Rattle.acceptance.specs.Modes.{SetAside, NothingWrong, PlainMode, StrictMode, InEveryMode, ModeNumbers, Modes}
 use Rattle.acceptance.proofs.First.{AllBelow, first-below}
 use Rattle.acceptance.proofs.Refusals.{refusals}
-use Rattle.acceptance.proofs.StrictValues.{strict-values}
+use Rattle.acceptance.proofs.Beside.{beside, is-aside, sound-same, other-same, kind-same, rest-same, damaged-shows, same-why}
+use Rattle.acceptance.proofs.StrictValues.{strict-values, damage-values}
 
 -- ---- the plain mode
 
@@ -57,45 +58,26 @@ plain-mode =
 
 -- ---- the strict mode
 
--- The strict reading is 14 alone, or the plain one.
-data Strictly (plain : Reading) : Reading → Type 0 where
-  aside : Strictly plain (refusing refusal.DataOffset)
-  else : Strictly plain plain
-
-strict-stage : (f : IpFacts) (t : List ℕ) (peer : Mss) → Strictly (readTcp f t peer) (tcpStage strictMode f t peer)
-unfolding readTcpStrict
-strict-stage f t peer = by-test (contradictsItself t)
-  where
-    by-test
-        : (t' : Bool) → Strictly (readTcp f t peer) (cond t' (refusing refusal.DataOffset) (readTcp f t peer))
-    by-test true = aside
-    by-test false = else
-
-strictly : (p : List ℕ) (peer : Mss) → Strictly (readPacket p peer) (readIn strictMode p peer)
-unfolding readPacket readIn
-strictly p peer = by-stage (readIp p)
-  where
-    by-stage : (r : IpRead) → Strictly (afterIp readTcp r p peer) (afterIp (tcpStage strictMode) r p peer)
-    by-stage (ip.Refused r) = else
-    by-stage (ip.Facts f) = strict-stage f (tcpPart f p) peer
-
--- Which of the two it is, by its number: the plain one never is 14.
-module _ (plain : Reading) (never : refusalOf (plain .answer) ≡ 14 → ⊥) where
-  is-aside : {x : Reading} → Strictly plain x → refusalOf (x .answer) ≡ 14 → x ≡ refusing refusal.DataOffset
-  is-aside aside e = refl
-  is-aside else e = absurd (never e)
-
-  is-plain : {x : Reading} → Strictly plain x → (refusalOf (x .answer) ≡ 14 → ⊥) → x ≡ plain
-  unfolding refusalOf
-  is-plain aside other = absurd (other refl)
-  is-plain else other = refl
-
 module _ (p : List ℕ) (peer : Mss) where
-  reader-aside : SetAside p peer → readIn strictMode p peer ≡ refusing refusal.DataOffset
-  reader-aside = is-aside (readPacket p peer) (plain-mode .no-14 p peer) (strictly p peer)
+  never : refusalOf (readPacket p peer .answer) ≡ 14 → ⊥
+  never = plain-mode .no-14 p peer
 
-  reader-else : (SetAside p peer → ⊥) → readIn strictMode p peer ≡ readPacket p peer
-  reader-else = is-plain (readPacket p peer) (plain-mode .no-14 p peer) (strictly p peer)
+  plain-clean : contains (readPacket p peer .observation .quirks) quirk.OptBad ≡ false
+  plain-clean = sound p peer .quirks .notBad
+
+  reader-aside : SetAside p peer → readIn strictMode p peer ≡ refusing refusal.DataOffset
+  reader-aside = is-aside (beside p peer) never
+
+  reader-else : NothingWrong p peer → readIn strictMode p peer ≡ readPacket p peer
+  reader-else (NothingWrong.sound other sound) = sound-same (beside p peer) other sound
+  reader-else (NothingWrong.no-opening other none) = other-same (beside p peer) other (none .no-syn) (none .no-syn-ack)
+
+  only-then : readIn strictMode p peer ≡ readPacket p peer → NothingWrong p peer
+  only-then e =
+      let other : SetAside p peer → ⊥ = λ f. never (sym (ap (λ (r : Reading). refusalOf (r .answer)) e) ∙ f) in
+      ⊎-elim (λ sound. NothingWrong.sound other sound)
+      (λ none. NothingWrong.no-opening other (record { no-syn = none .0; no-syn-ack = none .1 }))
+      (same-why (beside p peer) other plain-clean e)
 
 -- The number of a reading does not depend on the peer's MSS.
 without-peer
@@ -108,12 +90,12 @@ module _ (p : List ℕ) (peer : Mss) (l : List ℕ) where
   unfolding answerIn
   answer-aside e = ap (λ (r : Reading). afterReading r l) (reader-aside p peer e)
 
-  answer-else : (SetAside p peer → ⊥) → answerIn strictMode p peer l ≡ answerOf p peer l
+  answer-else : NothingWrong p peer → answerIn strictMode p peer l ≡ answerOf p peer l
   unfolding answerOf answerIn
   answer-else other = ap (λ (r : Reading). afterReading r l) (reader-else p peer other)
 
 -- The packets of a bundle from the i-th on.
-module _ (b : List ℕ) (none : (i : ℕ) → i < packetCount b → SetAside (packetBytes b (startOf b i)) (packetPeer b (startOf b i)) → ⊥) where
+module _ (b : List ℕ) (none : (i : ℕ) → i < packetCount b → NothingWrong (packetBytes b (startOf b i)) (packetPeer b (startOf b i))) where
   answers-else
       : (n i : ℕ) → i + n ≤ packetCount b → answersFrom strictMode b (startOf b i) n ≡ answersFrom plainMode b (startOf b i) n
   unfolding answersFrom answerAt startOf
@@ -136,17 +118,26 @@ module _ (b : List ℕ) (none : (i : ℕ) → i < packetCount b → SetAside (pa
   output-else longer = rw (bundle-same (checkBundle b))
 
 strict-mode : StrictMode
-unfolding gatewayAnswer gatewayIn
+unfolding gatewayAnswer gatewayIn Within
 strict-mode =
     record {
       reader-aside = reader-aside;
-      reader-else = reader-else;
+      reader = λ p peer. (only-then p peer, reader-else p peer);
+      same-kind = λ p peer other. kind-same (beside p peer) other;
+      beside-options = λ p peer other. rest-same (beside p peer) other;
+      shows-bad = λ p peer other opening damaged.
+          damaged-shows (beside p peer) other (λ n m. opening (record { no-syn = n; no-syn-ack = m })) damaged;
+      plain-shows-none = plain-clean;
       answer-aside = answer-aside;
       answer-else = answer-else;
       gateway-aside = λ p peer l good e. rw (good, answer-aside p (peerOf peer) l e);
       gateway-else = λ p peer l other. ap (afterList (checkList l)) (answer-else p (peerOf peer) l other);
       any-peer = λ p peer other e. without-peer p other ∙ sym (without-peer p peer) ∙ e;
       bundle-else = λ b longer none. output-else b none longer;
+      at-most-40 = λ mode p peer. sound-in mode p peer .few;
+      kinds-past = λ mode p peer. sound-in mode p peer .tidy .kinds;
+      bytes-past = λ mode p peer. sound-in mode p peer .tidy .bytes;
+      of-seventeen = λ mode p peer. sound-in mode p peer .quirks;
     }
 
 -- ---- every mode
@@ -172,4 +163,12 @@ mode-numbers =
     }
 
 pub modes : Modes
-modes = record { plain = plain-mode; strict = strict-mode; every = every-mode; numbers = mode-numbers; values = strict-values }
+modes =
+    record {
+      plain = plain-mode;
+      strict = strict-mode;
+      every = every-mode;
+      numbers = mode-numbers;
+      values = strict-values;
+      damage = damage-values;
+    }

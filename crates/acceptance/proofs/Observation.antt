@@ -25,8 +25,7 @@ use Rattle.ttl.proofs.Laws.{never-guess}
 use Rattle.observable.specs.Observation.{emptyObservation}
 use Rattle.one_option.specs.Options.{Opt, dataOf, optionsOf}
 use Rattle.one_option.specs.See.{peerTimestampNonzero, laterQuirks, seeOption}
-use Rattle.syn_options.specs.declared.Walked.{Walked}
-use Rattle.syn_options.specs.Walk.{putOption, walkFrom, startWalk, walkOf}
+use Rattle.syn_options.specs.Walk.{Walked, putOption, walkFrom, startWalk, walkOf}
 use Rattle.ip.specs.declared.IpFacts.{IpFacts}
 use Rattle.ip.specs.declared.IpRead.{IpRead}
 use Rattle.ip.specs.Ip.{ipv4Quirks, ipv4Facts, ipv6Quirks, ipv6Facts}

@@ -31,10 +31,10 @@ use Rattle.acceptance.specs.Outcome.{fitOfRecord, SpecificExact, Named, 
 -- ---- two outcomes are one
 
 -- What fits is not none.
-exact-none : {x : SignatureFit} → x ≡ fit.Exact → x ≡ fit.None → ⊥
+pub exact-none : {x : SignatureFit} → x ≡ fit.Exact → x ≡ fit.None → ⊥
 exact-none e f = let z : _≡_ {A = ℕ} 0 1 = cc in omega arith
 
-fuzzy-none : {x : SignatureFit} {r : FuzzyReason} → x ≡ fit.Fuzzy r → x ≡ fit.None → ⊥
+pub fuzzy-none : {x : SignatureFit} {r : FuzzyReason} → x ≡ fit.Fuzzy r → x ≡ fit.None → ⊥
 fuzzy-none e f = let z : _≡_ {A = ℕ} 0 1 = cc in omega arith
 
 one-reason : {x : SignatureFit} {r s : FuzzyReason} → x ≡ fit.Fuzzy r → x ≡ fit.Fuzzy s → r ≡ s

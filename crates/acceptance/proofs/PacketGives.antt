@@ -1,6 +1,6 @@
 -- What a packet's refusal gives: nothing, but for 7 the flags byte; and which answer a packet gets that is not refused.
 use mathlib.Core.Path.{_≡_, refl, sym}
-use mathlib.Core.Bool.{Bool, true, false, cond}
+use mathlib.Core.Bool.{Bool, true, false, cond, _&&_}
 use mathlib.Core.List.{List}
 use Prim.Native.Nat.{ℕ, _<_}
 use native.Mathlib.Omega.{arith}
@@ -8,6 +8,7 @@ use borrow.Author.Tests.{eqb-true, eqb-false}
 use Rattle.rfc.specs.Rfc791 as v4
 use Rattle.rfc.specs.Rfc9293 as tcp
 use Rattle.tcp.specs.declared.Mss.{Mss}
+use Rattle.observable.specs.declared.TcpObservation.{TcpObservation}
 use Rattle.observable.specs.Observation.{emptyObservation}
 use Rattle.ip.specs.declared.IpFacts.{IpFacts}
 use Rattle.ip.specs.declared.IpRead.{IpRead}
@@ -21,9 +22,9 @@ use Rattle.flow.specs.declared.Answer.the-variants as answer
 use Rattle.flow.specs.declared.Reading.{Reading}
 use Rattle.tcp_header.specs.Flags.{maskedType, flagsInvalid, isSynType, isSynAckType}
 use Rattle.flow.specs.declared.Mode.{Mode}
-use Rattle.flow.specs.Tcp.{readTcp}
-use Rattle.flow.specs.Strict.{contradictsItself, readTcpStrict}
-use Rattle.flow.specs.Modes.{tcpStage, readIn}
+use Rattle.flow.specs.Strict.{contradictsItself, readTcpBy}
+use Rattle.flow.specs.Modes.{tcpStage, observationIn, readIn}
+use Rattle.flow.proofs.Stage.{stage-by}
 use Rattle.flow.specs.Reading.{tcpPart, afterIp, refusalOf}
 use Rattle.acceptance.specs.Refusals.{FlagsByte, Refused, Gives, Answered}
 
@@ -37,9 +38,12 @@ module _ (p : List ℕ) where
   pick true x y = x refl
   pick false x y = y refl
 
-  tcp-gives : (f : IpFacts) (peer : Mss) → FlagsByte p (tcp.control (tcpPart f p)) → ReadingGives (readTcp f (tcpPart f p) peer)
-  unfolding readTcp isSynType isSynAckType
-  tcp-gives f peer byte =
+  tcp-gives
+      : (observe : Bool → Mss → TcpObservation) (f : IpFacts) (peer : Mss)
+      → FlagsByte p (tcp.control (tcpPart f p))
+      → ReadingGives (readTcpBy observe (tcpPart f p) peer)
+  unfolding readTcpBy isSynType isSynAckType
+  tcp-gives observe f peer byte =
       let flags = tcp.control (tcpPart f p) in
       pick (flagsInvalid flags) (λ e. refusing (Refused.flags-byte byte)) (λ e.
       pick (isSynType flags) (λ e. answered (Answered.syn byte (eqb-true (maskedType flags) 2 e))) (λ other.
@@ -51,12 +55,11 @@ module _ (p : List ℕ) where
       : (mode : Mode) (f : IpFacts) (peer : Mss)
       → FlagsByte p (tcp.control (tcpPart f p))
       → ReadingGives (tcpStage mode f (tcpPart f p) peer)
-  unfolding readTcpStrict
   stage-gives mode f peer byte =
-      pick (mode .strict)
-      (λ e. pick (contradictsItself (tcpPart f p)) (λ e. refusing (Refused.nothing-more {r = refusal.DataOffset} (λ seven. omega arith)))
-      (λ e. tcp-gives f peer byte))
-      (λ e. tcp-gives f peer byte)
+      rw (stage-by mode f (tcpPart f p) peer)
+      (pick (mode .strict && contradictsItself (tcpPart f p))
+      (λ e. refusing (Refused.nothing-more {r = refusal.DataOffset} (λ seven. omega arith)))
+      (λ e. tcp-gives (observationIn mode f (tcpPart f p)) f peer byte))
 
   after-gives
       : (mode : Mode) (peer : Mss) {n : ℕ} {r : IpRead} → v4.version p ≡ n → Given p n r → ReadingGives (afterIp (tcpStage mode) r p peer)

@@ -18,7 +18,7 @@ use Rattle.tcp_header.specs.Flags.{flagsInvalid}
 use Rattle.flow.specs.Tcp.{readTcp}
 use Rattle.flow.specs.Modes.{plainMode}
 use Rattle.flow.specs.Reading.{tcpPart, afterIp, readPacket, refusalOf}
-use Rattle.flow.proofs.FirstRow.{by-flags}
+use Rattle.flow.proofs.FirstRow.{by-header}
 use Rattle.siglist.specs.declared.ListAnswer.{ListAnswer}
 use Rattle.siglist.specs.declared.ListAnswer.the-variants as list
 use Rattle.siglist.specs.List.{recordCount, listFits, headerOf, checkList, listRefusal}
@@ -105,7 +105,7 @@ ip-row p = by-stage (readIp p) refl (given p)
           also = not-7 p [] r (λ (s : packetNumber r ≡ 7). omega arith);
         }
     by-stage (ip.Facts f) e gives =
-        let n = stage-number (ip.Facts f) e ∙ by-flags f (tcpPart f p) mss.Absent in
+        let n = stage-number (ip.Facts f) e ∙ by-header plainMode f (tcpPart f p) mss.Absent in
         record {
           first =
               none-of 7 rows6 at-seven (past-six (flagsInvalid (control (tcpPart f p))) (refusalOf (readPacket p mss.Absent .answer)) n);

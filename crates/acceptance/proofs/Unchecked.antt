@@ -10,6 +10,7 @@ use lib.Seq.{take-take}
 use borrow.Author.Tests.{le-ltb, ne-eqb, leb-true}
 use Rattle.basis.proofs.Tests.{and-left, and-right, and-false}
 use Rattle.syn_options.specs.Walk.{walkOf, parseOptionsRaw}
+use Rattle.syn_options.specs.Stops.{walkOptions, readOptions}
 use Rattle.matching.specs.Gates.{layoutMatches}
 use Rattle.matching.specs.declared.Features.{Features}
 use Rattle.matching.specs.declared.SignatureFit.the-variants as fit
@@ -158,11 +159,13 @@ bundle-unchecked =
     }
 
 options-unchecked : OptionsUnchecked
-unfolding parseOptionsRaw walkOf
+unfolding parseOptionsRaw walkOf walkOptions readOptions
 options-unchecked =
     record {
       same = λ s few. rw (le-ltb 40 (length s) few);
       over-40 = λ stop syn q s. rw (take-take 40 40 s (omega arith));
+      walk-same = λ stop syn q s few. rw (le-ltb 40 (length s) few);
+      walk-over-40 = λ stop syn q s. rw (take-take 40 40 s (omega arith));
     }
 
 pub unchecked : Unchecked

@@ -8,6 +8,7 @@ use Rattle.acceptance.specs.Honesty.{Honesty}
 use Rattle.acceptance.specs.Lines.{Lines}
 use Rattle.acceptance.specs.Modes.{Modes}
 use Rattle.acceptance.specs.OnPaper.{OnPaper}
+use Rattle.acceptance.specs.OneWalk.{OneWalk}
 use Rattle.acceptance.specs.Refusals.{Refusals}
 use Rattle.acceptance.specs.Stages.{Stages}
 use Rattle.acceptance.specs.TextLines.{TextLines}
@@ -32,9 +33,11 @@ pub record Acceptance : Type 1 where
   pub stages : Stages
   -- D1: signatures read from p0f's text form (document 02, Wish 1).
   pub textLines : TextLines
-  -- D1: the strict mode beside the plain one (document 02, Wish 2).
+  -- D1: the strict mode beside the plain one (document 02, Wishes 2 and 5).
   pub modes : Modes
   -- D1: specific and generic records (document 02, Wish 3).
   pub genericLast : GenericLast
   -- D1: the table of all TTL bytes (document 02, Wish 4).
   pub ttlTable : TtlTable
+  -- D1: one option walk, with the places of damage (document 02, Wish 5).
+  pub oneWalk : OneWalk

@@ -15,11 +15,14 @@ use denote.Ref.{RefT, now}
 use lib.ListN.{length, set}
 use Rattle.tcp.specs.declared.Mss.{Mss}
 use Rattle.quirks.specs.declared.QuirkSet.{QuirkSet}
+use Rattle.syn_options.specs.declared.StopBefore.{StopBefore}
 use Rattle.syn_options.specs.Walk.{walkOf, parseOptionsRaw}
+use Rattle.syn_options.specs.Places.{placesOf}
+use Rattle.syn_options.specs.Stops.{walkOptions, readOptions}
 use Rattle.ip.specs.Ip.{readIp}
 use Rattle.flow.specs.declared.Mode.{Mode}
 use Rattle.flow.specs.declared.Reading.{Reading}
-use Rattle.flow.specs.Modes.{plainMode, tcpStage, readIn}
+use Rattle.flow.specs.Modes.{plainMode, stopOf, tcpStage, readIn}
 use Rattle.flow.proofs.read_packet.Reads as read-packet'
 use Rattle.flow.proofs.read_packet_in.Reads as read-packet-in'
 use Rattle.search.specs.declared.SearchAnswer.{SearchAnswer}
@@ -41,6 +44,7 @@ use Rattle.alike.specs.Tcp.{AlikeTcp}
 use Rattle.alike.specs.Packets.{document01, Alike}
 use Rattle.alike.specs.Stages.{KeepsLevel, KeepsTcp}
 use Rattle.alike.specs.Free.{DifferOnly, Free, FreeTcp, FreeStamp}
+use Rattle.acceptance.specs.OneWalk.{optionsIn}
 use Rattle.acceptance.specs.Corners.{Corners}
 use Rattle.acceptance.specs.NotFree.{NotFree}
 use Rattle.acceptance.specs.Overlap.{Overlap}
@@ -98,6 +102,18 @@ pub record SameAnswer : Type 0 where
   pub option-walks
       : (s t : List ℕ) → AlikeOptions s t → (stop syn : Bool) (quirks : QuirkSet) → walkOf stop syn quirks s ≡ walkOf stop syn quirks t
   pub option-strings : (s t : List ℕ) → AlikeOptions s t → parseOptionsRaw s ≡ parseOptionsRaw t
+  -- by the one walk, wherever it stops: what it says and its places, refusal 8 included ("Demand 3 covers the places too", Wish 5)
+  pub one-walk
+      : (s t : List ℕ)
+      → AlikeOptions s t
+      → (stop : StopBefore) (syn : Bool) (quirks : QuirkSet)
+      → readOptions stop syn quirks s ≡ readOptions stop syn quirks t
+  -- the places in a packet, and what the walk of either entry gives of its options, with the places that it came to
+  pub places : (p q : List ℕ) → Alike p q → placesOf (optionsIn p) ≡ placesOf (optionsIn q)
+  pub walks
+      : (mode : Mode) (syn : Bool) (quirks : QuirkSet) (p q : List ℕ)
+      → Alike p q
+      → walkOptions (stopOf mode) syn quirks (optionsIn p) ≡ walkOptions (stopOf mode) syn quirks (optionsIn q)
   -- the packet reader
   pub reader : (mode : Mode) (p q : List ℕ) (peer : Mss) → Alike p q → readIn mode p peer ≡ readIn mode q peer
   -- the search, with its reason and its refusals

@@ -10,6 +10,7 @@ pub mod Lines
 pub mod Modes
 pub mod NotFree
 pub mod OnPaper
+pub mod OneWalk
 pub mod Outcome
 pub mod Overlap
 pub mod Promised

@@ -13,7 +13,9 @@ use Rattle.quirks.specs.declared.QuirkSet.{QuirkSet}
 use Rattle.quirks.specs.Named.{empty}
 use Rattle.observable.specs.declared.TcpObservation.{TcpObservation}
 use Rattle.syn_options.specs.declared.OptionsAnswer.the-variants as options
+use Rattle.syn_options.specs.declared.StopBefore.{StopBefore}
 use Rattle.syn_options.specs.Walk.{walkOf, parsedOf, parseOptionsRaw}
+use Rattle.syn_options.specs.Stops.{walkOptions, readOptions}
 use Rattle.flow.specs.declared.Answer.the-variants as reading
 use Rattle.flow.specs.declared.Mode.{Mode}
 use Rattle.flow.specs.Modes.{readIn}
@@ -105,7 +107,7 @@ pub record BundleUnchecked : Type 0 where
       → packetAtIn mode b at ≡ there.Packet (answerIn mode (packetBytes b at) (packetPeer b at) (listOf b)) (packetEnd b at)
   pub lies-not : (mode : Mode) (b : List ℕ) (at : ℕ) → packetLies b at ≡ false → packetAtIn mode b at ≡ there.NoPacket
 
--- `walk_options`, against `parse_options_raw` (refusal 8).
+-- `walk_options`, against `parse_options_raw` and `read_options` (refusal 8).
 pub record OptionsUnchecked : Type 0 where
   pub same
       : (s : List ℕ)
@@ -113,6 +115,12 @@ pub record OptionsUnchecked : Type 0 where
       → parseOptionsRaw s ≡ record { answer = options.Parsed; options = parsedOf (walkOf true false empty s) }
   -- 8: the walk of the first forty bytes.
   pub over-40 : (stop syn : Bool) (q : QuirkSet) (s : List ℕ) → walkOf stop syn q s ≡ walkOf stop syn q (take 40 s)
+  pub walk-same
+      : (stop : StopBefore) (syn : Bool) (q : QuirkSet) (s : List ℕ)
+      → length s ≤ 40
+      → readOptions stop syn q s ≡ record { answer = options.Parsed; walk = walkOptions stop syn q s }
+  pub walk-over-40
+      : (stop : StopBefore) (syn : Bool) (q : QuirkSet) (s : List ℕ) → walkOptions stop syn q s ≡ walkOptions stop syn q (take 40 s)
 
 pub record Unchecked : Type 0 where
   pub search : SearchUnchecked

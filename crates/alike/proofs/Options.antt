@@ -1,18 +1,20 @@
--- Alike rows of options are walked alike: of a timestamps option the walk looks at its size, its length byte, and whether each
--- half is zero.
+-- Alike rows of options are walked alike, and damaged at the same places: of a timestamps option the walk looks at its size, its length
+-- byte, and whether each half is zero.
 use mathlib.Core.Path.{_≡_, refl, sym, _∙_}
 use mathlib.Core.Bool.{Bool}
 use mathlib.Core.List.{List, [], _∷_}
-use Prim.Native.Nat.{ℕ, _<_, _≤_}
+use Prim.Native.Nat.{ℕ, _+_, _<_, _≤_}
 use native.Mathlib.Omega.{arith}
 use native.Mathlib.Decide.{decLe}
 use lib.ListN.{length}
 use Rattle.basis.specs.Bytes.{byteAt, be32}
 use Rattle.one_option.specs.declared.Seen.{Seen}
-use Rattle.syn_options.specs.declared.Walked.{Walked}
-use Rattle.one_option.specs.Options.{Opt, asked, runsPast}
+use Rattle.one_option.specs.Options.{Opt, asked, runsPast, shortLength}
 use Rattle.one_option.specs.See.{seeOption}
-use Rattle.syn_options.specs.Walk.{entryByte, putEntry, putOption, walkFrom}
+use Rattle.syn_options.specs.declared.StopBefore.{StopBefore}
+use Rattle.syn_options.specs.Places.{sizeOf, firstFrom}
+use Rattle.syn_options.specs.Stops.{stopsBefore}
+use Rattle.syn_options.specs.Walk.{Walked, entryByte, putEntry, putOption, walkFrom}
 use Rattle.one_option.proofs.See.{opt, stamps-none, stamps-own, stamps-both}
 use Rattle.alike.specs.Free.{ZeroAlike}
 use Rattle.alike.specs.Options.{AlikeStamps, AlikeOption, AlikeRow}
@@ -76,6 +78,11 @@ module _ (s t : List ℕ) (a : LikeStamps s t) where
   unfolding runsPast asked
   past-alike = rw (a .sameLength, a .lengthByte)
 
+  -- Its length is short on both sides or on neither.
+  short-alike : shortLength (opt 8 s) ≡ shortLength (opt 8 t)
+  unfolding shortLength
+  short-alike = rw (a .sameLength, a .lengthByte)
+
   -- It adds the same to a walk.
   put-alike : (syn : Bool) (w : Walked) → putOption syn w (opt 8 s) ≡ putOption syn w (opt 8 t)
   unfolding putEntry entryByte
@@ -89,3 +96,29 @@ walk-like stop syn w none = refl
 walk-like stop syn w (same {o} {os} {ps} r) = rw (walk-like stop syn (putOption syn w o) r)
 walk-like stop syn w (stamps {s} {t} {os} {ps} a r) =
     rw (past-alike s t a, put-alike s t a syn w, walk-like stop syn (putOption syn w (opt 8 t)) r)
+
+-- ---- places
+
+-- A test that sees of a timestamps option only what the walk looks at.
+abbrev SeesAlike : (Opt → Bool) → Type 0
+SeesAlike test = (s t : List ℕ) → LikeStamps s t → test (opt 8 s) ≡ test (opt 8 t)
+
+first-alike
+    : (test : Opt → Bool) → SeesAlike test → (at : ℕ) {os ps : List Opt} → LikeRow os ps → firstFrom test at os ≡ firstFrom test at ps
+unfolding firstFrom
+first-alike test sees at none = refl
+first-alike test sees at (same {o} r) = rw (first-alike test sees (at + sizeOf o) r)
+first-alike test sees at (stamps {s} {t} {os} {ps} a r) =
+    rw (sees s t a, a .sameLength, first-alike test sees (at + sizeOf (opt 8 t)) r)
+
+-- Rows alike in this sense have their first damaged options at the same places, and a walk stops at the same place.
+module _ {os ps : List Opt} (at : ℕ) (r : LikeRow os ps) where
+  pub past-place : firstFrom runsPast at os ≡ firstFrom runsPast at ps
+  past-place = first-alike runsPast past-alike at r
+
+  pub short-place : firstFrom shortLength at os ≡ firstFrom shortLength at ps
+  short-place = first-alike shortLength short-alike at r
+
+  pub stop-place : (stop : StopBefore) → firstFrom (stopsBefore stop) at os ≡ firstFrom (stopsBefore stop) at ps
+  unfolding stopsBefore
+  stop-place stop = first-alike (stopsBefore stop) (λ s t a. rw (past-alike s t a, short-alike s t a)) at r

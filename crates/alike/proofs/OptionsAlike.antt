@@ -7,10 +7,10 @@ use native.Mathlib.Decide.{ℕ-discrete}
 use lib.ListN.{length, take, drop, length-take, length-drop}
 use lib.Seq.{getD-drop}
 use Rattle.basis.specs.Bytes.{byteAt, be32}
-use Rattle.one_option.specs.Options.{asked, optionsAfter}
+use Rattle.one_option.specs.Options.{asked, optionsAfter, OptionBegins}
 use Rattle.one_option.proofs.Options.{skipped}
 use Rattle.alike.specs.Options.{AlikeStamps, AlikeOption, AlikeRow, AlikeOptions}
-use Rattle.alike.specs.Free.{ZeroAlike, Within, DifferOnly, WalkReaches, Half, FreeStamp}
+use Rattle.alike.specs.Free.{ZeroAlike, Within, DifferOnly, Half, FreeStamp}
 use Rattle.alike.proofs.Places.{agrees, be32-agree, be32-take, be32-drop, zero-alike}
 use Rattle.alike.proofs.Places.{take-alike, drop-alike, take-byte, drop-byte, take-same}
 
@@ -70,11 +70,11 @@ module _ (b c : ℕ) (s t : List ℕ) (d : DifferOnly (FreeStamp (b ∷ s) (c �
   own-place i within own peer = agrees d (suc i) clash
     where
       clash : Within (FreeStamp (b ∷ s) (c ∷ t)) (suc i) → ⊥
-      clash (Within.lies (FreeStamp.half Half.own WalkReaches.first k w l z) after before) =
+      clash (Within.lies (FreeStamp.half Half.own OptionBegins.first k w l z) after before) =
           own k (omega arith) (omega arith) (rw (be32-behind b 1 s, be32-behind c 1 t) at z) (omega arith) (omega arith)
-      clash (Within.lies (FreeStamp.half Half.peer WalkReaches.first k w l z) after before) =
+      clash (Within.lies (FreeStamp.half Half.peer OptionBegins.first k w l z) after before) =
           peer k (omega arith) (omega arith) (rw (be32-behind b 5 s, be32-behind c 5 t) at z) (omega arith) (omega arith)
-      clash (Within.lies (FreeStamp.half half (WalkReaches.next r) k w l z) after before) = omega arith
+      clash (Within.lies (FreeStamp.half half (OptionBegins.next r) k w l z) after before) = omega arith
 
   -- The own bytes of an option that is no timestamps option.
   own-same : (b ≡ 8 → ⊥) → take (asked b s) s ≡ take (asked b s) t
@@ -111,10 +111,10 @@ module _ (b c : ℕ) (s t : List ℕ) (d : DifferOnly (FreeStamp (b ∷ s) (c �
       : (j : ℕ)
       → Within (FreeStamp (b ∷ s) (c ∷ t)) (suc (asked b s + j))
       → Within (FreeStamp (drop (asked b s) s) (drop (asked b s) t)) j
-  behind j (Within.lies (FreeStamp.half half WalkReaches.first k w l z) after before) =
+  behind j (Within.lies (FreeStamp.half half OptionBegins.first k w l z) after before) =
       let ask = asked-stamps b s k in
       absurd (omega arith)
-  behind j (Within.lies (FreeStamp.half {k = from} half (WalkReaches.next {n} r) k w l z) after before) =
+  behind j (Within.lies (FreeStamp.half {k = from} half (OptionBegins.next {n} r) k w l z) after before) =
       Within.lies
       (FreeStamp.half half r
       (getD-drop (asked b s) s n 0 ∙ k)

@@ -8,10 +8,10 @@ use native.Mathlib.Decide.{decLe}
 use lib.ListN.{length, take, drop, length-take, length-drop}
 use lib.Seq.{getD-take, getD-drop}
 use Rattle.basis.specs.Bytes.{byteAt, be32}
-use Rattle.one_option.specs.Options.{Opt, asked, optionOf, optionsAfter}
+use Rattle.one_option.specs.Options.{Opt, asked, optionOf, optionsAfter, OptionBegins}
 use Rattle.one_option.proofs.Options.{skipped}
 use Rattle.alike.specs.Options.{AlikeStamps, AlikeOption, AlikeRow, AlikeOptions}
-use Rattle.alike.specs.Free.{ZeroAlike, Within, DifferOnly, WalkReaches, Half, FreeStamp}
+use Rattle.alike.specs.Free.{ZeroAlike, Within, DifferOnly, Half, FreeStamp}
 use Rattle.alike.proofs.Places.{past-both, be32-take, drop-alike}
 use Rattle.alike.proofs.OptionsAlike.{asked-stamps, be32-behind, byte-on, be32-on, options-alike-by}
 
@@ -117,7 +117,7 @@ module _ (b c : ℕ) (s t : List ℕ) (size : length s ≡ length t) (first : Ca
           let says = ask in
           let place : 0 + suc k ≡ suc k = omega arith in
           Within.lies
-          (FreeStamp.half {at = 0} half WalkReaches.first e (omega arith) (omega arith)
+          (FreeStamp.half {at = 0} half OptionBegins.first e (omega arith) (omega arith)
           (rw (place, be32-behind b k s, be32-behind c k t)
           (rw (be32-take (asked b s) k s (omega arith), be32-take (asked c t) k t (omega arith)) at z)))
           (omega arith) (omega arith)
@@ -146,7 +146,7 @@ module _ (b c : ℕ) (s t : List ℕ) (size : length s ≡ length t) (first : Ca
   before j (Within.lies (FreeStamp.half {at} {k = from} half r k w l z) after before') =
       let x = length-drop (asked b s) s in
       Within.lies
-      (FreeStamp.half {at = suc (asked b s + at)} half (WalkReaches.next r)
+      (FreeStamp.half {at = suc (asked b s + at)} half (OptionBegins.next r)
       (sym (getD-drop (asked b s) s at 0) ∙ k)
       (rw (byte-on b (asked b s) at 1 s) at w)
       (omega arith)

@@ -36,6 +36,23 @@ parts-alike p q f {from} {to} same start end (AlikeBody.tcp long a) =
     let of-q : tcpPart f q ≡ part from to q = rw (start, end, same) (clipped from to q) in
     rw (of-p, of-q) a
 
+-- Alike packets get the same facts of an IP stage that keeps to the level, and alike TCP parts.
+pub stage-alike
+    : (level : IpLevel) (stage : IpStage) → KeepsLevel level stage → (p q : List ℕ) → AlikeBy level p q → stage p ≡ stage q
+stage-alike level stage keeps p q a = keeps .alike p q (a .sameLength) (a .header)
+
+pub part-alike
+    : (level : IpLevel) (stage : IpStage)
+    → KeepsLevel level stage
+    → (p q : List ℕ)
+    → AlikeBy level p q
+    → (f : IpFacts)
+    → stage p ≡ ip.Facts f
+    → AlikeTcp (tcpPart f p) (tcpPart f q)
+part-alike level stage keeps p q a f e =
+    let lies = keeps .part p f e in
+    parts-alike p q f (a .sameLength) (lies .0) (lies .1) (a .body)
+
 -- For any level, any IP stage that keeps to it, and any TCP stage.
 pub by-stages
     : (level : IpLevel) (stage : IpStage) (tcp : TcpStage)
@@ -45,13 +62,11 @@ pub by-stages
     → AlikeBy level p q
     → readBy stage tcp p peer ≡ readBy stage tcp q peer
 by-stages level stage tcp keeps keeps-tcp p q peer a =
-    rw (← keeps .alike p q (a .sameLength) (a .header)) (after (stage p) refl)
+    rw (← stage-alike level stage keeps p q a) (after (stage p) refl)
   where
     after : (x : IpRead) → stage p ≡ x → afterIp tcp x p peer ≡ afterIp tcp x q peer
     after (ip.Refused r) e = refl
-    after (ip.Facts f) e =
-        let lies = keeps .part p f e in
-        keeps-tcp f (tcpPart f p) (tcpPart f q) peer (parts-alike p q f (a .sameLength) (lies .0) (lies .1) (a .body))
+    after (ip.Facts f) e = keeps-tcp f (tcpPart f p) (tcpPart f q) peer (part-alike level stage keeps p q a f e)
 
 -- Two packets of equal length that differ only in the free bytes get the same answer, in every mode.
 pub read-alike : (mode : Mode) (p q : List ℕ) (peer : Mss) → Alike p q → readIn mode p peer ≡ readIn mode q peer

@@ -8,18 +8,20 @@ use Rattle.quirks.specs.declared.QuirkSet.{QuirkSet}
 use Rattle.rfc.specs.Rfc9293 as tcp
 use Rattle.tcp.specs.declared.Mss.{Mss}
 use Rattle.tcp.specs.declared.Mss.the-variants as mss
-use Rattle.syn_options.specs.declared.Walked.{Walked}
-use Rattle.syn_options.specs.Walk.{walkOf}
+use Rattle.syn_options.specs.Walk.{Walked}
+use Rattle.syn_options.specs.Stops.{walkedOf, walkOptions}
 use Rattle.ip.specs.declared.IpFacts.{IpFacts}
-use Rattle.flow.specs.Tcp.{quirksOfHeaders, payloadClass, observationOf, observationFrom, knownPeer, readTcp}
+use Rattle.flow.specs.Tcp.{quirksOfHeaders, payloadClass, observationOf, knownPeer}
 use Rattle.tcp_header.specs.HeaderQuirks.{headerQuirks}
 use Rattle.flow.specs.declared.Mode.{Mode}
-use Rattle.flow.specs.Strict.{contradictsItself, readTcpStrict}
-use Rattle.flow.specs.Modes.{tcpStage}
+use Rattle.flow.specs.Strict.{contradictsItself, readTcpBy}
+use Rattle.flow.specs.Modes.{stopOf, tcpStage, observationIn}
+use Rattle.flow.proofs.Stage.{stage-by}
+use Rattle.flow.proofs.Walks.{observed-walk}
 use Rattle.alike.specs.Tcp.{AlikeTcp}
 use Rattle.alike.specs.Stages.{KeepsTcp}
 use Rattle.alike.proofs.Places.{be16-agree}
-use Rattle.alike.proofs.Walks.{walk-alike}
+use Rattle.alike.proofs.Walks.{one-walk-alike}
 
 module _ (f : IpFacts) (t u : List ℕ) (peer : Mss) (a : AlikeTcp t u) where
   -- Both headers show the same quirks.
@@ -32,22 +34,28 @@ module _ (f : IpFacts) (t u : List ℕ) (peer : Mss) (a : AlikeTcp t u) where
   unfolding observationOf payloadClass
   rest-alike w peer = rw (be16-agree 14 t u (a .window), a .dataOffset, a .sameLength)
 
-  observed-alike : (syn : Bool) (peer : Mss) → observationFrom f t syn peer ≡ observationFrom f u syn peer
-  unfolding observationFrom
-  observed-alike syn peer =
-      rw (quirks-alike (f .quirks), walk-alike (tcp.options t) (tcp.options u) (a .options) false syn (quirksOfHeaders u (f .quirks)))
-      (rest-alike (walkOf false syn (quirksOfHeaders u (f .quirks)) (tcp.options u)) peer)
-
-  read-tcp-alike : readTcp f t peer ≡ readTcp f u peer
-  unfolding readTcp
-  read-tcp-alike = rw (a .control 13 (omega arith) (omega arith), observed-alike true mss.Absent, observed-alike false (knownPeer peer))
+  -- In every mode the same is observed.
+  observed-alike : (mode : Mode) (syn : Bool) (peer : Mss) → observationIn mode f t syn peer ≡ observationIn mode f u syn peer
+  observed-alike mode syn peer =
+      rw (
+        ← observed-walk mode f t syn peer,
+        ← observed-walk mode f u syn peer,
+        quirks-alike (f .quirks),
+        one-walk-alike (tcp.options t) (tcp.options u) (a .options) (stopOf mode) syn (quirksOfHeaders u (f .quirks)),
+      )
+      (rest-alike (walkedOf (walkOptions (stopOf mode) syn (quirksOfHeaders u (f .quirks)) (tcp.options u))) peer)
 
   -- Both contradict themselves or neither does.
   aside-alike : contradictsItself t ≡ contradictsItself u
   unfolding contradictsItself
   aside-alike = rw (a .dataOffset, a .sameLength)
 
+  stage-alike : (mode : Mode) → readTcpBy (observationIn mode f t) t peer ≡ readTcpBy (observationIn mode f u) u peer
+  unfolding readTcpBy
+  stage-alike mode =
+      rw (a .control 13 (omega arith) (omega arith), observed-alike mode true mss.Absent, observed-alike mode false (knownPeer peer))
+
 -- Two alike TCP parts give one reading, for every byte string, whatever its bytes, in every mode.
 pub tcp-alike : (mode : Mode) → KeepsTcp (tcpStage mode)
-unfolding readTcpStrict
-tcp-alike mode f t u peer a = rw (read-tcp-alike f t u peer a, aside-alike f t u peer a)
+tcp-alike mode f t u peer a =
+    rw (stage-by mode f t peer, stage-by mode f u peer, aside-alike f t u peer a, stage-alike f t u peer a mode)

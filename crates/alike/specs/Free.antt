@@ -2,15 +2,15 @@
 -- to the second, which is not among them. `p` and `q` are the two packets.
 use mathlib.Core.Path.{_≡_}
 use mathlib.Core.Bool.{cond}
-use mathlib.Core.List.{List, _∷_}
-use Prim.Native.Nat.{ℕ, suc, _+_, _*_, _/_, _<_, _≤_, max}
+use mathlib.Core.List.{List}
+use Prim.Native.Nat.{ℕ, _+_, _*_, _/_, _<_, _≤_, max}
 use lib.Dec.{eqb}
-use lib.ListN.{length, drop}
+use lib.ListN.{length}
 use Rattle.basis.specs.Bytes.{byteAt, be32, part}
 use Rattle.rfc.specs.Rfc791 as v4
 use Rattle.rfc.specs.Rfc8200 as v6
 use Rattle.rfc.specs.Rfc9293 as tcp
-use Rattle.one_option.specs.Options.{asked}
+use Rattle.one_option.specs.Options.{OptionBegins}
 
 -- A place lies in an item.
 pub data Within (Item : ℕ → ℕ → Type 0) (i : ℕ) : Type 0 where
@@ -27,12 +27,6 @@ pub record DifferOnly (Item : ℕ → ℕ → Type 0) (p q : List ℕ) : Type 0 
 abbrev pub ZeroAlike : ℕ → ℕ → Type 0
 ZeroAlike m n = eqb m 0 ≡ eqb n 0
 
--- The walk reaches an option at this place of the string (in a string of more than forty bytes, which no packet has, the places past them
--- count too).
-pub data WalkReaches : ℕ → List ℕ → Type 0 where
-  first : {b : ℕ} {rest : List ℕ} → WalkReaches 0 (b ∷ rest)
-  next : {b n : ℕ} {rest : List ℕ} → WalkReaches n (drop (asked b rest) rest) → WalkReaches (suc (asked b rest + n)) (b ∷ rest)
-
 -- ---- the items
 
 -- Where a half of a timestamps option begins: behind the kind and the length byte the own timestamp, behind that the peer's (RFC 7323,
@@ -42,12 +36,13 @@ pub data Half : ℕ → Type 0 where
   peer : Half 6
 
 -- "either four-byte half, wholly present, of a timestamps option that the walk reaches", which stays zero or stays nonzero:
--- the option's length byte and the string both have room for it.
+-- the option's length byte and the string both have room for it. The walk reaches every option that begins in the string (in a string of
+-- more than forty bytes, which no packet has, those past them count too).
 pub data FreeStamp (s t : List ℕ) : ℕ → ℕ → Type 0 where
   half
       : {at k : ℕ}
       → Half k
-      → WalkReaches at s
+      → OptionBegins at s
       → byteAt s at ≡ 8
       → k + 4 ≤ byteAt s (at + 1)
       → at + (k + 4) ≤ length s

@@ -10,6 +10,7 @@ use Rattle.rfc.specs.Rfc791 as v4
 use Rattle.rfc.specs.Rfc8200 as v6
 use Rattle.rfc.specs.Rfc9293.{control}
 use Rattle.tcp.specs.declared.Mss.{Mss}
+use Rattle.observable.specs.declared.TcpObservation.{TcpObservation}
 use Rattle.ip.specs.declared.IpFacts.{IpFacts}
 use Rattle.ip.specs.declared.IpRead.{IpRead}
 use Rattle.ip.specs.declared.IpRead.the-variants as ip
@@ -19,11 +20,12 @@ use Rattle.refusals.specs.declared.PacketRefusal.{PacketRefusal}
 use Rattle.refusals.specs.declared.PacketRefusal.the-variants as refusal
 use Rattle.tcp_header.specs.Flags.{flagsInvalid, isSynType, isSynAckType}
 use Rattle.ip.specs.Ip.{ipv4Facts, readIpv4, ipv6Facts, readIpv6, readIp}
-use Rattle.flow.specs.Tcp.{refusing, readTcp}
-use Rattle.flow.specs.Strict.{contradictsItself, readTcpStrict}
-use Rattle.flow.specs.Modes.{tcpStage, readIn}
+use Rattle.flow.specs.Tcp.{refusing}
+use Rattle.flow.specs.Strict.{contradictsItself, readTcpBy}
+use Rattle.flow.specs.Modes.{tcpStage, observationIn, readIn}
 use Rattle.refusals.specs.Refusals.{packetNumber}
 use Rattle.flow.specs.Reading.{afterIp, refusalOf}
+use Rattle.flow.proofs.Stage.{stage-by}
 
 -- ---- the table's rows, as tests
 
@@ -75,10 +77,12 @@ no-refusal true ack = refl
 no-refusal false true = refl
 no-refusal false false = refl
 
--- The TCP stage refuses by the flags alone.
-pub by-flags : (f : IpFacts) (t : List ℕ) (peer : Mss) → refusalOf (readTcp f t peer .answer) ≡ cond (flagsInvalid (control t)) 7 0
-unfolding readTcp refusalOf
-by-flags f t peer =
+-- Whatever it observes, the TCP stage refuses by the flags alone.
+by-flags
+    : (observe : Bool → Mss → TcpObservation) (t : List ℕ) (peer : Mss)
+    → refusalOf (readTcpBy observe t peer .answer) ≡ cond (flagsInvalid (control t)) 7 0
+unfolding readTcpBy refusalOf
+by-flags observe t peer =
     either (flagsInvalid (control t)) _ _ 7 (cond (isSynType (control t)) 0 (cond (isSynAckType (control t)) 0 0)) refl
     (either (isSynType (control t)) _ _ 0 (cond (isSynAckType (control t)) 0 0) refl
     (either (isSynAckType (control t)) _ _ 0 0 refl refl))
@@ -89,16 +93,11 @@ pub by-header
     : (mode : Mode) (f : IpFacts) (t : List ℕ) (peer : Mss)
     → refusalOf (tcpStage mode f t peer .answer)
     ≡ cond (mode .strict && contradictsItself t) 14 (cond (flagsInvalid (control t)) 7 0)
-unfolding readTcpStrict refusalOf
-by-header mode f t peer = by-tests (mode .strict) (contradictsItself t)
-  where
-    by-tests
-        : (strict aside : Bool)
-        → refusalOf ((cond {A = Reading} strict (cond aside (refusing refusal.DataOffset) (readTcp f t peer)) (readTcp f t peer)) .answer)
-        ≡ cond (strict && aside) 14 (cond (flagsInvalid (control t)) 7 0)
-    by-tests true true = refl
-    by-tests true false = by-flags f t peer
-    by-tests false aside = by-flags f t peer
+unfolding refusalOf
+by-header mode f t peer =
+    rw (stage-by mode f t peer)
+    (either (mode .strict && contradictsItself t) _ _ 14 (cond (flagsInvalid (control t)) 7 0) refl
+    (by-flags (observationIn mode f t) t peer))
 
 module _ (mode : Mode) (p : List ℕ) (peer : Mss) where
   -- What the IP stage gives leads to a refusal of this number.

@@ -1,7 +1,9 @@
+pub mod Damage
+pub mod FirstRow
 pub mod Observed
 pub mod Opening
-mod Stage
 pub mod Parts
 pub mod Peer
-pub mod FirstRow
+pub mod Stage
 pub mod Unique
+pub mod Walks

@@ -1,25 +1,28 @@
 -- Reading with a peer is reading without, with the peer put in; and what follows of the readings that take none.
 use mathlib.Core.Path.{_≡_, refl, sym, _∙_, ap}
-use mathlib.Core.Bool.{Bool, true, false, cond}
+use mathlib.Core.Bool.{Bool, true, false, cond, _&&_}
 use mathlib.Core.List.{List}
 use Prim.Native.Nat.{ℕ}
 use Rattle.rfc.specs.Rfc9293.{control}
 use Rattle.tcp.specs.declared.Mss.{Mss}
 use Rattle.tcp.specs.declared.Mss.the-variants as mss
+use Rattle.observable.specs.declared.TcpObservation.{TcpObservation}
 use Rattle.observable.specs.Observation.{emptyObservation}
 use Rattle.flow.specs.declared.Answer.{Answer}
 use Rattle.flow.specs.declared.Answer.the-variants as answer
+use Rattle.ip.specs.declared.IpFacts.{IpFacts}
 use Rattle.ip.specs.declared.IpRead.{IpRead}
 use Rattle.ip.specs.declared.IpRead.the-variants as ip
 use Rattle.ip.specs.Ip.{IpStage, readIp}
 use Rattle.flow.specs.declared.Mode.{Mode}
 use Rattle.flow.specs.declared.Reading.{Reading}
 use Rattle.tcp_header.specs.Flags.{flagsInvalid, isSynType, isSynAckType}
-use Rattle.flow.specs.Tcp.{observationOf, observationFrom, readTcp}
+use Rattle.flow.specs.Tcp.{observationOf, observationFrom, knownPeer}
 use Rattle.flow.specs.Reading.{TcpStage, tcpPart, afterIp, readBy, readPacket}
-use Rattle.flow.specs.Strict.{contradictsItself, readTcpStrict}
-use Rattle.flow.specs.Modes.{plainMode, tcpStage, readIn}
+use Rattle.flow.specs.Strict.{contradictsItself, strictObservation, readTcpBy}
+use Rattle.flow.specs.Modes.{plainMode, tcpStage, observationIn, readIn}
 use Rattle.flow.specs.Peer.{peerBeside, putPeer, withPeer, TakesPeer}
+use Rattle.flow.proofs.Stage.{stage-by}
 
 -- Whichever way the three tests of the TCP stage go.
 by-tests
@@ -34,24 +37,44 @@ by-tests peer false true ack a b c d e w x y z = x
 by-tests peer false false true a b c d e w x y z = y
 by-tests peer false false false a b c d e w x y z = z
 
-pub takes-peer : TakesPeer readTcp
-unfolding readTcp withPeer peerBeside observationFrom observationOf emptyObservation
-takes-peer f t peer =
-    by-tests peer (flagsInvalid (control t)) (isSynType (control t)) (isSynAckType (control t)) _ _ _ _ _ refl refl refl refl
+-- A way to observe that puts the peer's MSS into the observation and uses it for nothing else.
+abbrev PutsPeer : (Bool → Mss → TcpObservation) → Type 0
+PutsPeer observe = (syn : Bool) (peer other : Mss) → observe syn peer ≡ putPeer peer (observe syn other)
+
+by-peer : (observe : Bool → Mss → TcpObservation) (t : List ℕ) (peer : Mss) → PutsPeer observe
+    → readTcpBy observe t peer ≡ withPeer peer (readTcpBy observe t mss.Absent)
+unfolding readTcpBy withPeer peerBeside emptyObservation
+by-peer observe t peer puts =
+    by-tests peer (flagsInvalid (control t)) (isSynType (control t)) (isSynAckType (control t)) _ _ _ _ _ refl
+    (ap (λ (o : TcpObservation). record { answer = answer.Syn; observation = o }) (puts true mss.Absent mss.Absent))
+    (ap (λ (o : TcpObservation). record { answer = answer.SynAck; observation = o }) (puts false (knownPeer peer) (knownPeer mss.Absent)))
+    refl
+
+puts-peer : (mode : Mode) (f : IpFacts) (t : List ℕ) → PutsPeer (observationIn mode f t)
+unfolding observationIn strictObservation observationFrom observationOf
+puts-peer mode f t syn peer other = by-strict (mode .strict)
+  where
+    by-strict
+        : (strict : Bool)
+        → cond strict (strictObservation f t syn peer) (observationFrom f t syn peer)
+        ≡ putPeer peer (cond strict (strictObservation f t syn other) (observationFrom f t syn other))
+    by-strict true = refl
+    by-strict false = refl
 
 -- Whether the header is set aside or not, in any mode.
 in-mode
-    : (peer : Mss) (strict aside : Bool) (a b c : Reading)
+    : (peer : Mss) (aside : Bool) (a b c : Reading)
     → a ≡ withPeer peer a
     → b ≡ withPeer peer c
-    → cond strict (cond aside a b) b ≡ withPeer peer (cond strict (cond aside a c) c)
-in-mode peer true true a b c x y = x
-in-mode peer true false a b c x y = y
-in-mode peer false aside a b c x y = y
+    → cond aside a b ≡ withPeer peer (cond aside a c)
+in-mode peer true a b c x y = x
+in-mode peer false a b c x y = y
 
 pub takes-peer-in : (mode : Mode) → TakesPeer (tcpStage mode)
-unfolding readTcpStrict withPeer peerBeside emptyObservation
-takes-peer-in mode f t peer = in-mode peer (mode .strict) (contradictsItself t) _ _ _ refl (takes-peer f t peer)
+unfolding withPeer peerBeside emptyObservation
+takes-peer-in mode f t peer =
+    rw (stage-by mode f t peer, stage-by mode f t mss.Absent)
+    (in-mode peer (mode .strict && contradictsItself t) _ _ _ refl (by-peer (observationIn mode f t) t peer (puts-peer mode f t)))
 
 module _ (stage : IpStage) (tcp : TcpStage) (takes : TakesPeer tcp) where
   after-ip : (r : IpRead) (p : List ℕ) (peer : Mss) → afterIp tcp r p peer ≡ withPeer peer (afterIp tcp r p mss.Absent)

@@ -15,6 +15,7 @@ use Rattle.ip.specs.declared.IpRead.the-variants as ip
 use Rattle.ip.specs.Ip.{readIp}
 use Rattle.ip.proofs.Ip.{tcp-part-lies}
 use Rattle.basis.proofs.Bytes.{part-length}
+use Rattle.observable.specs.declared.TcpObservation.{TcpObservation}
 use Rattle.observable.specs.Observation.{emptyObservation}
 use Rattle.refusals.specs.declared.PacketRefusal.the-variants as refusal
 use Rattle.flow.specs.declared.Answer.the-variants as answer
@@ -22,9 +23,9 @@ use Rattle.flow.specs.declared.Mode.{Mode}
 use Rattle.flow.specs.declared.Reading.{Reading}
 use Rattle.tcp_header.specs.Flags.{maskedType, flagsInvalid, isSynType, isSynAckType}
 use Rattle.flow.specs.Tcp.{readTcp, refusing, knownPeer, observationFrom}
-use Rattle.flow.specs.Strict.{contradictsItself, readTcpStrict}
+use Rattle.flow.specs.Strict.{contradictsItself, strictObservation, readTcpBy, readTcpStrict}
 use Rattle.flow.specs.Reading.{tcpPart}
-use Rattle.flow.specs.Modes.{readIn}
+use Rattle.flow.specs.Modes.{tcpStage, observationIn, readIn}
 use Rattle.tcp_header.proofs.Flags.{opening-valid}
 use Rattle.flow.proofs.Opening.{opens, neither-first, neither-second}
 
@@ -35,6 +36,28 @@ pub part-long : (p : List ℕ) (f : IpFacts) → readIp p ≡ ip.Facts f → 20 
 part-long p f e = let lies = tcp-part-lies p f e in rw (part-length _ _ _ (lies .1)) (omega arith)
 
 -- ---- the mode's choice
+
+-- The plain stage, and the stage of a mode, by what they observe.
+pub plain-by : (f : IpFacts) (t : List ℕ) (peer : Mss) → readTcp f t peer ≡ readTcpBy (observationFrom f t) t peer
+unfolding readTcp readTcpBy
+plain-by f t peer = refl
+
+pub stage-by
+    : (mode : Mode) (f : IpFacts) (t : List ℕ) (peer : Mss)
+    → tcpStage mode f t peer
+    ≡ cond (mode .strict && contradictsItself t) (refusing refusal.DataOffset) (readTcpBy (observationIn mode f t) t peer)
+unfolding readTcpStrict observationIn
+stage-by mode f t peer = rw (plain-by f t peer) (by-tests (mode .strict) (contradictsItself t))
+  where
+    by-tests
+        : (strict aside : Bool)
+        → cond strict (cond aside (refusing refusal.DataOffset) (readTcpBy (strictObservation f t) t peer))
+        (readTcpBy (observationFrom f t) t peer)
+        ≡ cond (strict && aside) (refusing refusal.DataOffset)
+        (readTcpBy (λ (syn : Bool) (m : Mss). cond strict (strictObservation f t syn m) (observationFrom f t syn m)) t peer)
+    by-tests true true = refl
+    by-tests true false = refl
+    by-tests false aside = refl
 
 -- Five words are twenty bytes.
 in-words : (n : ℕ) → ltb (4 * n) 20 ≡ ltb n 5
@@ -52,25 +75,20 @@ module _
     abbrev isAside : Bool
     isAside = mode .strict && (ltb header 20 || ltb (length (tcpPart f p)) header)
 
-    by-mode : readIn mode p peer ≡ cond isAside (refusing refusal.DataOffset) (readTcp f (tcpPart f p) peer)
-    unfolding readIn readTcpStrict contradictsItself
-    by-mode = rw (handed, says, in-words (dataOffset (tcpPart f p))) (in-one (mode .strict) _ _ _)
-      where
-        in-one
-            : (strict aside : Bool) (a b : Reading)
-            → _≡_ {A = Reading} (cond strict (cond aside a b) b) (cond (strict && aside) a b)
-        in-one true aside a b = refl
-        in-one false aside a b = refl
+    by-mode : readIn mode p peer
+        ≡ cond isAside (refusing refusal.DataOffset) (readTcpBy (observationIn mode f (tcpPart f p)) (tcpPart f p) peer)
+    unfolding readIn contradictsItself
+    by-mode = rw (handed, says, in-words (dataOffset (tcpPart f p))) (stage-by mode f (tcpPart f p) peer)
 
     pub refused-14 : isAside ≡ true → readIn mode p peer ≡ refusing refusal.DataOffset
     refused-14 aside = rw (by-mode, aside)
 
-    pub read-on : isAside ≡ false → readIn mode p peer ≡ readTcp f (tcpPart f p) peer
+    pub read-on : isAside ≡ false → readIn mode p peer ≡ readTcpBy (observationIn mode f (tcpPart f p)) (tcpPart f p) peer
     read-on kept = rw (by-mode, kept)
 
 -- ---- what is read on
 
-module _ (f : IpFacts) (t : List ℕ) (peer : Mss) where
+module _ (observe : Bool → Mss → TcpObservation) (t : List ℕ) (peer : Mss) where
   abbrev isSyn : Bool
   isSyn = eqb (maskedType (control t)) 2
 
@@ -83,21 +101,21 @@ module _ (f : IpFacts) (t : List ℕ) (peer : Mss) where
       → _≡_ {A = Reading}
       (record {
         answer = cond isSyn answer.Syn answer.SynAck;
-        observation = observationFrom f t isSyn (cond isSyn mss.Absent (knownPeer peer));
+        observation = observe isSyn (cond isSyn mss.Absent (knownPeer peer));
       })
-      (readTcp f t peer)
-  unfolding readTcp isSynType isSynAckType
+      (readTcpBy observe t peer)
+  unfolding readTcpBy isSynType isSynAckType
   opening-read byte one =
       rw (opening-valid (control t) byte one)
-      (opens f t (knownPeer peer) (record { answer = answer.Nothing; observation = emptyObservation }) isSyn isSynAck one)
+      (opens observe (knownPeer peer) (record { answer = answer.Nothing; observation = emptyObservation }) isSyn isSynAck one)
 
   pub nothing-read
       : flagsInvalid (control t) ≡ false
       → isSyn || isSynAck ≡ false
-      → _≡_ {A = Reading} (record { answer = answer.Nothing; observation = emptyObservation }) (readTcp f t peer)
-  unfolding readTcp isSynType isSynAckType
+      → _≡_ {A = Reading} (record { answer = answer.Nothing; observation = emptyObservation }) (readTcpBy observe t peer)
+  unfolding readTcpBy isSynType isSynAckType
   nothing-read sound neither = rw (sound, neither-first isSyn isSynAck neither, neither-second isSyn isSynAck neither)
 
-  pub refused-7 : flagsInvalid (control t) ≡ true → refusing (refusal.InvalidTcpFlags (control t)) ≡ readTcp f t peer
-  unfolding readTcp
+  pub refused-7 : flagsInvalid (control t) ≡ true → refusing (refusal.InvalidTcpFlags (control t)) ≡ readTcpBy observe t peer
+  unfolding readTcpBy
   refused-7 bad = rw bad

@@ -11,8 +11,7 @@ use Rattle.tcp.specs.declared.PayloadSize.{PayloadSize}
 use Rattle.tcp.specs.declared.PayloadSize.the-variants as payload
 use Rattle.observable.specs.declared.TcpObservation.{TcpObservation}
 use Rattle.observable.specs.Observation.{emptyObservation}
-use Rattle.syn_options.specs.declared.Walked.{Walked}
-use Rattle.syn_options.specs.Walk.{walkOf}
+use Rattle.syn_options.specs.Walk.{Walked, walkOf}
 use Rattle.ip.specs.declared.IpFacts.{IpFacts}
 use Rattle.flow.specs.declared.Answer.the-variants as answer
 use Rattle.flow.specs.declared.Reading.{Reading}

@@ -7,9 +7,10 @@ ghost use Rattle.rfc.specs.Rfc9293.{dataOffset};
 ghost use lib.Dec.{ltb};
 ghost use lib.ListN.{length};
 ghost use Rattle.observable.specs.Observation.{emptyObservation};
-ghost use Rattle.flow.specs.Modes.{modeOf, readIn};
+ghost use Rattle.syn_options.specs.Stops.{walkedOf};
+ghost use Rattle.flow.specs.Modes.{modeOf, stopOf, observationIn, readIn};
 ghost use Rattle.flow.specs.Reading.{readPacket};
-ghost use Rattle.flow.specs.Tcp.{quirksOfHeaders, payloadClass, observationOf, observationFrom};
+ghost use Rattle.flow.specs.Tcp.{quirksOfHeaders, payloadClass, observationOf};
 ghost use Rattle.flow.specs.Tcp.{knownPeer, refusing};
 use ip::IpFacts;
 use ip::IpRead;
@@ -22,7 +23,8 @@ use numbers::wide;
 use observable::TcpObservation;
 use quirks::QuirkSet;
 use refusals::PacketRefusal;
-use syn_options::Walked;
+use syn_options::OptionWalk;
+use syn_options::StopBefore;
 use syn_options::walk_options;
 use tcp::Mss;
 use tcp::PayloadSize;
@@ -113,14 +115,14 @@ fn payload_class(tcp: &[u8]) -> PayloadSize
     PayloadSize::NonZero
 }
 
-fn tcp_observation(facts: IpFacts, tcp: &[u8], walked: Walked, peer_mss: Mss) -> TcpObservation
+fn tcp_observation(facts: IpFacts, tcp: &[u8], walk: OptionWalk, peer_mss: Mss) -> TcpObservation
     requires { ⌜ 20 ≤ length (now tcp) ⌝ }
-    ensures { λ r. ⌜ r ≡ observationOf facts (now (tcp .entry)) walked «peer_mss» ⌝ }
+    ensures { λ r. ⌜ r ≡ observationOf facts (now (tcp .entry)) (walkedOf walk) «peer_mss» ⌝ }
 {
     let version = facts.version;
     let ittl = facts.ittl;
-    let olayout = walked.olayout;
-    let seen = walked.seen;
+    let olayout = walk.olayout;
+    let seen = walk.seen;
     let mss = seen.mss;
     let wscale = seen.wscale;
     let quirks = seen.quirks;
@@ -152,16 +154,27 @@ fn options_end(tcp: &[u8]) -> usize
     end
 }
 
-// The observation of a SYN or SYN+ACK: the options are a further part, and the walk goes on after clipping.
-fn observe(facts: IpFacts, tcp: &[u8], syn: bool, peer_mss: Mss) -> TcpObservation
+// The options that the mode's walk stops before.
+fn stop_of(mode: Mode) -> StopBefore
+    ensures { λ r. ⌜ r ≡ stopOf mode ⌝ }
+{
+    let strict = mode.strict;
+    StopBefore {
+        past: strict,
+        short: strict,
+    }
+}
+
+// The observation of a SYN or SYN+ACK: the options are a further part.
+fn observe(facts: IpFacts, tcp: &[u8], syn: bool, peer_mss: Mss, mode: Mode) -> TcpObservation
     requires { ⌜ 20 ≤ length (now tcp) ⌝ }
-    ensures { λ r. ⌜ r ≡ observationFrom facts (now (tcp .entry)) syn (cond syn Mss.Absent (knownPeer «peer_mss»)) ⌝ }
+    ensures { λ r. ⌜ r ≡ observationIn mode facts (now (tcp .entry)) syn (cond syn Mss.Absent (knownPeer «peer_mss»)) ⌝ }
 {
     let end = options_end(tcp);
     let before = facts.quirks;
     let quirks = shown_quirks(tcp, before);
-    let walked = walk_options(&tcp[20..end], false, syn, quirks);
-    tcp_observation(facts, tcp, walked, peer_taken(syn, peer_mss))
+    let walk = walk_options(&tcp[20..end], stop_of(mode), syn, quirks);
+    tcp_observation(facts, tcp, walk, peer_taken(syn, peer_mss))
 }
 
 fn opening_answer(syn: bool) -> Answer
@@ -232,17 +245,20 @@ pub fn read_packet_in(packet: &[u8], peer_mss: Mss, mode: Mode) -> Reading
             let end = facts.end;
             let tcp = &packet[start..end];
             let header = header_bytes(tcp) as usize;
-            if sets_aside(mode, header, tcp.len()) {
-                return refuse(PacketRefusal::DataOffset);
-            }
             let flags = tcp[13];
             let masked = tcp_type(flags);
             let syn = masked == SYN;
             if syn | (masked == SYN_ACK) {
+                if sets_aside(mode, header, tcp.len()) {
+                    return refuse(PacketRefusal::DataOffset);
+                }
                 return Reading {
                     answer: opening_answer(syn),
-                    observation: observe(facts, tcp, syn, peer_mss),
+                    observation: observe(facts, tcp, syn, peer_mss, mode),
                 };
+            }
+            if sets_aside(mode, header, tcp.len()) {
+                return refuse(PacketRefusal::DataOffset);
             }
             if is_valid(flags) {
                 return nothing();

@@ -1,5 +1,5 @@
 -- The numbers that a packet's refusal gives fit their bytes: the flags of refusal 7 are a byte of the packet.
-use mathlib.Core.Bool.{Bool, true, false, cond}
+use mathlib.Core.Bool.{Bool, true, false, cond, _&&_}
 use mathlib.Core.List.{List, [], _∷_}
 use Prim.Native.Nat.{ℕ, zero, suc, _+_, _*_, _-_, _<_}
 use native.Mathlib.Omega.{arith}
@@ -8,6 +8,7 @@ use lib.Seq.{getD-drop}
 use Rattle.basis.specs.Bytes.{byteAt, be16, part}
 use Rattle.rfc.specs.Rfc9293.{control}
 use Rattle.tcp.specs.declared.Mss.{Mss}
+use Rattle.observable.specs.declared.TcpObservation.{TcpObservation}
 use Rattle.ip.specs.declared.IpFacts.{IpFacts}
 use Rattle.ip.specs.declared.IpRead.{IpRead}
 use Rattle.refusals.specs.declared.PacketRefusal.{PacketRefusal}
@@ -19,9 +20,9 @@ use Rattle.flow.specs.declared.Answer.the-variants as reading
 use Rattle.flow.specs.declared.Reading.{Reading}
 use Rattle.tcp_header.specs.Flags.{flagsInvalid, isSynType, isSynAckType}
 use Rattle.flow.specs.declared.Mode.{Mode}
-use Rattle.flow.specs.Tcp.{readTcp}
-use Rattle.flow.specs.Strict.{contradictsItself, readTcpStrict}
-use Rattle.flow.specs.Modes.{tcpStage, readIn}
+use Rattle.flow.specs.Strict.{contradictsItself, readTcpBy}
+use Rattle.flow.specs.Modes.{tcpStage, observationIn, readIn}
+use Rattle.flow.proofs.Stage.{stage-by}
 use Rattle.flow.specs.Reading.{tcpPart, afterIp}
 use Rattle.gateway.specs.Decode.{AllBytes}
 
@@ -81,21 +82,20 @@ either : (t : Bool) {x y : Reading} → ReadingFits x → ReadingFits y → Read
 either true hx hy = hx
 either false hx hy = hy
 
--- The flags of refusal 7 are a byte of the TCP part.
-plain-fits : (f : IpFacts) (t : List ℕ) (peer : Mss) → AllBytes t → ReadingFits (readTcp f t peer)
-unfolding readTcp
-plain-fits f t peer h =
+-- The flags of refusal 7 are a byte of the TCP part, whatever is observed.
+flags-fit
+    : (observe : Bool → Mss → TcpObservation) (t : List ℕ) (peer : Mss) → AllBytes t → ReadingFits (readTcpBy observe t peer)
+unfolding readTcpBy
+flags-fit observe t peer h =
     either (flagsInvalid (control t)) (record { reads = h 13 })
     (either (isSynType (control t)) (record { reads = tt })
     (either (isSynAckType (control t)) (record { reads = tt }) (record { reads = tt })))
 
 -- Refusal 14 gives nothing.
 tcp-fits : (mode : Mode) (f : IpFacts) (t : List ℕ) (peer : Mss) → AllBytes t → ReadingFits (tcpStage mode f t peer)
-unfolding readTcpStrict
 tcp-fits mode f t peer h =
-    either (mode .strict)
-    (either (contradictsItself t) (record { reads = omega arith }) (plain-fits f t peer h))
-    (plain-fits f t peer h)
+    rw (stage-by mode f t peer)
+    (either (mode .strict && contradictsItself t) (record { reads = omega arith }) (flags-fit (observationIn mode f t) t peer h))
 
 module _ (mode : Mode) (p : List ℕ) (peer : Mss) (h : AllBytes p) where
   -- The TCP part is a part of the packet.

@@ -1,18 +1,18 @@
 -- The options place by place: the option at a place, its own bytes, where it ends and what follows.
 use mathlib.Core.Path.{_≡_, refl, sym, _∙_, ap}
-use mathlib.Core.Bool.{true, false, _&&_}
+use mathlib.Core.Bool.{true, false, _&&_, true≢false}
 use mathlib.Core.List.{List, [], _∷_}
 use Prim.Native.Nat.{ℕ, zero, suc, _+_, _-_, _<_, _≤_, min, max}
 use native.Mathlib.Omega.{arith}
 use native.Mathlib.Nat.{add-zero, zero-min, suc-min-suc}
 use native.Mathlib.Numerals.{add-one}
 use native.Mathlib.Decide.{decLe}
-use lib.Dec.{ltb}
+use lib.Dec.{leb, ltb}
 use lib.ListN.{length, take, drop, length-take, length-drop, List·getD-eq-default}
 use lib.Seq.{drop-cons, drop-drop, drop-nil, take-nil, getD-take, getD-drop}
-use borrow.Author.Tests.{ltb-true, lt-ltb, le-ltb, ne-eqb}
+use borrow.Author.Tests.{ltb-true, leb-true, leb-false, lt-ltb, le-ltb, ne-eqb}
 use Rattle.basis.specs.Bytes.{byteAt, part}
-use Rattle.basis.proofs.Tests.{and-left, and-right}
+use Rattle.basis.proofs.Tests.{and-left, and-right, and-false}
 use Rattle.one_option.specs.declared.OptionStep.{OptionStep}
 use Rattle.one_option.specs.Options.{Opt, asked, runsPast, shortLength, optionsAfter, optionsOf, optionAt, stepOf}
 
@@ -37,15 +37,15 @@ take-clipped (suc k) (b ∷ s) = rw suc-min-suc (ap (_∷_ b) (take-clipped k s)
 -- ---- what an option asks for, kind by kind
 
 module _ (kind : ℕ) (rest : List ℕ) where
-  asked-last : kind ≡ 0 → asked kind rest ≡ length rest
+  pub asked-last : kind ≡ 0 → asked kind rest ≡ length rest
   unfolding asked
   asked-last e = rw e
 
-  asked-nop : kind ≡ 1 → asked kind rest ≡ 0
+  pub asked-nop : kind ≡ 1 → asked kind rest ≡ 0
   unfolding asked
   asked-nop e = rw e
 
-  asked-sized : (kind ≡ 0 → ⊥) → (kind ≡ 1 → ⊥) → asked kind rest ≡ max (byteAt rest 0) 2 - 1
+  pub asked-sized : (kind ≡ 0 → ⊥) → (kind ≡ 1 → ⊥) → asked kind rest ≡ max (byteAt rest 0) 2 - 1
   unfolding asked
   asked-sized n0 n1 = rw (ne-eqb kind 0 n0, ne-eqb kind 1 n1)
 
@@ -128,7 +128,7 @@ module _ (s : List ℕ) (at : ℕ) (inside : at < length s) where
       let ends : min (at + 1 + 0) (length s) ≡ at + 1 = omega arith in
       rw (e, asked-nop 1 own refl, le-ltb (length own) 0 (omega arith), asked-nop 1 (drop (at + 1) s) refl, ends)
 
-  pub sized-step
+  sized-step
       : (byteAt s at ≡ 0 → ⊥)
       → (byteAt s at ≡ 1 → ⊥)
       → record {
@@ -150,3 +150,62 @@ module _ (s : List ℕ) (at : ℕ) (inside : at < length s) where
       let ends : at + 1 + m ≡ at + max b 2 = omega arith in
       rw (asks, asked-sized (byteAt s at) (take m left) n0 n1, length-byte, size, ends)
       (rw (past-places at (length s) b inside, lt-ltb 1 (byteAt s at) (omega arith), byte-places at (length s) b))
+
+  -- Case by case, as the code tests it. An absent length byte reads as 0.
+  module _ (n0 : byteAt s at ≡ 0 → ⊥) (n1 : byteAt s at ≡ 1 → ⊥) where
+    abbrev next : ℕ
+    next = byteAt s (at + 1)
+
+    pub sound-step
+        : ltb 1 next && leb (at + next) (length s) ≡ true
+        → record { kind = byteAt s at; end = at + next; past = false; short = false } ≡ stepOf s at
+    sound-step sound =
+        let large = ltb-true 1 next (and-left _ _ sound) in
+        let fits = leb-true (at + next) (length s) (and-right (ltb 1 next) _ sound) in
+        let ends : min (at + max next 2) (length s) ≡ at + next = omega arith in
+        rw (← sized-step n0 n1, le-ltb (length s) (at + max next 2) (omega arith), le-ltb next 2 large, ends)
+        (rw (and-false (ltb (at + 1) (length s))))
+
+    pub short-step
+        : ltb (at + 1) (length s) && ltb next 2 ≡ true
+        → record { kind = byteAt s at; end = at + 1 + 1; past = false; short = true } ≡ stepOf s at
+    short-step short =
+        let whole = ltb-true (at + 1) (length s) (and-left _ _ short) in
+        let small = ltb-true next 2 (and-right (ltb (at + 1) (length s)) _ short) in
+        let ends : min (at + max next 2) (length s) ≡ at + 1 + 1 = omega arith in
+        rw (
+          ← sized-step n0 n1,
+          le-ltb (length s) (at + max next 2) (omega arith),
+          lt-ltb (at + 1) (length s) whole,
+          lt-ltb next 2 small,
+          ends,
+        )
+
+    cut-step : length s ≤ at + 1 → record { kind = byteAt s at; end = length s; past = true; short = false } ≡ stepOf s at
+    cut-step cut =
+        let ends : min (at + max next 2) (length s) ≡ length s = omega arith in
+        rw (← sized-step n0 n1, lt-ltb (length s) (at + max next 2) (omega arith), le-ltb (at + 1) (length s) cut, ends)
+
+    long-step
+        : 2 ≤ next
+        → length s < at + next
+        → record { kind = byteAt s at; end = length s; past = true; short = false } ≡ stepOf s at
+    long-step large past =
+        let ends : min (at + max next 2) (length s) ≡ length s = omega arith in
+        rw (← sized-step n0 n1, lt-ltb (length s) (at + max next 2) (omega arith), le-ltb next 2 large, ends)
+        (rw (and-false (ltb (at + 1) (length s))))
+
+    pub past-step
+        : ltb 1 next && leb (at + next) (length s) ≡ false
+        → ltb (at + 1) (length s) && ltb next 2 ≡ false
+        → record { kind = byteAt s at; end = length s; past = true; short = false } ≡ stepOf s at
+    past-step no-sound no-short =
+        elim (decLe (length s) (at + 1)) [
+          | yes cut ↦ cut-step cut
+          | no whole ↦
+              elim (decLe 2 next) [
+                | yes large ↦ long-step large (leb-false (at + next) (length s) (rw (lt-ltb 1 next large) at no-sound))
+                | no small ↦
+                    absurd (true≢false (rw (lt-ltb (at + 1) (length s) (omega arith), lt-ltb next 2 (omega arith)) at no-short))
+              ]
+        ]

@@ -47,6 +47,12 @@ optionsAfter zero (b ∷ rest) = optionOf b rest ∷ optionsAfter (asked b rest)
 abbrev pub optionsOf : List ℕ → List Opt
 optionsOf = optionsAfter zero
 
+-- An option begins at this place of a string, counted in bytes from 0: the first at 0, and behind one whatever begins in the bytes behind
+-- those that it asks for.
+pub data OptionBegins : ℕ → List ℕ → Type 0 where
+  first : {b : ℕ} {rest : List ℕ} → OptionBegins 0 (b ∷ rest)
+  next : {b n : ℕ} {rest : List ℕ} → OptionBegins n (drop (asked b rest) rest) → OptionBegins (suc (asked b rest + n)) (b ∷ rest)
+
 -- ---- one step
 
 -- The option whose kind byte stands at this place; past the end an End of Option List with nothing after it.

@@ -1,13 +1,12 @@
 // One option of a TCP header: where it ends, and what it says of MSS, scale and quirks (syn_options.rs, flow.rs).
 ghost use mathlib.Core.Path.{_≡_};
-ghost use Prim.Native.Nat.{max};
+ghost use mathlib.Core.Bool.{true, false};
 ghost use Rattle.basis.specs.Bytes.{anyNonzero};
 ghost use Rattle.one_option.specs.Options.{stepOf};
 ghost use Rattle.one_option.specs.See.{laterMss, laterScale, laterQuirks};
 use numbers::be16_at;
 use numbers::be32;
 use numbers::byte_at;
-use numbers::least;
 use quirks::Quirk;
 use quirks::QuirkSet;
 use tcp::Mss;
@@ -44,11 +43,27 @@ pub struct OptionStep {
 
 // ---- one step
 
-// How many bytes an option with this length byte takes: 2 at least.
-fn taken(length: usize) -> usize
-    ensures { λ r. ⌜ r ≡ max length 2 ⌝ }
+fn sound_step(kind: u8, end: usize) -> OptionStep
+    ensures { λ r. ⌜ r ≡ record { kind = kind; end = end; past = false; short = false } ⌝ }
 {
-    if length < 2 { 2 } else { length }
+    OptionStep {
+        kind,
+        end,
+        past: false,
+        short: false,
+    }
+}
+
+// It runs past the end of so many bytes, and is clipped to it.
+fn past_step(kind: u8, all: usize) -> OptionStep
+    ensures { λ r. ⌜ r ≡ record { kind = kind; end = all; past = true; short = false } ⌝ }
+{
+    OptionStep {
+        kind,
+        end: all,
+        past: true,
+        short: false,
+    }
 }
 
 // The option at a place, past the end an end-of-options. All is kept in places of the whole string: a turn of a walk adds once.
@@ -58,30 +73,26 @@ pub fn option_step(options: &[u8], at: usize) -> OptionStep
     let all = options.len();
     let kind = byte_at(options, at);
     if kind == EOL {
-        return OptionStep {
-            kind,
-            end: all,
-            past: false,
-            short: false,
-        };
+        return sound_step(kind, all);
     }
     let start = at + 1;
     if kind == NOP {
-        return OptionStep {
-            kind,
-            end: start,
-            past: false,
-            short: false,
-        };
+        return sound_step(kind, start);
     }
     let length = byte_at(options, start) as usize;
-    let end = at + taken(length);
-    OptionStep {
-        kind,
-        end: least(end, all),
-        past: all < end,
-        short: (start < all) & (length < 2),
+    let end = at + length;
+    if (1 < length) & (end <= all) {
+        return sound_step(kind, end);
     }
+    if (start < all) & (length < 2) {
+        return OptionStep {
+            kind,
+            end: start + 1,
+            past: false,
+            short: true,
+        };
+    }
+    past_step(kind, all)
 }
 
 // ---- what it says

@@ -1,10 +1,12 @@
 -- Sets within the seventeen: the empty one, and any with a quirk more.
 use mathlib.Core.Path.{_≡_, refl, sym, _∙_, ap, subst}
 use mathlib.Core.Bool.{Bool, true, false, not, false≢true}
-use Prim.Native.Nat.{ℕ, _^_, max}
+use Prim.Native.Nat.{ℕ, _^_, _<_, max}
 use native.Mathlib.Omega.{arith}
 use native.Mathlib.Decide.{ℕ-discrete}
-use lib.Dec.{eqb}
+use lib.Bits.{or-lt}
+use lib.Dec.{eqb, lit<}
+use lib.Pow.{pow-lt}
 use Rattle.basis.specs.Digits.{digit}
 use Rattle.basis.proofs.Digits.{digit-or, digit-of-zero, digit-power-other}
 use Rattle.quirks.specs.declared.Quirk.{Quirk}
@@ -13,13 +15,19 @@ use Rattle.quirks.specs.declared.QuirkSet.{QuirkSet}
 use Rattle.quirks.specs.Quirks.{placeOf, bitOf, bitsOf, holds, contains, with, addIf, SubsetByPlaces}
 use Rattle.quirks.specs.Named.{fromQuirks, displayOrder, empty, seventeen}
 use Rattle.quirks.proofs.Laws.{contains-with-other}
+use Rattle.quirks.proofs.Places.{place-lt}
 
 unfoldable pub Within : QuirkSet → Type 0
 Within s = SubsetByPlaces s seventeen
 
--- Within the seventeen, and without OptBad.
+pub bit-small : (q : Quirk) → bitOf q < 2 ^ 32
+unfolding bitOf
+bit-small q = pow-lt (place-lt q)
+
+-- Within the seventeen, and without OptBad; of 32 bits.
 pub record Clean (s : QuirkSet) : Type 0 where
   pub within : Within s
+  pub small : bitsOf s < 2 ^ 32
   pub notBad : contains s quirk.OptBad ≡ false
 
 -- Any quirk but OptBad.
@@ -78,16 +86,21 @@ unfolding addIf
 within-add-if true q s inside = within-with s q inside
 within-add-if false q s inside = inside
 
+with-small : (s : QuirkSet) (q : Quirk) → bitsOf s < 2 ^ 32 → bitsOf (with s q) < 2 ^ 32
+unfolding with
+with-small s q small = or-lt 32 (bitsOf s) (bitOf q) small (bit-small q)
+
 clean-with : (s : QuirkSet) (q : Quirk) → (q ≡ quirk.OptBad → ⊥) → Clean s → Clean (with s q)
 clean-with s q other clean =
     record {
       within = within-with s q (clean .within);
+      small = with-small s q (clean .small);
       notBad = contains-with-other s q quirk.OptBad other ∙ clean .notBad;
     }
 
 pub clean-empty : Clean empty
 unfolding contains holds empty fromQuirks placeOf
-clean-empty = record { within = within-empty; notBad = ap (λ (n : ℕ). eqb n 1) (digit-of-zero 28) }
+clean-empty = record { within = within-empty; small = lit< tt; notBad = ap (λ (n : ℕ). eqb n 1) (digit-of-zero 28) }
 
 -- A quirk other than OptBad, where a test holds.
 pub clean-add-if : (t : Bool) (q : Quirk) (s : QuirkSet) → notOptBad q ≡ true → Clean s → Clean (addIf t q s)

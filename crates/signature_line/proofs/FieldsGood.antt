@@ -9,16 +9,14 @@ use native.Mathlib.Omega.{arith}
 use lib.Bits.{bitOr, or-lt}
 use lib.Dec.{eqb, lit<}
 use lib.ListN.{length}
-use lib.Pow.{pow-lt}
 use borrow.Author.Tests.{le-leb}
 use Rattle.quirks.specs.declared.Quirk.{Quirk}
 use Rattle.quirks.specs.declared.Quirk.the-variants as quirk
 use Rattle.quirks.specs.Quirks.{bitOf, bitsOf, setOf, with}
 use Rattle.quirks.specs.Named.{empty, fromQuirks, seventeen}
 use Rattle.quirks.proofs.Named.{seventeen-bits}
-use Rattle.quirks.proofs.Places.{place-lt}
 use Rattle.quirks.proofs.Subset.{difference-empty}
-use Rattle.quirks.proofs.Within.{Within, within-empty, within-with}
+use Rattle.quirks.proofs.Within.{Within, bit-small, within-empty, within-with}
 use Rattle.sigrecord.specs.Layout.{entryGood}
 use Rattle.sigrecord.specs.WellFormed.{versionGood, ttlGood, presenceGood, windowGood, payloadGood, quirksGood}
 use Rattle.grammar.specs.Language.{Behind, Then, More}
@@ -201,10 +199,6 @@ quirks-named w vs (inr l) =
 record Among (bits : ℕ) : Type 0 where
   within : Within (setOf bits)
   small : bits < 2 ^ 32
-
-pub bit-small : (q : Quirk) → bitOf q < 2 ^ 32
-unfolding bitOf
-bit-small q = pow-lt (place-lt q)
 
 one-more : (bits : ℕ) (q : Quirk) → Among bits → Among (bitOr bits (bitOf q))
 unfolding with

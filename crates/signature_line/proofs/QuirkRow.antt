@@ -22,7 +22,8 @@ use Rattle.sigrecord.specs.WellFormed.{quirksGood}
 use Rattle.grammar.specs.Table.{Said, said, Choice}
 use Rattle.signature_line.specs.Meaning.{unionFrom}
 use Rattle.signature_line.specs.Words.{quirkWord}
-use Rattle.signature_line.proofs.FieldsGood.{bit-small, seventeen-small}
+use Rattle.quirks.proofs.Within.{bit-small}
+use Rattle.signature_line.proofs.FieldsGood.{seventeen-small}
 use Rattle.signature_line.proofs.Spelled.{Spelled, by-row, EachSpelled}
 
 -- ---- the word of a quirk

@@ -14,9 +14,16 @@ use Rattle.tcp.specs.declared.Layout.{Layout}
 use Rattle.quirks.specs.Named.{empty}
 use Rattle.syn_options.specs.declared.OptionsAnswer.the-variants as answer
 use Rattle.syn_options.specs.declared.OptionsRead.{OptionsRead}
-use Rattle.syn_options.specs.declared.Walked.{Walked}
+use Rattle.syn_options.specs.declared.Place.{Place}
+use Rattle.syn_options.specs.declared.Place.the-variants as place
+use Rattle.syn_options.specs.declared.StopBefore.{StopBefore}
+use Rattle.syn_options.specs.Places.{firstOf}
+use Rattle.syn_options.specs.Stops.{stopsBefore, walkUpTo, walkTo, walkOptions, refusedWalk, readOptions}
+use Rattle.syn_options.specs.declared.OptionWalk.{OptionWalk}
+use Rattle.syn_options.specs.declared.WalkRead.{WalkRead}
 use Rattle.one_option.specs.Options.{Opt, asked, runsPast, optionsAfter, optionsOf}
-use Rattle.syn_options.specs.Walk.{putEntry, putOption, walkFrom, startWalk, walkOf, parsedOf, parseOptionsRaw, optionsRefusal}
+use Rattle.syn_options.specs.Walk.{Walked, putEntry, putOption, walkFrom, startWalk, walkOf}
+use Rattle.syn_options.specs.Walk.{parsedOf, parseOptionsRaw, optionsRefusal}
 
 -- A string has no more options than bytes.
 pub options-few : (skip : ℕ) (s : List ℕ) → length (optionsAfter skip s) ≤ length s
@@ -88,6 +95,26 @@ past-count stop syn quirks s =
     walk-tidy stop syn (startWalk quirks) (optionsOf (take 40 s))
     (record { kinds = λ i h. zero-row i; bytes = λ i h. zero-row i })
 
+-- The same of the walk, wherever it stops.
+up-to-forty : (k : Place) (syn : Bool) (quirks : QuirkSet) (s : List ℕ) → walkUpTo k syn quirks s .olayout .count ≤ 40
+unfolding walkUpTo
+up-to-forty place.None syn quirks s = at-most-forty false syn quirks s
+up-to-forty (place.At k) syn quirks s = at-most-forty false syn quirks _
+
+up-to-tidy : (k : Place) (syn : Bool) (quirks : QuirkSet) (s : List ℕ) → Tidy (walkUpTo k syn quirks s .olayout)
+unfolding walkUpTo
+up-to-tidy place.None syn quirks s = past-count false syn quirks s
+up-to-tidy (place.At k) syn quirks s = past-count false syn quirks _
+
+module _ (stop : StopBefore) (syn : Bool) (quirks : QuirkSet) (s : List ℕ) where
+  pub walk-at-most-forty : walkOptions stop syn quirks s .olayout .count ≤ 40
+  unfolding walkOptions walkTo
+  walk-at-most-forty = up-to-forty (firstOf (stopsBefore stop) (take 40 s)) syn quirks (take 40 s)
+
+  pub walk-past-count : Tidy (walkOptions stop syn quirks s .olayout)
+  unfolding walkOptions walkTo
+  walk-past-count = up-to-tidy (firstOf (stopsBefore stop) (take 40 s)) syn quirks (take 40 s)
+
 -- Refusal 8 is given exactly when the option string is over 40 bytes.
 pub refused-over-forty : (s : List ℕ) → optionsRefusal (parseOptionsRaw s .answer) ≡ cond (ltb 40 (length s)) 8 0
 unfolding parseOptionsRaw optionsRefusal
@@ -102,3 +129,16 @@ refused-over-forty s = by-length (ltb 40 (length s))
         ≡ cond t 8 0
     by-length true = refl
     by-length false = refl
+
+-- So it is for the walk of a string.
+pub walk-refused-over-forty
+    : (stop : StopBefore) (syn : Bool) (quirks : QuirkSet) (s : List ℕ)
+    → optionsRefusal (readOptions stop syn quirks s .answer) ≡ cond (ltb 40 (length s)) 8 0
+unfolding readOptions optionsRefusal
+walk-refused-over-forty stop syn quirks s = by-length (ltb 40 (length s)) (walkOptions stop syn quirks s)
+  where
+    by-length
+        : (t : Bool) (walk : OptionWalk)
+        → optionsRefusal ((cond {A = WalkRead} t refusedWalk (record { answer = answer.Parsed; walk = walk })) .answer) ≡ cond t 8 0
+    by-length true walk = refl
+    by-length false walk = refl

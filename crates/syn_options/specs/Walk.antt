@@ -12,12 +12,12 @@ use Rattle.tcp.specs.declared.Mss.the-variants as mss
 use Rattle.tcp.specs.declared.Wscale.the-variants as wscale
 use Rattle.refusals.specs.declared.Refusal.the-variants as refusal
 use Rattle.refusals.specs.Refusals.{Verdict, numberOf}
-use Rattle.syn_options.specs.declared.Walked.{Walked}
 use Rattle.syn_options.specs.declared.ParsedTcpOptions.{ParsedTcpOptions}
 use Rattle.syn_options.specs.declared.OptionsAnswer.{OptionsAnswer}
 use Rattle.syn_options.specs.declared.OptionsAnswer.the-variants as answer
 use Rattle.syn_options.specs.declared.OptionsRead.{OptionsRead}
 use Rattle.one_option.specs.declared.OptionStep.{OptionStep}
+use Rattle.one_option.specs.declared.Seen.{Seen}
 use Rattle.one_option.specs.Options.{Opt, runsPast, optionsOf, stepOf}
 use Rattle.one_option.specs.See.{seeOption}
 
@@ -45,6 +45,12 @@ putEntry l o =
     }
 
 -- ---- the walk
+
+-- What a walk says: the layout, what it has seen, and whether it stopped before an option that runs past the end.
+pub record Walked : Type 0 where
+  pub olayout : Layout
+  pub seen : Seen
+  pub malformed : Bool
 
 abbrev pub putOption : Bool → Walked → Opt → Walked
 putOption syn w o =

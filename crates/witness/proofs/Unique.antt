@@ -1,5 +1,6 @@
 -- Exactly one result meets each public function's own contract.
 -- tools/promises makes this file from the contracts, and the gate holds it to them.
+use mathlib.Core.Bool.{Bool}
 use mathlib.Core.List.{List}
 use Prim.Native.Nat.{ℕ}
 use contract.Lifetimes.{Lfts}
@@ -16,8 +17,10 @@ use Rattle.witness.specs.declared.PlainPacket.{PlainPacket}
 use Rattle.witness.specs.declared.PlainProgress.{PlainProgress}
 use Rattle.witness.specs.declared.PlainSearch.{PlainSearch}
 use Rattle.witness.specs.declared.PlainTtl.{PlainTtl}
+use Rattle.witness.specs.declared.PlainWalk.{PlainWalk}
 use Rattle.witness.specs.Lined.{lineRead}
 use Rattle.witness.specs.Taken.{hopsRead, searchRead}
+use Rattle.witness.specs.Walked.{walkRead}
 use Rattle.witness.specs.Written.{optionsRead, packetRead, plainPacket, ttlRead}
 use Rattle.witness.proofs.witness_first_page.Reads as witness-first-page'
 use Rattle.witness.proofs.witness_hops.Reads as witness-hops'
@@ -27,6 +30,7 @@ use Rattle.witness.proofs.witness_options.Reads as witness-options'
 use Rattle.witness.proofs.witness_packet.Reads as witness-packet'
 use Rattle.witness.proofs.witness_search.Reads as witness-search'
 use Rattle.witness.proofs.witness_ttl.Reads as witness-ttl'
+use Rattle.witness.proofs.witness_walk.Reads as witness-walk'
 use Rattle.witness.proofs.written.plain_packet.Reads as plain-packet'
 
 pub witness-packet-one
@@ -38,6 +42,11 @@ pub witness-options-one
     : (κs : Lfts 1) (options : RefT (List ℕ))
     → ExactlyOne PlainOptions (λ (r : PlainOptions). witness-options'.Post κs (options, tt) r (options, tt))
 witness-options-one κs options = equation (optionsRead (now options))
+
+pub witness-walk-one
+    : (κs : Lfts 1) (options : RefT (List ℕ)) (stop : ℕ) (syn : Bool)
+    → ExactlyOne PlainWalk (λ (r : PlainWalk). witness-walk'.Post κs (options, (stop, (syn, tt))) r (options, (stop, (syn, tt))))
+witness-walk-one κs options stop syn = equation (walkRead stop syn (now options))
 
 pub witness-line-one
     : (κs : Lfts 1) (line : RefT (List ℕ))

@@ -1,3 +1,4 @@
 pub mod Lined
 pub mod Taken
+pub mod Walked
 pub mod Written

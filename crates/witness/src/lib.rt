@@ -3,20 +3,25 @@ ghost use mathlib.Core.Path.{_≡_};
 ghost use Rattle.witness.specs.Written.{packetRead, optionsRead, ttlRead, plainProgress, firstOf, nextOf, Paged};
 ghost use Rattle.witness.specs.Taken.{searchRead, hopsRead};
 ghost use Rattle.witness.specs.Lined.{lineRead};
+ghost use Rattle.witness.specs.Walked.{walkRead};
 use flow::mode_of;
 use lined::plain_line;
 use packet_answer::peer_of;
+use quirks::QuirkSet;
 use report::PAGE;
 use searched::plain_search;
 use taken::observation_of;
 use taken::ttl_of;
 use ttl::ttl_entry;
+use walked::plain_walk;
+use walked::stop_of;
 use written::plain_options;
 use written::plain_packet;
 
 mod lined;
 mod searched;
 mod taken;
+mod walked;
 pub mod written;
 
 // An observation. A value that is absent is 0, and so is its `has_`.
@@ -59,6 +64,25 @@ pub struct PlainOptions {
     pub mss: u16,
     pub refusal: u8,
     pub malformed: bool,
+    pub has_mss: u8,
+    pub has_wscale: u8,
+    pub wscale: u8,
+    pub kinds: [u8; 40],
+    pub bytes: [u8; 40],
+}
+
+// A walk over an option string, and the places of damage that it came to.
+#[repr(C)]
+pub struct PlainWalk {
+    pub count: usize,
+    pub past_at: usize,
+    pub short_at: usize,
+    pub quirks: u32,
+    pub mss: u16,
+    pub refusal: u8,
+    pub malformed: bool,
+    pub has_past: u8,
+    pub has_short: u8,
     pub has_mss: u8,
     pub has_wscale: u8,
     pub wscale: u8,
@@ -118,6 +142,15 @@ pub extern "C" fn witness_options(options: &[u8]) -> PlainOptions
     ensures { λ r. ⌜ r ≡ optionsRead (now (options .entry)) ⌝ }
 {
     plain_options(syn_options::parse_options_raw(options))
+}
+
+// The walk of an option string as of a SYN or not, from no quirks. It stops before the first option that runs past the end if bit 0 is
+// set, before the first of a short length if bit 1 is; the other bits are not read.
+#[no_mangle]
+pub extern "C" fn witness_walk(options: &[u8], stop: u8, syn: bool) -> PlainWalk
+    ensures { λ r. ⌜ r ≡ walkRead stop syn (now (options .entry)) ⌝ }
+{
+    plain_walk(syn_options::read_options(options, stop_of(stop), syn, QuirkSet::EMPTY))
 }
 
 // The reading of a line of p0f's text form.

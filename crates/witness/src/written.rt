@@ -56,7 +56,7 @@ fn ttl_hops(ttl: Ttl) -> u8
     }
 }
 
-fn has_mss(mss: Mss) -> u8
+pub(crate) fn has_mss(mss: Mss) -> u8
     ensures { λ r. ⌜ r ≡ hasMss mss ⌝ }
 {
     match mss {
@@ -65,7 +65,7 @@ fn has_mss(mss: Mss) -> u8
     }
 }
 
-fn mss_number(mss: Mss) -> u16
+pub(crate) fn mss_number(mss: Mss) -> u16
     ensures { λ r. ⌜ r ≡ mssNumber mss ⌝ }
 {
     match mss {
@@ -74,7 +74,7 @@ fn mss_number(mss: Mss) -> u16
     }
 }
 
-fn has_scale(wscale: Wscale) -> u8
+pub(crate) fn has_scale(wscale: Wscale) -> u8
     ensures { λ r. ⌜ r ≡ hasScale wscale ⌝ }
 {
     match wscale {
@@ -83,7 +83,7 @@ fn has_scale(wscale: Wscale) -> u8
     }
 }
 
-fn scale_number(wscale: Wscale) -> u8
+pub(crate) fn scale_number(wscale: Wscale) -> u8
     ensures { λ r. ⌜ r ≡ scaleNumber wscale ⌝ }
 {
     match wscale {
@@ -208,7 +208,7 @@ pub fn plain_packet(reading: Reading, multiplier: Multiplier) -> PlainPacket
 
 // ---- an option string
 
-fn options_refusal(answer: OptionsAnswer) -> u8
+pub(crate) fn options_refusal(answer: OptionsAnswer) -> u8
     ensures { λ r. ⌜ r ≡ optionsRefusal answer ⌝ }
 {
     match answer {

@@ -19,6 +19,9 @@ const STRICT: u8 = 1;
 const OFFSET: usize = 32;
 const FLAGS: usize = 33;
 
+/// And the length byte of its first option, if that has one.
+const FIRST_LENGTH: usize = 41;
+
 /// A kind of answer, and the number of a refusal.
 type Said = (u8, u8);
 
@@ -84,6 +87,7 @@ const NOT_READ: u8 = 4;
 fn readings() {
     let (ack, both) = (with(&LINUX, FLAGS, 0x10), with(&LINUX, FLAGS, 3));
     let short = with(&LINUX, OFFSET, 0x40);
+    let damaged = with(&LINUX, FIRST_LENGTH, 0);
     for case in [
         alike("reading: Linux SYN, five options", &LINUX, 0, (SYN, 0)),
         alike("reading: Windows SYN, six options", &WINDOWS, 0, (SYN, 0)),
@@ -91,6 +95,8 @@ fn readings() {
         alike("reading: SYN+ACK with the peer's MSS", &SYN_ACK, PEER_MSS, (ANSWERED, 0)),
         alike("reading: SYN, no option", &NO_OPTIONS, 0, (SYN, 0)),
         alike("reading: SYN, forty options", &forty_options(), 0, (SYN, 0)),
+        alike("reading: SYN, twenty options with a length byte", &twenty_options(), 0, (SYN, 0)),
+        alike("reading: Linux SYN, the first length byte 0", &damaged, 0, (SYN, 0)),
         alike("reading: ACK, which is nothing", &ack, 0, (NOT_OPENING, 0)),
         alike("reading: SYN with FIN, refused by 7", &both, 0, (NOT_READ, 7)),
         alike("reading: three bytes, refused by 2", &LINUX[..3], 0, (NOT_READ, 2)),
@@ -128,12 +134,13 @@ fn examples() {
     let part = |at: usize, size: usize| &EXAMPLE[at..at + size];
     let (list, a, b, third) = (part(8, 34), part(46, 44), part(94, 44), part(142, 3));
     let (synack, ack, both) = (with(a, FLAGS, 0x12), with(a, FLAGS, 0x10), with(a, FLAGS, 3));
-    let short = with(a, OFFSET, 0x40);
+    let (short, damaged) = (with(a, OFFSET, 0x40), with(a, FIRST_LENGTH, 0));
     for case in [
         alike("answer: packet A, exact", a, 0, (EXACT, 0)),
         alike("answer: packet B, fuzzy", b, 0, (FUZZY, 0)),
         alike("answer: A as a SYN+ACK, none", &synack, PEER_MSS, (NONE, 0)),
         alike("answer: A as an ACK, nothing", &ack, 0, (NOTHING, 0)),
+        alike("answer: A with a length byte of 0, none", &damaged, 0, (NONE, 0)),
         alike("answer: A with FIN, refused by 7", &both, 0, (REFUSED, 7)),
         alike("answer: the third packet, refused by 2", third, 0, (REFUSED, 2)),
         set_aside("answer: A with data offset 4", &short, (NONE, 0), REFUSED),

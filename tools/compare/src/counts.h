@@ -11,6 +11,7 @@ typedef struct {
     const char *name;
     Kind kind;
     uint64_t inputs, differences, answers[ANSWERS], classes[LINE_CLASSES];
+    uint64_t walks, damage[4]; /* walks that were compared; option strings that are sound, have one past the end, one too short, both */
     uint64_t strict, refused_14; /* what was asked in the strict mode too; of it, what is refused by 14 there, of a pair both */
 } Family;
 
@@ -28,6 +29,7 @@ typedef struct {
     uint64_t fuzzy_kinds[2]; /* of fuzzy answers: by a specific record, by a generic one */
     uint64_t passed[3];      /* specific exact behind a generic exact one, behind a fuzzy one; generic exact behind a fuzzy one */
     uint64_t replaced[ANSWERS]; /* packets by their plain answer, where the strict one is 14 */
+    uint64_t damaged[ANSWERS];  /* packets by their plain answer, where the strict walk stops */
     Difference *differences[KINDS][NUMBERS];
     uint8_t least_line[LINE_CLASSES][MOST];
     size_t least_line_size[LINE_CLASSES];

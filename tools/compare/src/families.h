@@ -2,14 +2,16 @@
 #ifndef FAMILIES_H
 #define FAMILIES_H
 
-#include <stddef.h>
-#include <stdint.h>
+#include "numbers.h"
 
 void packet_families(unsigned share);
 void option_families(unsigned share);
 void search_families(unsigned share);
 void pair_families(unsigned share);
 void line_families(unsigned share);
+
+/* An option string by every walk, beside the original's answer to it (places.c). */
+void try_places(const uint8_t *s, size_t size, const Numbers *original);
 
 /* Base lines, from which single bytes and lengths are changed. */
 enum { LINES = 10 };

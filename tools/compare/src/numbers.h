@@ -3,6 +3,8 @@
             4 tos   5 tot_hdr   6 quirks   7 MSS   8 window   9 scale   10 payload   11 peer MSS   12 multiplier
             20 layout count   21 to 25 kinds   26 to 30 bytes
    options  0 answer (1 parsed, 8 refused)   1 malformed   2 MSS   3 scale   20 to 30 layout
+   walk     0 answer (1 walked, 8 refused)   1 malformed   2 MSS   3 scale   4 quirks   20 to 30 layout
+            5 place of the first option past the end   6 of the first of a short length (65536 + offset, 0 if there is none)
    search   0 answer (65536 none, 131072 + label exact, 196608 + label fuzzy, or the refusal)
             1 index of refusal 10   2 hops   3 added   4 missing   5 the number of the record, from 0   6 whether it is generic
    line     0 answer (1 read, 13 refused)   1 offset   2 to 4 the record   20 to 30 layout
@@ -23,6 +25,7 @@ typedef struct {
 /* mode: its bits (tools/witness/witness.h). */
 void port_packet(const uint8_t *p, size_t size, uint16_t peer, uint8_t mode, Numbers *out);
 void port_options(const uint8_t *s, size_t size, Numbers *out);
+void port_walk(const uint8_t *s, size_t size, uint8_t stop, int syn, Numbers *out); /* stop: bits, too */
 void port_search(const uint8_t *observation, const uint8_t *list, size_t size, Numbers *out);
 
 void port_hops(const uint8_t ttls[6], Numbers *out);

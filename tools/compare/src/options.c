@@ -5,13 +5,19 @@
 
 #include <string.h>
 
+/* By itself and by every walk. */
+static void try_string(const uint8_t *s, size_t size) {
+    Numbers original = try_options(s, size);
+    try_places(s, size, &original);
+}
+
 static void all_strings(const uint8_t *letters, unsigned n, unsigned most) {
     uint8_t s[8];
     unsigned size, i, number, all = 1, rest;
     for (size = 0; size <= most; size++, all *= n)
         for (number = 0; number < all; number++) {
             for (rest = number, i = 0; i < size; i++, rest /= n) s[i] = letters[rest % n];
-            try_options(s, size);
+            try_string(s, size);
         }
 }
 
@@ -22,10 +28,10 @@ static void every_byte(void) {
     family("every value of every byte, and every length, of 6 base strings", OPTIONS);
     for (base = 0; base < STRINGS; base++) {
         size = base_string(base, s);
-        for (i = 0; i <= 48; i++) try_options(s, i);
+        for (i = 0; i <= 48; i++) try_string(s, i);
         for (i = 0; i < size; i++) {
             uint8_t kept = s[i];
-            for (value = 0; value < 256; value++) s[i] = (uint8_t)value, try_options(s, size);
+            for (value = 0; value < 256; value++) s[i] = (uint8_t)value, try_string(s, size);
             s[i] = kept;
         }
     }
@@ -46,6 +52,6 @@ void option_families(unsigned share) {
         size_t size = make_options(&r, s), k;
         if (chance(&r, 3))
             for (size = below(&r, 64), k = 0; k < size; k++) s[k] = byte_of(&r);
-        try_options(s, size);
+        try_string(s, size);
     }
 }

@@ -109,6 +109,27 @@ static void option_strings(void) {
         }
 }
 
+/* The same of whole words, whose data offset fits: the strict mode reads them. */
+static void option_words(const uint8_t *letters, unsigned n, unsigned size) {
+    uint8_t p[PACKET_MOST];
+    unsigned i, number, all = 1, rest;
+    for (i = 0; i < size; i++) all *= n;
+    base_packet(0, p);
+    p[3] = (uint8_t)(40 + size), p[32] = (uint8_t)((20 + size) / 4 << 4);
+    for (number = 0; number < all; number++) {
+        for (rest = number, i = 0; i < size; i++, rest /= n) p[40 + i] = letters[rest % n];
+        p[33] = 2, try_packet(p, 40 + size, 0, NULL);
+        p[33] = 18, try_packet(p, 40 + size, 0, NULL);
+    }
+}
+
+static void fitting_options(void) {
+    static const uint8_t many[16] = {0, 1, 2, 3, 4, 5, 6, 7, 8, 10, 11, 14, 15, 254, 128, 255}, few[5] = {0, 1, 2, 3, 5};
+    family("every option string of 4 of 16 letters and of 8 of 5, of a fitting data offset, as SYN and SYN+ACK", PACKET);
+    option_words(many, 16, 4);
+    option_words(few, 5, 8);
+}
+
 static void random_packets(unsigned share) {
     uint8_t p[PACKET_MOST];
     Random r = {1};
@@ -168,6 +189,7 @@ void packet_families(unsigned share) {
     family("data offset x slice x IP length, version 6", PACKET);
     grid(6);
     option_strings();
+    fitting_options();
     random_packets(share);
     windows(share);
 }

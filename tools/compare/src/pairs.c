@@ -1,4 +1,5 @@
 /* Demand 3, in both modes: pairs of packets that differ only in the free bytes that document 01 lists. */
+#include "damage.h"
 #include "families.h"
 #include "make.h"
 #include "tally.h"
@@ -72,6 +73,21 @@ static void free_bytes(Random *r, uint8_t *p, size_t size) {
     if (start >= 20 && end - start >= 20) free_tcp(r, p, start, end);
 }
 
+/* The option strings of both, where they have a whole TCP header: alike packets have the same places of damage. */
+static void same_places(const uint8_t *p, const uint8_t *q, size_t size) {
+    const uint8_t *options;
+    Numbers walks[2];
+    uint8_t flags;
+    size_t n;
+    int row = table_packet(p, size, &flags);
+    if (row >= 1 && row <= 6) return;
+    n = packet_options(p, size, &options);
+    port_walk(options, n, WITNESS_NOTHING, 1, &walks[0]);
+    n = packet_options(q, size, &options);
+    port_walk(options, n, WITNESS_NOTHING, 1, &walks[1]);
+    try_walk_pair(&walks[0], &walks[1], p, size);
+}
+
 static void one_pair(Random *r, int damaged) {
     uint8_t p[PACKET_MOST], q[PACKET_MOST], o[2][OBSERVATION], list[LIST_MOST];
     Numbers a, b, first;
@@ -80,6 +96,7 @@ static void one_pair(Random *r, int damaged) {
     if (damaged) size = damage_packet(r, p, size);
     memcpy(q, p, sizeof q);
     free_bytes(r, q, size);
+    same_places(p, q, size);
     port_packet(p, size, peer, WITNESS_STRICT, &a);
     port_packet(q, size, peer, WITNESS_STRICT, &b);
     try_strict_pair(&a, &b, p, size);

@@ -48,6 +48,19 @@ void port_options(const uint8_t *s, size_t size, Numbers *out) {
     layout_numbers(read.count, read.kinds, read.bytes, out);
 }
 
+void port_walk(const uint8_t *s, size_t size, uint8_t stop, int syn, Numbers *out) {
+    witness_walk_read read = witness_walk(s, size, stop, syn);
+    memset(out, 0, sizeof *out);
+    out->n[0] = read.refusal ? read.refusal : 1;
+    out->n[1] = read.malformed;
+    out->n[2] = present(read.has_mss, read.mss);
+    out->n[3] = present(read.has_wscale, read.wscale);
+    out->n[4] = read.quirks;
+    out->n[5] = present(read.has_past, (unsigned)read.past_at);
+    out->n[6] = present(read.has_short, (unsigned)read.short_at);
+    layout_numbers(read.count, read.kinds, read.bytes, out);
+}
+
 /* An observation from its bytes (tools/original/oracle/original.h). */
 static witness_observation observation_of(const uint8_t *b) {
     witness_observation o = {0};

@@ -24,7 +24,8 @@ static void show_difference(int kind, int which, const Difference *d) {
     static const char *const names[KINDS] = {"packet (peer MSS before it)", "options", "search (observation, list)", "pair",
                                              "hops (two TTLs)", "line (the grammar's answer for the original's)", "TTL byte",
                                              "packet in strict mode (peer MSS before it; what is expected for the original's)",
-                                             "pair in strict mode"};
+                                             "pair in strict mode", "walk (what is expected for the original's)",
+                                             "pair, the walks of their options"};
     int i;
     printf("\ndifference in number %d of %s, %llu times\n", which, names[kind], (unsigned long long)d->times);
     hex("first", d->first, d->first_size);
@@ -73,6 +74,19 @@ static void report_lines(void) {
         }
 }
 
+/* Option strings by family: their damage, and the walks that were compared. */
+static void report_damage(void) {
+    int i, j;
+    printf("\n| Option strings | Sound | One past the end | One of a short length | Both | Walks compared |\n|---|---|---|---|---|---|\n");
+    for (i = 0; i < counts.used; i++) {
+        const Family *f = &counts.families[i];
+        if (!f->walks) continue;
+        printf("| %s |", f->name);
+        for (j = 0; j < 4; j++) printf(" %llu |", (unsigned long long)f->damage[j]);
+        printf(" %llu |\n", (unsigned long long)f->walks);
+    }
+}
+
 static void row(const char *name, const uint64_t *numbers, int n) {
     int i;
     printf("%s:", name);
@@ -106,6 +120,8 @@ static void report_strict(void) {
            (unsigned long long)refused[PACKET], (unsigned long long)asked[PAIR], (unsigned long long)refused[PAIR]);
     printf("packets refused 14 by their plain answer:");
     named_answers(counts.replaced);
+    printf("\npackets whose strict walk stops before a damaged option, by their plain answer:");
+    named_answers(counts.damaged);
     printf("\n");
 }
 
@@ -141,6 +157,7 @@ uint64_t report(void) {
     for (j = 0; j < ANSWERS; j++) printf("%s %llu%s", answer_names[j], (unsigned long long)sums[j], j + 1 < ANSWERS ? ", " : "\n");
     if (all[PACKET] || all[PAIR]) report_strict();
     report_counts();
+    if (all[OPTIONS] || all[PAIR]) report_damage();
     if (all[LINE]) report_lines();
     for (i = 0; i < KINDS; i++)
         for (j = 0; j < NUMBERS; j++)

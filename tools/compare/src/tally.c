@@ -1,4 +1,5 @@
 #include "counts.h"
+#include "damage.h"
 #include "original.h"
 #include "../../witness/witness.h"
 
@@ -78,8 +79,23 @@ static void look(const uint8_t *o) {
     counts.ttl_forms[o[1] & 3]++;
 }
 
+/* The strict answer to a packet that is not refused by 14. */
+static Numbers strict_answer(const uint8_t *p, size_t size, uint16_t peer, const Numbers *plain) {
+    Numbers expected = *plain;
+    uint8_t sound[MOST];
+    int filling;
+    if (plain->n[0] > 2 || size > MOST) return expected;
+    memcpy(sound, p, size);
+    filling = made_sound(sound, size);
+    if (!filling) return expected;
+    oracle_packet(sound, size, peer, (int)(size & 1), &expected, NULL);
+    take_filling(&expected, filling);
+    count_answer(counts.damaged, PACKET, plain);
+    return expected;
+}
+
 Numbers try_packet(const uint8_t *p, size_t size, uint16_t peer, uint8_t *observation) {
-    Numbers port, original, strict;
+    Numbers port, original, strict, expected;
     uint8_t own[OBSERVATION], input[MOST];
     int refused = table_strict(p, size);
     oracle_packet(p, size, peer, (int)(size & 1), &original, own);
@@ -89,6 +105,7 @@ Numbers try_packet(const uint8_t *p, size_t size, uint16_t peer, uint8_t *observ
         look(own);
         if (observation) memcpy(observation, own, OBSERVATION);
     }
+    expected = refused ? refused_14 : strict_answer(p, size, peer, &original);
     input[0] = (uint8_t)(peer >> 8), input[1] = (uint8_t)peer;
     if (size > MOST - 2) size = MOST - 2;
     memcpy(input + 2, p, size);
@@ -96,16 +113,24 @@ Numbers try_packet(const uint8_t *p, size_t size, uint16_t peer, uint8_t *observ
     tried()->strict++;
     tried()->refused_14 += (uint64_t)refused;
     if (refused) count_answer(counts.replaced, PACKET, &original);
-    hold(STRICT_PACKET, input, size + 2, &strict, refused ? &refused_14 : &port);
+    hold(STRICT_PACKET, input, size + 2, &strict, &expected);
     return original;
 }
 
-void try_options(const uint8_t *s, size_t size) {
+Numbers try_options(const uint8_t *s, size_t size) {
     Numbers port, original;
     oracle_options(s, size, &original);
     port_options(s, size, &port);
     settle(OPTIONS, s, size, &port, &original);
+    return original;
 }
+
+void try_walk(const Numbers *walk, const Numbers *expected, const uint8_t *s, size_t size) {
+    tried()->walks++;
+    hold(WALK, s, size, walk, expected);
+}
+
+void count_places(const Numbers *walk) { tried()->damage[(walk->n[5] != 0) + 2 * (walk->n[6] != 0)]++; }
 
 static void count_found(const Numbers *found, int passed) {
     counts.passed[0] += found->n[6] == 0 && passed & PASSED_GENERIC;
@@ -205,4 +230,10 @@ void try_strict_pair(const Numbers *a, const Numbers *b, const uint8_t *p, size_
     tried()->strict++;
     tried()->refused_14 += a->n[0] == refused_14.n[0] && b->n[0] == refused_14.n[0];
     hold(STRICT_PAIR, p, size, a, b);
+}
+
+void try_walk_pair(const Numbers *a, const Numbers *b, const uint8_t *p, size_t size) {
+    tried()->walks++;
+    count_places(a);
+    hold(WALK_PAIR, p, size, a, b);
 }

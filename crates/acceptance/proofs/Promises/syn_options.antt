@@ -9,5 +9,6 @@ pub promises : Promises
 promises =
     record {
       walk-options-one = λ κs options stop syn quirks. answered tt (unique.walk-options-one κs options stop syn quirks) (λ m. m) refl;
+      read-options-one = λ κs buf stop syn quirks. answered tt (unique.read-options-one κs buf stop syn quirks) (λ m. m) refl;
       parse-options-raw-one = λ κs buf. answered tt (unique.parse-options-raw-one κs buf) (λ m. m) refl;
     }

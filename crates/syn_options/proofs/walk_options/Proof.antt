@@ -1,7 +1,6 @@
 -- `syn_options::walk_options` meets its contract.
 use Rattle.syn_options.proofs.Walk.{forty}
-use Rattle.syn_options.specs.Walk.{startWalk, walkFrom, walkOf}
-use Rattle.one_option.specs.Options.{optionsOf}
+use Rattle.syn_options.specs.Stops.{walkTo, walkOptions}
 use Prim.Native.Nat.{ℕ}
 use mathlib.Core.List.{List}
 use mathlib.Core.Path.{_∙_, ap}
@@ -10,13 +9,12 @@ use Rattle.syn_options.proofs.walk_options.Statement.{statement}
 use Rattle.syn_options.proofs.walk_options.Tie as tie
 
 returns : tie.Need-returns
-unfolding walkOf
+unfolding walkOptions
 returns c =
     let a = c .before .before .before .before .args in
     let end = c .before .before .least in
     c .walk-part .ensures
-    ∙ ap (λ (t : List ℕ). walkFrom (a .stop) (a .syn) (startWalk (a .quirks)) (optionsOf t))
-    (forty (a .options .now) (end .result) (end .ensures))
+    ∙ ap (walkTo (a .stop) (a .syn) (a .quirks)) (forty (a .options .now) (end .result) (end .ensures))
 
 pub walk-options-spec : {M : Type 1} → statement M
 walk-options-spec =
