@@ -78,7 +78,7 @@ pub record StrictMode : Type 0 where
   pub reader : (p : List ℕ) (peer : Mss) → (readIn strictMode p peer ≡ readPacket p peer) ↔ NothingWrong p peer
   -- A packet that is not set aside is a SYN, a SYN+ACK, neither, or refused by 1 to 7, as in the plain mode,
   pub same-kind : (p : List ℕ) (peer : Mss) → (SetAside p peer → ⊥) → readIn strictMode p peer .answer ≡ readPacket p peer .answer
-  -- and its observation is the same beside the options: "payload class and tot_hdr by the data offset, unchanged".
+  -- and its observation is the same beside the options: payload class and `tot_hdr` stay those of the data offset.
   pub beside-options
       : (p : List ℕ) (peer : Mss)
       → (SetAside p peer → ⊥)
@@ -167,11 +167,11 @@ abbrev pub withOptions : List ℕ → List ℕ
 withOptions s = take 40 packetA ++ s
 
 pub record DamageValues : Type 0 where
-  -- a length byte of 0, of 1, and one that runs past the end: nothing of the option is taken, and OptBad is shown
+  -- a length byte of 0, and one that runs past the end: nothing of the option is taken, and OptBad is shown
   pub length-0 : readIn strictMode (withOptions (2 ∷ 0 ∷ 5 ∷ 0xb4 ∷ [])) mss.Absent .observation .olayout .count ≡ 0
   pub length-0-bits : bitsOf (readIn strictMode (withOptions (2 ∷ 0 ∷ 5 ∷ 0xb4 ∷ [])) mss.Absent .observation .quirks) ≡ 0x10000002
   pub past-the-end : bitsOf (readIn strictMode (withOptions (1 ∷ 2 ∷ 4 ∷ 5 ∷ [])) mss.Absent .observation .quirks) ≡ 0x10000002
-  -- what stands before the damage is kept
+  -- a length byte of 1: what stands before it is kept
   pub before-it : readIn strictMode (withOptions (1 ∷ 3 ∷ 1 ∷ 7 ∷ [])) mss.Absent .observation .olayout .count ≡ 1
   -- no end-of-options behind it: `01 02 00 00` has one entry, in the plain mode three
   pub no-end : readIn strictMode (withOptions (1 ∷ 2 ∷ 0 ∷ 0 ∷ [])) mss.Absent .observation .olayout .count ≡ 1

@@ -98,7 +98,7 @@ pub record TheReaders : Type 0 where
       ≡ walkStopping (earlier (placesOf (take 40 s) .past) (placesOf (take 40 s) .short)) syn q (take 40 s)
   -- which is the place of the first damaged option.
   pub strict-stops : (s : List ℕ) → TheFirst (λ (o : Opt). runsPast o || shortLength o) s (earlier (placesOf s .past) (placesOf s .short))
-  -- "Over 40 bytes the walk refuses 8": exactly then, and gives nothing.
+  -- Refusal 8, "option string over 40 bytes": given exactly then, with nothing beside.
   pub refused
       : (stop : StopBefore) (syn : Bool) (q : QuirkSet) (s : List ℕ)
       → optionsRefusal (readOptions stop syn q s .answer) ≡ cond (ltb 40 (length s)) 8 0
