@@ -1,12 +1,13 @@
--- What is counted: the reading of a packet, and what the search of a checked list finds for it.
-use Prim.Native.Nat.{ℕ, _+_}
+-- What is counted: the reading of a packet, and what the search of a checked list answers for it.
+use Prim.Native.Nat.{ℕ, _+_, _*_}
 use mathlib.Core.List.{List}
 use Rattle.window_size.specs.declared.Multiplier.the-variants as multiplier
 use Rattle.flow.specs.declared.Mode.{Mode}
 use Rattle.flow.specs.Modes.{plainMode, readIn}
 use Rattle.found.specs.declared.Found.{Found}
 use Rattle.found.specs.declared.Found.the-variants as found
-use Rattle.search.specs.Search.{searchAll}
+use Rattle.found.specs.declared.Searched.{Searched}
+use Rattle.search.specs.Search.{searched}
 use Rattle.packet_answer.specs.Packet.{peerOf}
 use Rattle.witness.specs.declared.PlainPacket.{PlainPacket}
 use Rattle.witness.specs.Written.{plainPacket}
@@ -23,5 +24,9 @@ foundCode found.None = 65536
 foundCode (found.Exact hit) = 131072 + hit .label
 foundCode (found.Fuzzy hit reason) = 196608 + hit .label
 
+-- And how many records were examined.
+unfoldable pub searchedCode : Searched → ℕ
+searchedCode s = foundCode (s .found) + 262144 * s .examined
+
 unfoldable pub countedAnswer : List ℕ → ℕ → List ℕ → ℕ
-countedAnswer p peer l = foundCode (searchAll (readIn plainMode p (peerOf peer) .observation) l)
+countedAnswer p peer l = searchedCode (searched (readIn plainMode p (peerOf peer) .observation) l)

@@ -1,11 +1,12 @@
 // What tools/benchmark counts, in an archive of its own; not part of the product.
 ghost use mathlib.Core.Path.{_≡_};
 ghost use Rattle.flow.specs.Modes.{modeOf};
-ghost use Rattle.counted.specs.Counted.{countedReading, countedReadingIn, foundCode, countedAnswer};
+ghost use Rattle.counted.specs.Counted.{countedReading, countedReadingIn, foundCode, searchedCode, countedAnswer};
 ghost use Rattle.witness.specs.Lined.{lineRead};
 use flow::Mode;
 use flow::mode_of;
 use found::Found;
+use found::Searched;
 use packet_answer::peer_of;
 use window_size::Multiplier;
 use witness::PlainLine;
@@ -46,14 +47,21 @@ fn found_code(found: Found) -> u64
     }
 }
 
-// From a packet to what the search of a checked list finds for it.
+// Both of a search's answer, so that what the count costs is counted too.
+fn searched_code(searched: Searched) -> u64
+    ensures { λ r. ⌜ r ≡ searchedCode searched ⌝ }
+{
+    found_code(searched.found) + 262144 * (searched.examined as u64)
+}
+
+// From a packet to what the search of a checked list answers for it.
 #[no_mangle]
 pub extern "C" fn counted_answer(packet: &[u8], peer: u16, list: &[u8]) -> u64
     ensures { λ r. ⌜ r ≡ countedAnswer (now (packet .entry)) peer (now (list .entry)) ⌝ }
 {
     let reading = flow::read_packet_in(packet, peer_of(peer), Mode::PLAIN);
     let observation = reading.observation;
-    found_code(search::search_checked(observation, list))
+    searched_code(search::search_checked(observation, list))
 }
 
 // The reading of a signature line, whole, as a struct that C can read.

@@ -10,6 +10,7 @@ use flow::Mode;
 use flow::mode_of;
 use found::Found;
 use found::Hit;
+use found::Searched;
 use matching::FuzzyReason;
 use matching::Hops;
 use packet_answer::PacketAnswer;
@@ -47,8 +48,8 @@ pub struct TermreadResult {
 // The bit of `marks` that says that the record is generic.
 const GENERIC: u8 = 4;
 
-fn plain(outcome: u8, kind: u8, label: u16, number: u16, marks: u8) -> TermreadResult
-    ensures { λ r. ⌜ r ≡ plain outcome kind label number marks ⌝ }
+fn plain(outcome: u8, kind: u8, label: u16, number: u16, examined: u16, marks: u8) -> TermreadResult
+    ensures { λ r. ⌜ r ≡ plain outcome kind label number examined marks ⌝ }
 {
     TermreadResult {
         outcome,
@@ -57,7 +58,7 @@ fn plain(outcome: u8, kind: u8, label: u16, number: u16, marks: u8) -> TermreadR
         tolerated: 0,
         label,
         number,
-        examined: 0,
+        examined,
         value: 0,
         added: 0,
         missing: 0,
@@ -112,8 +113,8 @@ fn marks_of(hops: Hops, generic: bool) -> u8
     }
 }
 
-fn fuzzy(kind: u8, hit: Hit, reason: FuzzyReason) -> TermreadResult
-    ensures { λ r. ⌜ r ≡ fuzzy kind hit reason ⌝ }
+fn fuzzy(kind: u8, hit: Hit, reason: FuzzyReason, examined: u16) -> TermreadResult
+    ensures { λ r. ⌜ r ≡ fuzzy kind hit reason examined ⌝ }
 {
     let hops = reason.hops;
     let added = reason.added;
@@ -125,7 +126,7 @@ fn fuzzy(kind: u8, hit: Hit, reason: FuzzyReason) -> TermreadResult
         tolerated: 0,
         label: hit.label,
         number: hit.number,
-        examined: 0,
+        examined,
         value: 0,
         added: (added.bits() % 256) as u8,
         missing: (missing.bits() % 256) as u8,
@@ -135,18 +136,19 @@ fn fuzzy(kind: u8, hit: Hit, reason: FuzzyReason) -> TermreadResult
 }
 
 // A generic exact record leaves by a way of its own, so that on both ways the mark is a constant.
-fn found_parts(kind: u8, found: Found) -> TermreadResult
-    ensures { λ r. ⌜ r ≡ foundParts kind found ⌝ }
+fn found_parts(kind: u8, searched: Searched) -> TermreadResult
+    ensures { λ r. ⌜ r ≡ foundParts kind searched ⌝ }
 {
-    match found {
-        Found::None => plain(3, kind, 0, 0, 0),
+    let examined = searched.examined;
+    match searched.found {
+        Found::None => plain(3, kind, 0, 0, examined, 0),
         Found::Exact(hit) => {
             if hit.generic {
-                return plain(1, kind, hit.label, hit.number, GENERIC);
+                return plain(1, kind, hit.label, hit.number, examined, GENERIC);
             }
-            plain(1, kind, hit.label, hit.number, 0)
+            plain(1, kind, hit.label, hit.number, examined, 0)
         }
-        Found::Fuzzy(hit, reason) => fuzzy(kind, hit, reason),
+        Found::Fuzzy(hit, reason) => fuzzy(kind, hit, reason, examined),
     }
 }
 
@@ -163,9 +165,9 @@ fn packet_parts(answer: PacketAnswer) -> TermreadResult
     ensures { λ r. ⌜ r ≡ packetParts answer ⌝ }
 {
     match answer {
-        PacketAnswer::Syn(found) => found_parts(1, found),
-        PacketAnswer::SynAck(found) => found_parts(2, found),
-        PacketAnswer::Nothing => plain(4, 0, 0, 0, 0),
+        PacketAnswer::Syn(searched) => found_parts(1, searched),
+        PacketAnswer::SynAck(searched) => found_parts(2, searched),
+        PacketAnswer::Nothing => plain(4, 0, 0, 0, 0, 0),
         PacketAnswer::Refused(refusal) => refused_packet(refusal),
     }
 }
@@ -194,7 +196,7 @@ pub extern "C" fn termread_check_list(list: &[u8]) -> TermreadResult
     ensures { λ r. ⌜ r ≡ listParts (checkList (now (list .entry))) ⌝ }
 {
     match check_list(list) {
-        ListAnswer::Good => plain(0, 0, 0, 0, 0),
+        ListAnswer::Good => plain(0, 0, 0, 0, 0, 0),
         ListAnswer::Refused(refusal) => refused_list(refusal),
     }
 }

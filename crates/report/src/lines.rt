@@ -48,13 +48,13 @@ pub(crate) fn put_line(page: &mut [u8], at: usize, answer: PacketAnswer) -> usiz
     ensures { λ r. ⌜ Put (now (page .entry)) at (lineOf answer) r (now (page .exit)) ⌝ }
 {
     match answer {
-        PacketAnswer::Syn(found) => {
+        PacketAnswer::Syn(searched) => {
             let next = put_word(page, at, b"syn ");
-            put_found(page, next, found)
+            put_found(page, next, searched.found)
         }
-        PacketAnswer::SynAck(found) => {
+        PacketAnswer::SynAck(searched) => {
             let next = put_word(page, at, b"synack ");
-            put_found(page, next, found)
+            put_found(page, next, searched.found)
         }
         PacketAnswer::Nothing => put_word(page, at, b"nothing\n"),
         PacketAnswer::Refused(refusal) => put_numbered(

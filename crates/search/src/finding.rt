@@ -7,9 +7,10 @@ ghost use lib.ListN.{length};
 ghost use Rattle.siglist.specs.List.{recordAt, AreasFit};
 ghost use Rattle.search.specs.Candidate.{holds};
 ghost use Rattle.search.specs.Next.{Next};
-ghost use Rattle.search.specs.Search.{candidateAt, searchRecords};
+ghost use Rattle.search.specs.Search.{candidateAt, searchedRecords};
 use found::Found;
 use found::Hit;
+use found::Searched;
 use found::found_of;
 use found::is_none;
 use found::rank_of;
@@ -96,16 +97,17 @@ pub(crate) fn next_candidate(observed: Features, list: &[u8], areas: Areas, from
     i
 }
 
-// The records in list order, with the first of least rank among those passed; one of rank 0, specific and exact, ends the search.
+// The records in list order, with the first of least rank among those passed; one of rank 0, specific and exact, ends the search, and
+// its position, from one, is the count; else all were examined.
 pub(crate) fn search_records(
     observed: Features,
     kinds: &[u8; 40],
     bytes: &[u8; 40],
     list: &[u8],
     areas: Areas,
-) -> Found
+) -> Searched
     requires { ⌜ AreasFit (now list) areas ⌝ }
-    ensures { λ r. ⌜ r ≡ searchRecords observed (now (kinds .entry)) (now (bytes .entry)) (now (list .entry)) ⌝ }
+    ensures { λ r. ⌜ r ≡ searchedRecords observed (now (kinds .entry)) (now (bytes .entry)) (now (list .entry)) ⌝ }
 {
     let count = areas.records as usize;
     let mut held = Found::None;
@@ -114,12 +116,18 @@ pub(crate) fn search_records(
     while i < count {
         i = next_candidate(observed, list, areas, i);
         if count <= i {
-            return held;
+            return Searched {
+                found: held,
+                examined: areas.records,
+            };
         }
         let found = candidate_at(observed, kinds, bytes, list, areas, i);
         let rank = rank_of(found);
         if rank == 0 {
-            return found;
+            return Searched {
+                found,
+                examined: i as u16 + 1,
+            };
         }
         if rank < best {
             held = found;
@@ -127,5 +135,8 @@ pub(crate) fn search_records(
         }
         i += 1;
     }
-    held
+    Searched {
+        found: held,
+        examined: areas.records,
+    }
 }

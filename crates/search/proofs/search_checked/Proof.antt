@@ -1,16 +1,18 @@
 -- `search::search_checked` meets its contract.
 use Rattle.search.proofs.Rows.{none-found}
-use Rattle.siglist.proofs.List.{header-areas, header-none}
-use Rattle.search.specs.Search.{searchOver, searchAll}
+use Rattle.siglist.proofs.List.{list-fits, header-areas, header-none}
+use Rattle.found.proofs.Examined.{answers}
+use Rattle.search.specs.Search.{searchOver, searchAll, searched}
 use mathlib.Core.Path.{sym, _∙_}
 use borrow.Author.Needs.{needs}
 use Rattle.search.proofs.search_checked.Statement.{statement}
 use Rattle.search.proofs.search_checked.Tie as tie
 
 returns : tie.Need-returns
-unfolding searchAll searchOver
+unfolding searchAll searchOver searched
 returns c =
-    sym (none-found _ _ _ _ (header-none _ (sym (c .before .before .read-header .ensures) ∙ c .enum-told .given .1)) _)
+    let none = header-none _ (sym (c .before .before .read-header .ensures) ∙ c .enum-told .given .1) in
+    answers _ 0 _ _ (sym (none-found _ _ _ _ none _)) (rw none)
 
 search-records-requires : tie.Need-search-records-requires
 search-records-requires c κs =
@@ -19,10 +21,14 @@ search-records-requires c κs =
     header-areas (read .before .before .args .list .now) _ (sym (read .read-header .ensures) ∙ told .areas .given .1)
 
 returns-2 : tie.Need-returns-2
-unfolding searchAll searchOver
+unfolding searchAll searchOver searched
 returns-2 c =
     let featured = c .before .before .before .before .before .before in
-    rw (c .search-records .ensures, featured .features-of .ensures)
+    let told = c .before .before .before .before .before .before .before .before in
+    let read = told .before .before in
+    let l = read .before .before .args .list .now in
+    let areas = header-areas l _ (sym (read .read-header .ensures) ∙ told .areas .given .1) in
+    rw (list-fits l _ areas, c .search-records .ensures, featured .features-of .ensures)
 
 pub search-checked-spec : {M : Type 1} → statement M
 search-checked-spec =
