@@ -140,7 +140,8 @@ fn found_parts(kind: u8, searched: Searched) -> TermreadResult
     ensures { λ r. ⌜ r ≡ foundParts kind searched ⌝ }
 {
     let examined = searched.examined;
-    match searched.found {
+    let found = searched.found;
+    match found {
         Found::None => plain(3, kind, 0, 0, examined, 0),
         Found::Exact(hit) => {
             if hit.generic {
