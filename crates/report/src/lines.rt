@@ -49,12 +49,14 @@ pub(crate) fn put_line(page: &mut [u8], at: usize, answer: PacketAnswer) -> usiz
 {
     match answer {
         PacketAnswer::Syn(searched) => {
+            let found = searched.found;
             let next = put_word(page, at, b"syn ");
-            put_found(page, next, searched.found)
+            put_found(page, next, found)
         }
         PacketAnswer::SynAck(searched) => {
+            let found = searched.found;
             let next = put_word(page, at, b"synack ");
-            put_found(page, next, searched.found)
+            put_found(page, next, found)
         }
         PacketAnswer::Nothing => put_word(page, at, b"nothing\n"),
         PacketAnswer::Refused(refusal) => put_numbered(
