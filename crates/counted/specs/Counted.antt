@@ -25,8 +25,8 @@ foundCode (found.Exact hit) = 131072 + hit .label
 foundCode (found.Fuzzy hit reason) = 196608 + hit .label
 
 -- And how many records were examined.
-unfoldable pub searchedCode : Searched → ℕ
-searchedCode s = foundCode (s .found) + 262144 * s .examined
+abbrev pub searchedCode : Searched → ℕ
+searchedCode s = 262144 * s .examined + foundCode (s .found)
 
 unfoldable pub countedAnswer : List ℕ → ℕ → List ℕ → ℕ
 countedAnswer p peer l = searchedCode (searched (readIn plainMode p (peerOf peer) .observation) l)

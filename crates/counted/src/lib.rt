@@ -1,7 +1,7 @@
 // What tools/benchmark counts, in an archive of its own; not part of the product.
 ghost use mathlib.Core.Path.{_≡_};
 ghost use Rattle.flow.specs.Modes.{modeOf};
-ghost use Rattle.counted.specs.Counted.{countedReading, countedReadingIn, foundCode, searchedCode, countedAnswer};
+ghost use Rattle.counted.specs.Counted.{countedReading, countedReadingIn, searchedCode, countedAnswer};
 ghost use Rattle.witness.specs.Lined.{lineRead};
 use flow::Mode;
 use flow::mode_of;
@@ -37,21 +37,17 @@ pub extern "C" fn counted_observe_in(packet: &[u8], peer: u16, bits: u8) -> Plai
     )
 }
 
-fn found_code(found: Found) -> u64
-    ensures { λ r. ⌜ r ≡ foundCode found ⌝ }
-{
-    match found {
-        Found::None => 65536,
-        Found::Exact(hit) => 131072 + (hit.label as u64),
-        Found::Fuzzy(hit, _) => 196608 + (hit.label as u64),
-    }
-}
-
-// Both of a search's answer, so that what the count costs is counted too.
+// What was found and how many records were examined, in one number.
 fn searched_code(searched: Searched) -> u64
     ensures { λ r. ⌜ r ≡ searchedCode searched ⌝ }
 {
-    found_code(searched.found) + 262144 * (searched.examined as u64)
+    let found = searched.found;
+    let examined = 262144 * (searched.examined as u64);
+    match found {
+        Found::None => examined + 65536,
+        Found::Exact(hit) => examined + 131072 + (hit.label as u64),
+        Found::Fuzzy(hit, _) => examined + 196608 + (hit.label as u64),
+    }
 }
 
 // From a packet to what the search of a checked list answers for it.
