@@ -33,15 +33,17 @@ use Rattle.siglist.specs.declared.ListAnswer.the-variants as list
 use Rattle.siglist.specs.List.{recordCount, listFits, recordGood, checkList}
 use Rattle.siglist.proofs.FirstBad.{does-not-fit, Checked, first-bad-named}
 use Rattle.found.specs.declared.Hit.{Hit}
+use Rattle.found.specs.declared.Found.{Found}
 use Rattle.found.specs.declared.Found.the-variants as found
+use Rattle.found.specs.Examined.{searchedIn}
 use Rattle.search.specs.declared.SearchAnswer.the-variants as answer
 use Rattle.found.specs.Rank.{foundOf}
-use Rattle.search.specs.Search.{fitAt, hitAt, candidateAt, searchList}
+use Rattle.search.specs.Search.{fitAt, hitAt, candidateAt, searched, searchList}
 use Rattle.search.proofs.Order.{single}
-use Rattle.acceptance.specs.Values.{packetA, exampleList, theRecord}
+use Rattle.acceptance.specs.Values.{packetA, exampleList, theRecord, after}
 use Rattle.acceptance.specs.Demand2.{MultiplierTheorem, ofOne, SingleFit, ShutOut, Demand2}
 use Rattle.acceptance.proofs.Observation.{the-observation}
-use Rattle.acceptance.proofs.Values.{values}
+use Rattle.acceptance.proofs.Values.{same-found, values}
 
 -- ---- the multiplier
 
@@ -86,10 +88,10 @@ module _ (l : List ℕ) (good : checkList l ≡ list.Good) where
       by-check (Checked.first-bad k b u bad before) e = let z : _≡_ {A = ℕ} 0 1 = cc in absurd (omega arith)
 
 single-fit : SingleFit
-unfolding searchList candidateAt fitAt
+unfolding searchList searched candidateAt fitAt
 single-fit o l few good one =
-    rw (le-ltb 40 (o .olayout .count) few, good)
-    (ap answer.Found
+    rw (le-ltb 40 (o .olayout .count) few, good, fits l good, one)
+    (ap (λ (x : Found). answer.Searched (searchedIn 1 x))
     (single o l one
     ∙ rw (fits l good, lt-ltb 0 (recordCount l) (omega arith), record-good l good 0 (omega arith)) (of-one (hitAt l 0) _)))
 
@@ -121,8 +123,7 @@ shut-out =
           let z : _≡_ {A = ℕ} 0 1 = cc in
           omega arith;
       none-always = λ h.
-          let e = h packetA in
-          let a = values .search .exact in
+          let same = same-found _ _ _ _ (sym (values .search .exact) ∙ h packetA .1) in
           let z : _≡_ {A = ℕ} 0 1 = cc in
           omega arith;
       untouched = λ h.
@@ -135,7 +136,7 @@ shut-out =
           let z : _≡_ {A = ℕ} 0 1 = cc in
           omega arith;
       constant-search = λ c h.
-          let e : answer.Found (found.Exact theRecord) ≡ answer.List why.DoesNotFit =
+          let e : after 1 (found.Exact theRecord) ≡ answer.List why.DoesNotFit =
           sym (values .search .exact)
           ∙ h (readPacket packetA mss.Absent .observation) exampleList
           ∙ sym (h emptyObservation [])
