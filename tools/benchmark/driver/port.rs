@@ -92,6 +92,12 @@ pub fn answer(packet: &[u8], peer: u16, list: &[u8]) -> u64 {
     unsafe { counted_answer(packet.as_ptr(), packet.len(), peer, list.as_ptr(), list.len()) }
 }
 
+/// An answer's parts: what was found, as `original::number` has it, and how many records were examined, which is 0 in the archives of
+/// an earlier commit.
+pub fn parts(answer: u64) -> (u64, u64) {
+    (answer % 262144, answer / 262144)
+}
+
 #[inline(always)]
 pub fn line(text: &[u8]) -> Line {
     unsafe { counted_line(text.as_ptr(), text.len()) }
