@@ -9,8 +9,10 @@ use Rattle.found.specs.declared.Hit.{Hit}
 use Rattle.found.specs.declared.Found.{Found}
 use Rattle.found.specs.declared.Found.the-variants as found
 use Rattle.found.specs.declared.Searched.{Searched}
+use Rattle.found.specs.Least.{unranked}
 use Rattle.found.specs.Rank.{foundOf, exactRank, rankOf}
 use Rattle.found.specs.Examined.{examinedOf, searchedIn}
+use Rattle.found.proofs.Rank.{exact-first}
 
 -- What is not specific and exact did not end it: all records were examined.
 pub all-examined : (size : ℕ) (x : Found) → 0 < rankOf x → examinedOf size x ≡ size
@@ -33,6 +35,12 @@ ended-there size hit fit.Exact h = by-kind (hit .generic) h
     by-kind : (generic : Bool) → exactRank generic ≡ 0 → cond generic size (hit .number + 1) ≡ hit .number + 1
     by-kind true h = absurd (omega arith)
     by-kind false h = refl
+
+-- What has no rank is none.
+pub unranked-none : (x : Found) → rankOf x ≡ unranked → found.None ≡ x
+unranked-none found.None h = refl
+unranked-none (found.Fuzzy hit reason) h = absurd (omega arith)
+unranked-none (found.Exact hit) h = absurd (omega (arith, exact-first (hit .generic)))
 
 -- An answer is what was found, and the count of it.
 pub answers : (size n : ℕ) (x y : Found) → x ≡ y → n ≡ examinedOf size x → record { found = x; examined = n } ≡ searchedIn size y

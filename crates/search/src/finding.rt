@@ -5,6 +5,8 @@ ghost use Rattle.matching.specs.Fit.{passes};
 ghost use Prim.Native.Nat.{_+_, _*_, _≤_, _<_};
 ghost use lib.ListN.{length};
 ghost use Rattle.siglist.specs.List.{recordAt, AreasFit};
+ghost use Rattle.found.specs.Examined.{searchedIn};
+ghost use Rattle.found.specs.Rank.{rankOf};
 ghost use Rattle.search.specs.Candidate.{holds};
 ghost use Rattle.search.specs.Next.{Next};
 ghost use Rattle.search.specs.Search.{candidateAt, searchedRecords};
@@ -97,6 +99,24 @@ pub(crate) fn next_candidate(observed: Features, list: &[u8], areas: Areas, from
     i
 }
 
+// What a search answers that no record ended: all were examined. One that holds nothing answers a constant, so that nothing that is held
+// need be read for it (docs/DECISIONS.md, 95).
+fn none_ended(held: Found, best: u8, size: u16) -> Searched
+    requires { ⌜ (best ≡ rankOf held) × (0 < best) ⌝ }
+    ensures { λ r. ⌜ r ≡ searchedIn size held ⌝ }
+{
+    if best == 255 {
+        return Searched {
+            found: Found::None,
+            examined: size,
+        };
+    }
+    Searched {
+        found: held,
+        examined: size,
+    }
+}
+
 // The records in list order, with the first of least rank among those passed; one of rank 0, specific and exact, ends the search, and
 // its position, from one, is the count; else all were examined.
 pub(crate) fn search_records(
@@ -116,10 +136,7 @@ pub(crate) fn search_records(
     while i < count {
         i = next_candidate(observed, list, areas, i);
         if count <= i {
-            return Searched {
-                found: held,
-                examined: areas.records,
-            };
+            return none_ended(held, best, areas.records);
         }
         let found = candidate_at(observed, kinds, bytes, list, areas, i);
         let rank = rank_of(found);
@@ -135,8 +152,5 @@ pub(crate) fn search_records(
         }
         i += 1;
     }
-    Searched {
-        found: held,
-        examined: areas.records,
-    }
+    none_ended(held, best, areas.records)
 }

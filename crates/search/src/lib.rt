@@ -22,17 +22,18 @@ pub enum SearchAnswer {
 }
 
 // The search of a list that was checked before. It is total: what is not a well-formed record of the list does not fit, and what does
-// not fit its bytes has no records.
+// not fit its bytes has no records. The observation's features come first: the list's areas are then not carried past them
+// (docs/DECISIONS.md, 95).
 pub fn search_checked(observed: TcpObservation, list: &[u8]) -> Searched
     ensures { λ r. ⌜ r ≡ searched observed (now (list .entry)) ⌝ }
 {
+    let features = features_of(observed);
     let Header::Fits(areas) = read_header(list) else {
         return Searched {
             found: Found::None,
             examined: 0,
         };
     };
-    let features = features_of(observed);
     let layout = observed.olayout;
     let kinds = layout.kinds;
     let bytes = layout.bytes;

@@ -16,22 +16,21 @@ returns c =
 
 search-records-requires : tie.Need-search-records-requires
 search-records-requires c κs =
-    let told = c .before .before .before .before .before .before .before in
+    let told = c .before .before .before .before .before .before in
     let read = told .before .before in
-    header-areas (read .before .before .args .list .now) _ (sym (read .read-header .ensures) ∙ told .areas .given .1)
+    header-areas (read .before .before .before .args .list .now) _ (sym (read .read-header .ensures) ∙ told .areas .given .1)
 
 returns-2 : tie.Need-returns-2
 unfolding searchAll searchOver searched
 returns-2 c =
-    let featured = c .before .before .before .before .before .before in
-    let told = c .before .before .before .before .before .before .before .before in
+    let told = c .before .before .before .before .before .before .before in
     let read = told .before .before in
-    let l = read .before .before .args .list .now in
+    let l = read .before .before .before .args .list .now in
     let areas = header-areas l _ (sym (read .read-header .ensures) ∙ told .areas .given .1) in
-    rw (list-fits l _ areas, c .search-records .ensures, featured .features-of .ensures)
+    rw (list-fits l _ areas, c .search-records .ensures, read .before .features-of .ensures)
 
 pub search-checked-spec : {M : Type 1} → statement M
 search-checked-spec =
     tie.close
-    (tie.spec (λ c κs. search needs) (λ c. search needs) (λ c. search needs) returns (λ c κs. search needs)
+    (tie.spec (λ c κs. search needs) (λ c κs. search needs) (λ c. search needs) (λ c. search needs) returns
     search-records-requires returns-2)

@@ -4,7 +4,8 @@ use Rattle.search.specs.Search.{searchRow}
 use Rattle.siglist.specs.List.{recordCount, AreasFit}
 use Rattle.found.specs.Least.{numbersFrom}
 use Rattle.found.specs.Rank.{rankOf}
-use Rattle.found.proofs.Examined.{all-examined, answers}
+use Rattle.found.specs.Examined.{searchedIn}
+use Rattle.found.proofs.Examined.{answers}
 use Rattle.found.proofs.Rank.{taken, left}
 use Prim.Native.Nat.{_-_, _≤_, _<_}
 use native.Mathlib.Omega.{arith}
@@ -27,13 +28,13 @@ loop-holds c = (search needs, refl, c .before .before .pre, at-start _ _ _ _, re
 
 returns : tie.Need-returns Inv-loop μ-loop
 returns c =
-    let l = c .before .before .before .loop in
-    let next = c .before .next-candidate in
+    let l = c .before .before .before .before .loop in
+    let next = c .before .before .next-candidate in
     let within = next .ensures .within in
-    let size = recordCount (c .before .before .before .before .before .before .args .list .now) in
+    let size = recordCount (c .before .before .before .before .before .before .before .args .list .now) in
     let end : next .result ≡ size = omega arith in
-    answers size _ _ _ (rw (← end) (l .inv .3 ∙ skipped _ _ _ _ _ _ _ (l .inv .2) (next .ensures)))
-    (l .inv .2 .records ∙ sym (all-examined size (l .held) (omega (arith, l .inv .4, l .inv .5))))
+    c .none-ended .ensures
+    ∙ rw (l .inv .2 .records, ← end) (ap (searchedIn _) (l .inv .3 ∙ skipped _ _ _ _ _ _ _ (l .inv .2) (next .ensures)))
 
 candidate-at-requires : tie.Need-candidate-at-requires Inv-loop μ-loop
 candidate-at-requires c κs =
@@ -78,14 +79,14 @@ loop-again c =
 
 returns-3 : tie.Need-returns-3 Inv-loop μ-loop
 returns-3 c =
-    let l = c .before .loop in
-    let size = recordCount (c .before .before .before .before .args .list .now) in
+    let l = c .before .before .loop in
+    let size = recordCount (c .before .before .before .before .before .args .list .now) in
     let end : l .i ≡ size = omega arith in
-    answers size _ _ _ (rw (← end) (l .inv .3))
-    (l .inv .2 .records ∙ sym (all-examined size (l .held) (omega (arith, l .inv .4, l .inv .5))))
+    c .none-ended2 .ensures ∙ rw (l .inv .2 .records, ← end) (ap (searchedIn _) (l .inv .3))
 
 pub search-records-spec : {M : Type 1} → statement M
 search-records-spec =
     tie.close
-    (tie.spec Inv-loop μ-loop (λ c. search needs) loop-holds (λ c κs. search needs) returns candidate-at-requires
-    (λ c κs. search needs) (λ c. search needs) (λ c. search needs) returns-2 (λ c. search needs) (λ c. search needs) loop-again returns-3)
+    (tie.spec Inv-loop μ-loop (λ c. search needs) loop-holds (λ c κs. search needs) (λ c κs. search needs) returns candidate-at-requires
+    (λ c κs. search needs) (λ c. search needs) (λ c. search needs) returns-2 (λ c. search needs) (λ c. search needs) loop-again
+    (λ c κs. search needs) returns-3)
