@@ -26,7 +26,8 @@ use Rattle.found.specs.Examined.{searchedIn}
 use Rattle.found.specs.Least.{numbersFrom}
 use Rattle.found.proofs.Least.{Without, end, stays-in, left-out}
 use Rattle.search.specs.Search.{fitAt, rankAt, searchOver, searchAll, searched, searchList}
-use Rattle.search.proofs.Rows.{no-rank, none-fits, none-found, without}
+use Rattle.search.proofs.Examined.{none-examined}
+use Rattle.search.proofs.Rows.{no-rank, none-fits, without}
 use Rattle.flow.specs.Modes.{readIn}
 use Rattle.packet_answer.specs.declared.PacketAnswer.the-variants as packet
 use Rattle.bundle.specs.declared.BundleCheck.the-variants as check
@@ -116,11 +117,7 @@ search-unchecked =
           (sym
           (without (featuresOf o) (o .olayout .kinds) (o .olayout .bytes) l
           (good-ones (featuresOf o) (o .olayout .kinds) (o .olayout .bytes) l (numbersFrom 0 (recordCount l)))));
-      does-not-fit = λ o l e.
-          rw (
-            none-found (featuresOf o) (o .olayout .kinds) (o .olayout .bytes) l (unfit l e) (numbersFrom 0 (recordCount l)),
-            unfit l e,
-          );
+      does-not-fit = λ o l e. none-examined o l (unfit l e);
       layout-too-long = λ o l long.
           ap (searchedIn (sizeOf l))
           (none-fits (featuresOf o) (o .olayout .kinds) (o .olayout .bytes) l

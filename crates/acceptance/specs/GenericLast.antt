@@ -45,7 +45,9 @@ pub record FirstExact (o : TcpObservation) (l : List ℕ) (hit : Hit) : Type 0 w
 pub record AsBefore (l : List ℕ) : Type 0 where
   pub bad : (i : ℕ) → i < recordCount l → BadRecord l i ↔ BadBefore l i
   pub exact : (o : TcpObservation) (hit : Hit) → (searched o l .found ≡ found.Exact hit) ↔ FirstExact o l hit
-  pub fuzzy : (o : TcpObservation) (hit : Hit) (reason : FuzzyReason) → (searched o l .found ≡ found.Fuzzy hit reason) ↔ FirstFuzzy o l hit reason
+  pub fuzzy
+      : (o : TcpObservation) (hit : Hit) (reason : FuzzyReason)
+      → (searched o l .found ≡ found.Fuzzy hit reason) ↔ FirstFuzzy o l hit reason
   pub none : (o : TcpObservation) → (searched o l .found ≡ found.None) ↔ NoneFits o l
   pub specific : (hit : Hit) → Named l hit → hit .generic ≡ false
 

@@ -1,7 +1,7 @@
 -- How long a search was (document 02, Wish 6): "how many records it examined. That is the position of the specific exact record that ended
 -- it, counted from one, or the size of the list if none did. A refused search reports no count. The number is a part of the answer in
--- demands 2 and 3": so every equation of an answer in Demand1.antt and Demand3.antt is one of its count too; counts of given lists are among the values
--- of Values.antt and GenericLast.antt. `HowLong` is the statement.
+-- demands 2 and 3": so every equation of an answer in Demand1.antt and Demand3.antt is one of its count too. Counts of given lists are
+-- among the values of Values.antt and GenericLast.antt. `HowLong` is the statement.
 use mathlib.Core.Path.{_≡_}
 use mathlib.Core.Bool.{true, false}
 use mathlib.Core.List.{List}

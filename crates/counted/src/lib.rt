@@ -50,12 +50,15 @@ fn searched_code(searched: Searched) -> u64
     }
 }
 
-// From a packet to what the search of a checked list answers for it.
+// From a packet to what the search of a checked list answers for it; of a list without a byte, the reading alone.
 #[no_mangle]
 pub extern "C" fn counted_answer(packet: &[u8], peer: u16, list: &[u8]) -> u64
     ensures { λ r. ⌜ r ≡ countedAnswer (now (packet .entry)) peer (now (list .entry)) ⌝ }
 {
     let reading = flow::read_packet_in(packet, peer_of(peer), Mode::PLAIN);
+    if list.len() == 0 {
+        return 65536;
+    }
     let observation = reading.observation;
     searched_code(search::search_checked(observation, list))
 }

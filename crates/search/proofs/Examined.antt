@@ -1,4 +1,4 @@
--- A search examines at most the records that its list has.
+-- A search examines at most the records that its list has, and none of a list that does not fit.
 use mathlib.Core.Path.{_≡_, refl}
 use mathlib.Core.Bool.{Bool, true, false, cond, _&&_}
 use mathlib.Core.List.{List}
@@ -11,12 +11,14 @@ use Rattle.matching.specs.declared.Features.{Features}
 use Rattle.matching.specs.declared.SignatureFit.{SignatureFit}
 use Rattle.matching.specs.declared.SignatureFit.the-variants as fit
 use Rattle.matching.specs.Fit.{featuresOf}
-use Rattle.found.specs.Examined.{examinedOf}
-use Rattle.found.specs.Least.{Place, nowhere, at}
+use Rattle.found.specs.declared.Found.the-variants as found
+use Rattle.found.specs.Examined.{examinedOf, searchedIn}
+use Rattle.found.specs.Least.{Place, nowhere, at, numbersFrom}
 use Rattle.found.specs.Rank.{foundOf}
 use Rattle.sigrecord.specs.Record.{isGeneric}
 use Rattle.siglist.specs.List.{recordCount, sizeOf, listFits, recordAt, recordGood}
 use Rattle.search.specs.Search.{fitAt, hitAt, candidateAt, foundAt, searchRow, searchOver, searchAll, searched}
+use Rattle.search.proofs.Rows.{none-found}
 
 module _ (f : Features) (kinds bytes l : List ℕ) where
   -- What fits is one of them.
@@ -50,6 +52,10 @@ module _ (f : Features) (kinds bytes l : List ℕ) where
   unfolding foundAt
   there nowhere = omega arith
   there (at i) = one i
+
+pub none-examined : (o : TcpObservation) (l : List ℕ) → listFits l ≡ false → searched o l ≡ searchedIn 0 found.None
+unfolding searched searchAll searchOver
+none-examined o l e = rw (none-found (featuresOf o) (o .olayout .kinds) (o .olayout .bytes) l e (numbersFrom 0 (recordCount l)), e)
 
 pub within : (o : TcpObservation) (l : List ℕ) → searched o l .examined ≤ sizeOf l
 unfolding searched searchAll searchOver searchRow

@@ -1,7 +1,6 @@
 -- `search::search_checked` meets its contract.
-use Rattle.search.proofs.Rows.{none-found}
+use Rattle.search.proofs.Examined.{none-examined}
 use Rattle.siglist.proofs.List.{list-fits, header-areas, header-none}
-use Rattle.found.proofs.Examined.{answers}
 use Rattle.search.specs.Search.{searchOver, searchAll, searched}
 use mathlib.Core.Path.{sym, _∙_}
 use borrow.Author.Needs.{needs}
@@ -9,10 +8,7 @@ use Rattle.search.proofs.search_checked.Statement.{statement}
 use Rattle.search.proofs.search_checked.Tie as tie
 
 returns : tie.Need-returns
-unfolding searchAll searchOver searched
-returns c =
-    let none = header-none _ (sym (c .before .before .read-header .ensures) ∙ c .enum-told .given .1) in
-    answers _ 0 _ _ (sym (none-found _ _ _ _ none _)) (rw none)
+returns c = sym (none-examined _ _ (header-none _ (sym (c .before .before .read-header .ensures) ∙ c .enum-told .given .1)))
 
 search-records-requires : tie.Need-search-records-requires
 search-records-requires c κs =
