@@ -10,13 +10,17 @@ use Rattle.found.specs.declared.Searched.{Searched}
 use Rattle.search.specs.Search.{searched}
 use Rattle.packet_answer.specs.Packet.{peerOf}
 use Rattle.witness.specs.declared.PlainPacket.{PlainPacket}
-use Rattle.witness.specs.Written.{plainPacket}
+use Rattle.witness.specs.Written.{answerNumber, plainPacket}
 
 unfoldable pub countedReadingIn : Mode → List ℕ → ℕ → PlainPacket
 countedReadingIn mode p peer = plainPacket (readIn mode p (peerOf peer)) multiplier.Absent
 
 abbrev pub countedReading : List ℕ → ℕ → PlainPacket
 countedReading p peer = countedReadingIn plainMode p peer
+
+-- Of a reading, which answer it is.
+unfoldable pub countedKind : List ℕ → ℕ → ℕ
+countedKind p peer = answerNumber (readIn plainMode p (peerOf peer) .answer)
 
 -- None, or exact or fuzzy with the record's label.
 abbrev pub foundCode : Found → ℕ

@@ -1,7 +1,7 @@
 // What tools/benchmark counts, in an archive of its own; not part of the product.
 ghost use mathlib.Core.Path.{_≡_};
 ghost use Rattle.flow.specs.Modes.{modeOf};
-ghost use Rattle.counted.specs.Counted.{countedReading, countedReadingIn, searchedCode, countedAnswer};
+ghost use Rattle.counted.specs.Counted.{countedReading, countedReadingIn, countedKind, searchedCode, countedAnswer};
 ghost use Rattle.witness.specs.Lined.{lineRead};
 use flow::Mode;
 use flow::mode_of;
@@ -12,6 +12,7 @@ use window_size::Multiplier;
 use witness::PlainLine;
 use witness::PlainPacket;
 use witness::witness_line;
+use witness::written::answer_number;
 use witness::written::plain_packet;
 
 // The reading of a packet in the plain mode, whole, as a struct that C can read; the window's multiplier, which a search computes, is
@@ -26,7 +27,17 @@ pub extern "C" fn counted_observe(packet: &[u8], peer: u16) -> PlainPacket
     )
 }
 
-// The same in a mode that is given as for C.
+// The reading in the plain mode, of which only the answer is handed on: what was read is left where it is.
+#[no_mangle]
+pub extern "C" fn counted_read(packet: &[u8], peer: u16) -> u8
+    ensures { λ r. ⌜ r ≡ countedKind (now (packet .entry)) peer ⌝ }
+{
+    let reading = flow::read_packet_in(packet, peer_of(peer), Mode::PLAIN);
+    let answer = reading.answer;
+    answer_number(answer)
+}
+
+// The same as `counted_observe` in a mode that is given as for C.
 #[no_mangle]
 pub extern "C" fn counted_observe_in(packet: &[u8], peer: u16, bits: u8) -> PlainPacket
     ensures { λ r. ⌜ r ≡ countedReadingIn (modeOf bits) (now (packet .entry)) peer ⌝ }
@@ -50,15 +61,12 @@ fn searched_code(searched: Searched) -> u64
     }
 }
 
-// From a packet to what the search of a checked list answers for it; of a list without a byte, the reading alone.
+// From a packet to what the search of a checked list answers for it.
 #[no_mangle]
 pub extern "C" fn counted_answer(packet: &[u8], peer: u16, list: &[u8]) -> u64
     ensures { λ r. ⌜ r ≡ countedAnswer (now (packet .entry)) peer (now (list .entry)) ⌝ }
 {
     let reading = flow::read_packet_in(packet, peer_of(peer), Mode::PLAIN);
-    if list.len() == 0 {
-        return 65536;
-    }
     let observation = reading.observation;
     searched_code(search::search_checked(observation, list))
 }

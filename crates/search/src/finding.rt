@@ -100,7 +100,7 @@ pub(crate) fn next_candidate(observed: Features, list: &[u8], areas: Areas, from
 }
 
 // What a search answers that no record ended: all were examined. One that holds nothing answers a constant, so that nothing that is held
-// need be read for it (docs/DECISIONS.md, 95).
+// need be read for it (docs/DECISIONS.md, 96).
 fn none_ended(held: Found, best: u8, size: u16) -> Searched
     requires { ⌜ (best ≡ rankOf held) × (0 < best) ⌝ }
     ensures { λ r. ⌜ r ≡ searchedIn size held ⌝ }

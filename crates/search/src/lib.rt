@@ -23,7 +23,7 @@ pub enum SearchAnswer {
 
 // The search of a list that was checked before. It is total: what is not a well-formed record of the list does not fit, and what does
 // not fit its bytes has no records. The observation's features come first: the list's areas are then not carried past them
-// (docs/DECISIONS.md, 95).
+// (docs/DECISIONS.md, 96).
 pub fn search_checked(observed: TcpObservation, list: &[u8]) -> Searched
     ensures { λ r. ⌜ r ≡ searched observed (now (list .entry)) ⌝ }
 {

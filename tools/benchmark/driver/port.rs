@@ -68,6 +68,7 @@ unsafe extern "C" {
     fn counted_line(line: *const u8, size: usize) -> Line;
     fn counted_observe(packet: *const u8, size: usize, peer: u16) -> Reading;
     fn counted_observe_in(packet: *const u8, size: usize, peer: u16, mode: u8) -> Reading;
+    fn counted_read(packet: *const u8, size: usize, peer: u16) -> u8;
     fn counted_answer(packet: *const u8, size: usize, peer: u16, list: *const u8, length: usize) -> u64;
     fn termread_answer(packet: *const u8, size: usize, peer: u16, list: *const u8, length: usize) -> Given;
     fn termread_answer_in(packet: *const u8, size: usize, peer: u16, list: *const u8, length: usize, mode: u8) -> Given;
@@ -85,6 +86,17 @@ pub fn observe(packet: &[u8], peer: u16) -> Reading {
 #[inline(always)]
 pub fn observe_in(packet: &[u8], peer: u16, mode: u8) -> Reading {
     unsafe { counted_observe_in(packet.as_ptr(), packet.len(), peer, mode) }
+}
+
+/// The reading alone, of which the answer is handed on. Without the feature `reads`, for archives of an earlier commit, followed by the
+/// search of an empty string, which ended there before it looked at the observation.
+#[inline(always)]
+pub fn read(packet: &[u8], peer: u16) -> u64 {
+    if cfg!(feature = "reads") {
+        u64::from(unsafe { counted_read(packet.as_ptr(), packet.len(), peer) })
+    } else {
+        answer(packet, peer, &[])
+    }
 }
 
 #[inline(always)]

@@ -38,11 +38,10 @@ fn observation(row: &str, packet: &[u8]) {
     measure(row, "port", '+', || read_only(packet, 0));
 }
 
-/// The port's reading, left as it is: the search of an empty list ends before it looks at the observation, and the reader is a
-/// function of its own in the archive, so that nothing of it is left out.
+/// The port's reading, left as it is: the reader is a function of its own in the archive, so that nothing of it is left out.
 #[inline(always)]
 fn read_only(packet: &[u8], peer: u16) {
-    black_box(port::answer(black_box(packet), black_box(peer), black_box(&[])));
+    black_box(port::read(black_box(packet), black_box(peer)));
 }
 
 /// The reading written out as numbers, in a struct that C can read. The original has no such form: its side is its own struct.
