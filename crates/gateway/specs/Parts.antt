@@ -96,6 +96,7 @@ fuzzy kind hit reason examined =
 
 -- ---- the struct of an answer
 
+-- What a search found, and how many records it examined.
 abbrev pub threeParts : ℕ → Found → ℕ → TermreadResult
 threeParts kind found.None examined = plain 3 kind 0 0 examined 0
 threeParts kind (found.Exact hit) examined = plain 1 kind (hit .label) (hit .number) examined (genericMark (hit .generic))

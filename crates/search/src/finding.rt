@@ -99,13 +99,16 @@ pub(crate) fn next_candidate(observed: Features, list: &[u8], areas: Areas, from
     i
 }
 
+// Every rank is less.
+const UNRANKED: u8 = 255;
+
 // What a search answers that no record ended: all were examined. One that holds nothing answers a constant, so that nothing that is held
 // need be read for it (docs/DECISIONS.md, 96).
 fn none_ended(held: Found, best: u8, size: u16) -> Searched
     requires { ⌜ (best ≡ rankOf held) × (0 < best) ⌝ }
     ensures { λ r. ⌜ r ≡ searchedIn size held ⌝ }
 {
-    if best == 255 {
+    if best == UNRANKED {
         return Searched {
             found: Found::None,
             examined: size,
@@ -131,7 +134,7 @@ pub(crate) fn search_records(
 {
     let count = areas.records as usize;
     let mut held = Found::None;
-    let mut best: u8 = 255;
+    let mut best = UNRANKED;
     let mut i = 0;
     while i < count {
         i = next_candidate(observed, list, areas, i);
