@@ -111,7 +111,8 @@ enum {
 termread_result termread_check_list(const uint8_t *list, size_t list_length);
 
 /* The answer of a packet (from its IP header on) against a list that termread_check_list found good: the same as termread_answer's.
-   It does not refuse a list: on one with bad records it answers as if those were not there, on one that does not fit it finds none. */
+   It does not refuse a list: on one with bad records it finds what it would find without them, and counts them as examined; on one that
+   does not fit it finds none, and has examined none. */
 termread_result termread_answer_checked(const uint8_t *packet, size_t packet_length, uint16_t peer_mss, const uint8_t *list,
                                         size_t list_length);
 

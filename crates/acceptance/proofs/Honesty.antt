@@ -17,7 +17,7 @@ use Rattle.search.proofs.Rows.{longer-row}
 use Rattle.packet_answer.specs.declared.PacketAnswer.{PacketAnswer}
 use Rattle.packet_answer.specs.declared.PacketAnswer.the-variants as packet
 use Rattle.packet_answer.specs.Packet.{peerOf, answerIn}
-use Rattle.gateway.specs.Parts.{GatewayAnswer, threeParts, foundParts, packetParts, refusedList, partsOf, gatewayIn}
+use Rattle.gateway.specs.Parts.{GatewayAnswer, foundParts, searchedParts, packetParts, refusedList, partsOf, gatewayIn}
 use Rattle.gateway.specs.Decode.{AllBytes, answerFrom}
 use Rattle.gateway.specs.Zeros.{Zeros}
 use Rattle.gateway.proofs.Room.{PacketFits}
@@ -53,14 +53,14 @@ module _ (mode : Mode) (p : List ℕ) (peer : Mss) (l : List ℕ) where
 -- ---- the struct that a gateway gets
 
 -- The outcome in a search's struct is which of the three it is.
-found-outcome-of : (kind n : ℕ) (f : Found) → threeParts kind f n .outcome ≡ whichOf f
+found-outcome-of : (kind n : ℕ) (f : Found) → foundParts kind f n .outcome ≡ whichOf f
 found-outcome-of kind n found.None = refl
 found-outcome-of kind n (found.Exact hit) = refl
 found-outcome-of kind n (found.Fuzzy hit reason) = refl
 
 -- The outcome in an answer's struct is what the answer is.
 outcome-of : (a : GatewayAnswer) → partsOf a .outcome ≡ outcomeOf a
-unfolding packetParts foundParts refusedList
+unfolding packetParts searchedParts refusedList
 outcome-of (GatewayAnswer.answered (packet.Syn s)) = found-outcome-of 1 (s .examined) (s .found)
 outcome-of (GatewayAnswer.answered (packet.SynAck s)) = found-outcome-of 2 (s .examined) (s .found)
 outcome-of (GatewayAnswer.answered packet.Nothing) = refl

@@ -1,13 +1,12 @@
 -- How many records a search examined, by the list's records alone.
-use mathlib.Core.Path.{_≡_, refl, sym, _∙_, ap}
+use mathlib.Core.Path.{_≡_, refl, sym, _∙_}
 use mathlib.Core.Bool.{Bool, true, false, cond}
 use mathlib.Core.List.{List}
-use mathlib.Core.Logic.{_↔_, inl, inr}
-use Prim.Native.Nat.{ℕ, _+_, _<_, _≤_}
+use mathlib.Core.Logic.{inl, inr}
+use Prim.Native.Nat.{ℕ, _+_, _<_}
 use native.Mathlib.Decide.{decLe}
 use native.Mathlib.Omega.{arith}
 use Rattle.observable.specs.declared.TcpObservation.{TcpObservation}
-use Rattle.matching.specs.declared.SignatureFit.the-variants as fit
 use Rattle.matching.specs.Fit.{featuresOf}
 use Rattle.refusals.specs.declared.ListRefusal.the-variants as why
 use Rattle.siglist.specs.declared.ListAnswer.{ListAnswer}
@@ -20,8 +19,8 @@ use Rattle.found.specs.Examined.{examinedOf}
 use Rattle.search.specs.Search.{searched}
 use Rattle.search.proofs.Examined.{in-list, within}
 use Rattle.packet_answer.specs.declared.PacketAnswer.the-variants as packet
-use Rattle.gateway.specs.Parts.{GatewayAnswer, threeParts, foundParts, packetParts, refusedList, partsOf, gatewayIn}
-use Rattle.acceptance.specs.Outcome.{fitOfRecord, SpecificExact, Outcome}
+use Rattle.gateway.specs.Parts.{GatewayAnswer, foundParts, searchedParts, packetParts, refusedList, partsOf, gatewayIn}
+use Rattle.acceptance.specs.Outcome.{SpecificExact, Outcome}
 use Rattle.acceptance.specs.Honesty.{checkedAnswer}
 use Rattle.acceptance.specs.HowLong.{Examined, ended-by, none-ended-it, ByOutcome, countOf, HowLong}
 use Rattle.acceptance.proofs.Outcome.{exact-none, is-specific, found-outcome, not-refused}
@@ -91,13 +90,13 @@ good-size l = by-test (listFits l) _
 
 -- ---- the struct that a gateway gets
 
-three-count : (kind n : ℕ) (f : Found) → threeParts kind f n .examined ≡ n
+three-count : (kind n : ℕ) (f : Found) → foundParts kind f n .examined ≡ n
 three-count kind n found.None = refl
 three-count kind n (found.Exact hit) = refl
 three-count kind n (found.Fuzzy hit reason) = refl
 
 count-of : (a : GatewayAnswer) → partsOf a .examined ≡ countOf a
-unfolding packetParts foundParts refusedList
+unfolding packetParts searchedParts refusedList
 count-of (GatewayAnswer.answered (packet.Syn s)) = three-count 1 (s .examined) (s .found)
 count-of (GatewayAnswer.answered (packet.SynAck s)) = three-count 2 (s .examined) (s .found)
 count-of (GatewayAnswer.answered packet.Nothing) = refl

@@ -35,7 +35,6 @@ use Rattle.siglist.specs.List.{recordCount, recordAt, entriesOf, checkList}
 use Rattle.found.specs.declared.Hit.{Hit}
 use Rattle.found.specs.declared.Found.{Found}
 use Rattle.found.specs.declared.Found.the-variants as found
-use Rattle.found.specs.Examined.{searchedIn}
 use Rattle.search.specs.declared.SearchAnswer.{SearchAnswer}
 use Rattle.search.specs.declared.SearchAnswer.the-variants as answer
 use Rattle.search.specs.Search.{searchList}
@@ -112,11 +111,10 @@ SingleFit =
     → checkList l ≡ list.Good
     → recordCount l ≡ 1
     → searchList o l
-    ≡ answer.Searched
-    (searchedIn 1
+    ≡ after 1
     (ofOne (record { label = labelOf (recordAt l 0); number = 0; generic = isGeneric (recordAt l 0) })
     (fitOf (featuresOf o) (o .olayout .kinds) (o .olayout .bytes) (signatureOf (recordAt l 0)) (entryCount (recordAt l 0))
-    (entriesOf l (recordAt l 0)))))
+    (entriesOf l (recordAt l 0))))
 
 -- ---- what is shut out
 

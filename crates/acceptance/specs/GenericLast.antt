@@ -61,7 +61,7 @@ recordWith t kind label =
 abbrev pub twoRecords : List ℕ → List ℕ → List ℕ
 twoRecords r s = 0 ∷ 2 ∷ 0 ∷ 8 ∷ 0 ∷ 1 ∷ 0 ∷ 56 ∷ r ++ s ++ (2 ∷ 0 ∷ [])
 
--- Packet A against two records: "first specific exact, else first generic exact, else first fuzzy of either kind.
+-- Packet A against two records, and against none: "first specific exact, else first generic exact, else first fuzzy of either kind.
 -- [..] 10 now covers byte 21 above 1"; and how many were examined. A record of TTL 128 fits it fuzzily.
 abbrev pub searchA : List ℕ → List ℕ → SearchAnswer
 searchA r s = searchList (readPacket packetA mss.Absent .observation) (twoRecords r s)

@@ -37,8 +37,8 @@ pub data Printed : Type 0 where
   nothing : Printed
   refused : ℕ → Printed
 
--- Exact, fuzzy or none, with the record's label; its number in the list, the reason of a fuzzy answer and the
--- count are not printed.
+-- Exact, fuzzy or none, with the record's label; its number in the list, the reason of a fuzzy answer and how many records were examined
+-- are not printed.
 abbrev pub printedFound : Found → PrintedFound
 printedFound (found.Exact hit) = PrintedFound.exact (hit .label)
 printedFound (found.Fuzzy hit reason) = PrintedFound.fuzzy (hit .label)

@@ -23,6 +23,7 @@ use Rattle.refusals.specs.declared.ListRefusal.the-variants as why
 use Rattle.siglist.specs.declared.ListAnswer.the-variants as list
 use Rattle.siglist.specs.List.{recordCount, sizeOf, recordGood, checkList}
 use Rattle.found.specs.declared.Found.the-variants as found
+use Rattle.found.specs.declared.Searched.{Searched}
 use Rattle.found.specs.Examined.{searchedIn}
 use Rattle.search.specs.declared.SearchAnswer.the-variants as answer
 use Rattle.found.specs.Least.{numbersFrom}
@@ -44,6 +45,10 @@ goodOnes l (i ∷ is) = cond (recordGood l i) (i ∷ goodOnes l is) (goodOnes l 
 abbrev pub goodRecords : List ℕ → List ℕ
 goodRecords l = goodOnes l (numbersFrom 0 (recordCount l))
 
+-- No record fits, since there are none.
+abbrev pub nothingThere : Searched
+nothingThere = record { found = found.None; examined = 0 }
+
 -- `search_checked`, against `search` (refusals 11, 9 and 10).
 pub record SearchUnchecked : Type 0 where
   -- What `search` does not refuse, both answer alike.
@@ -55,7 +60,7 @@ pub record SearchUnchecked : Type 0 where
   -- 10: what is found is what the list without its bad records has, each by its number in the whole list, of which the count is, too.
   pub bad-record : (o : TcpObservation) (l : List ℕ) → searched o l ≡ searchedIn (sizeOf l) (searchOver (goodRecords l) o l)
   -- 9 and 11: none; what does not fit has no records to examine.
-  pub does-not-fit : (o : TcpObservation) (l : List ℕ) → checkList l ≡ list.Refused why.DoesNotFit → searched o l ≡ searchedIn 0 found.None
+  pub does-not-fit : (o : TcpObservation) (l : List ℕ) → checkList l ≡ list.Refused why.DoesNotFit → searched o l ≡ nothingThere
   pub layout-too-long : (o : TcpObservation) (l : List ℕ) → 40 < o .olayout .count → searched o l ≡ searchedIn (sizeOf l) found.None
 
 -- `answer_packet` and `termread_answer_checked`, against `termread_answer` (refusals 9 and 10 before a packet's own), in every mode.
@@ -85,12 +90,12 @@ pub record PacketUnchecked : Type 0 where
       : (mode : Mode) (p : List ℕ) (peer : Mss) (l : List ℕ)
       → readIn mode p peer .answer ≡ reading.Syn
       → checkList l ≡ list.Refused why.DoesNotFit
-      → answerIn mode p peer l ≡ packet.Syn (searchedIn 0 found.None)
+      → answerIn mode p peer l ≡ packet.Syn nothingThere
   pub syn-ack-unfit
       : (mode : Mode) (p : List ℕ) (peer : Mss) (l : List ℕ)
       → readIn mode p peer .answer ≡ reading.SynAck
       → checkList l ≡ list.Refused why.DoesNotFit
-      → answerIn mode p peer l ≡ packet.SynAck (searchedIn 0 found.None)
+      → answerIn mode p peer l ≡ packet.SynAck nothingThere
 
 -- `packet_at`, against `check_bundle` (refusals 12, 9 and 10), in every mode.
 pub record BundleUnchecked : Type 0 where

@@ -8,7 +8,6 @@ use Rattle.matching.specs.declared.SignatureFit.the-variants as fit
 use Rattle.found.specs.declared.Hit.{Hit}
 use Rattle.found.specs.declared.Found.{Found}
 use Rattle.found.specs.declared.Found.the-variants as found
-use Rattle.found.specs.declared.Searched.{Searched}
 use Rattle.found.specs.Least.{unranked}
 use Rattle.found.specs.Rank.{foundOf, exactRank, rankOf}
 use Rattle.found.specs.Examined.{examinedOf, searchedIn}

@@ -13,7 +13,7 @@ use Rattle.found.specs.declared.Found.{Found}
 use Rattle.found.specs.declared.Found.the-variants as found
 use Rattle.found.specs.declared.Searched.{Searched}
 use Rattle.packet_answer.specs.declared.PacketAnswer.the-variants as packet
-use Rattle.gateway.specs.Parts.{GatewayAnswer, plain, genericMark, fuzzy, threeParts, foundParts}
+use Rattle.gateway.specs.Parts.{GatewayAnswer, plain, genericMark, fuzzy, foundParts, searchedParts}
 use Rattle.gateway.specs.Parts.{packetParts, refusedList, partsOf}
 use Rattle.gateway.specs.Decode.{reasonFrom, hitFrom, refusedAs, answerFrom}
 use Rattle.gateway.proofs.Marks.{hops-back, generic-back}
@@ -43,7 +43,7 @@ ofKind kind s = GatewayAnswer.answered (cond (eqb kind 1) (packet.Syn s) (packet
 searched-back
     : (kind examined : ℕ) (x : Found)
     → FoundFits x
-    → answerFrom (threeParts kind x examined) ≡ ofKind kind (record { found = x; examined = examined })
+    → answerFrom (foundParts kind x examined) ≡ ofKind kind (record { found = x; examined = examined })
 searched-back kind examined found.None h = refl
 searched-back kind examined (found.Exact hit) h =
     ap (λ (x : Hit). ofKind kind (record { found = found.Exact x; examined = examined })) (exact-back kind examined hit)
@@ -51,7 +51,7 @@ searched-back kind examined (found.Fuzzy hit reason) h =
     ap (λ (x : Found). ofKind kind (record { found = x; examined = examined })) (fuzzy-back kind examined hit reason (h .1))
 
 pub read-back : (a : GatewayAnswer) → AnswerFits a → answerFrom (partsOf a) ≡ a
-unfolding packetParts foundParts refusedList
+unfolding packetParts searchedParts refusedList
 read-back (GatewayAnswer.answered (packet.Syn s)) h = searched-back 1 (s .examined) (s .found) (h .0)
 read-back (GatewayAnswer.answered (packet.SynAck s)) h = searched-back 2 (s .examined) (s .found) (h .0)
 read-back (GatewayAnswer.answered packet.Nothing) h = refl

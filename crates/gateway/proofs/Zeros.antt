@@ -17,7 +17,7 @@ use Rattle.found.specs.declared.Found.{Found}
 use Rattle.found.specs.declared.Found.the-variants as found
 use Rattle.packet_answer.specs.declared.PacketAnswer.the-variants as packet
 use Rattle.gateway.specs.Parts.{GatewayAnswer, plain, refused, genericMark, fuzzy}
-use Rattle.gateway.specs.Parts.{threeParts, foundParts, packetParts, refusedList, partsOf, listParts}
+use Rattle.gateway.specs.Parts.{foundParts, searchedParts, packetParts, refusedList, partsOf, listParts}
 use Rattle.gateway.specs.Zeros.{Zeros}
 use Rattle.gateway.proofs.Marks.{bits-0-and-2, no-distance, not-far}
 
@@ -65,7 +65,7 @@ fuzzy-zeros kind hit r examined =
       value = λ h i. refl;
     }
 
-found-zeros : (kind : ℕ) (f : Found) (examined : ℕ) → Zeros (threeParts kind f examined)
+found-zeros : (kind : ℕ) (f : Found) (examined : ℕ) → Zeros (foundParts kind f examined)
 found-zeros kind found.None examined =
     plain-zeros 3 kind 0 0 examined false (λ h i j. absurd (j refl)) (λ h i. (refl, refl, refl))
 found-zeros kind (found.Exact hit) examined =
@@ -90,7 +90,7 @@ list-alone (bad.BadRecord i) h = absurd (h refl)
 
 -- Of every answer.
 pub zeros : (a : GatewayAnswer) → Zeros (partsOf a)
-unfolding packetParts foundParts refusedList
+unfolding packetParts searchedParts refusedList
 zeros (GatewayAnswer.answered (packet.Syn s)) = found-zeros 1 (s .found) (s .examined)
 zeros (GatewayAnswer.answered (packet.SynAck s)) = found-zeros 2 (s .found) (s .examined)
 zeros (GatewayAnswer.answered packet.Nothing) = plain-zeros 4 0 0 0 0 false (λ h i j. (refl, refl)) (λ h i. (refl, refl, refl))

@@ -97,17 +97,17 @@ fuzzy kind hit reason examined =
 -- ---- the struct of an answer
 
 -- What a search found, and how many records it examined.
-abbrev pub threeParts : ℕ → Found → ℕ → TermreadResult
-threeParts kind found.None examined = plain 3 kind 0 0 examined 0
-threeParts kind (found.Exact hit) examined = plain 1 kind (hit .label) (hit .number) examined (genericMark (hit .generic))
-threeParts kind (found.Fuzzy hit reason) examined = fuzzy kind hit reason examined
+abbrev pub foundParts : ℕ → Found → ℕ → TermreadResult
+foundParts kind found.None examined = plain 3 kind 0 0 examined 0
+foundParts kind (found.Exact hit) examined = plain 1 kind (hit .label) (hit .number) examined (genericMark (hit .generic))
+foundParts kind (found.Fuzzy hit reason) examined = fuzzy kind hit reason examined
 
-unfoldable pub foundParts : ℕ → Searched → TermreadResult
-foundParts kind s = threeParts kind (s .found) (s .examined)
+unfoldable pub searchedParts : ℕ → Searched → TermreadResult
+searchedParts kind s = foundParts kind (s .found) (s .examined)
 
 unfoldable pub packetParts : PacketAnswer → TermreadResult
-packetParts (packet.Syn s) = foundParts 1 s
-packetParts (packet.SynAck s) = foundParts 2 s
+packetParts (packet.Syn s) = searchedParts 1 s
+packetParts (packet.SynAck s) = searchedParts 2 s
 packetParts packet.Nothing = plain 4 0 0 0 0 0
 packetParts (packet.Refused r) = refused (packetNumber r) (packetValue r)
 

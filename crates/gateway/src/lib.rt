@@ -4,7 +4,7 @@ ghost use Rattle.refusals.specs.Refusals.{packetNumber, packetValue};
 ghost use Rattle.siglist.specs.List.{checkList};
 ghost use Rattle.flow.specs.Modes.{modeOf};
 ghost use Rattle.packet_answer.specs.Packet.{peerOf, answerOf, answerIn};
-ghost use Rattle.gateway.specs.Parts.{plain, refused, hopsOf, genericMark, marksOf, fuzzy, foundParts, packetParts};
+ghost use Rattle.gateway.specs.Parts.{plain, refused, hopsOf, genericMark, marksOf, fuzzy, searchedParts, packetParts};
 ghost use Rattle.gateway.specs.Parts.{refusedList, partsOf, gatewayAnswer, gatewayIn, listParts};
 use flow::Mode;
 use flow::mode_of;
@@ -136,8 +136,8 @@ fn fuzzy(kind: u8, hit: Hit, reason: FuzzyReason, examined: u16) -> TermreadResu
 }
 
 // A generic exact record leaves by a way of its own, so that on both ways the mark is a constant.
-fn found_parts(kind: u8, searched: Searched) -> TermreadResult
-    ensures { λ r. ⌜ r ≡ foundParts kind searched ⌝ }
+fn searched_parts(kind: u8, searched: Searched) -> TermreadResult
+    ensures { λ r. ⌜ r ≡ searchedParts kind searched ⌝ }
 {
     let examined = searched.examined;
     let found = searched.found;
@@ -166,8 +166,8 @@ fn packet_parts(answer: PacketAnswer) -> TermreadResult
     ensures { λ r. ⌜ r ≡ packetParts answer ⌝ }
 {
     match answer {
-        PacketAnswer::Syn(searched) => found_parts(1, searched),
-        PacketAnswer::SynAck(searched) => found_parts(2, searched),
+        PacketAnswer::Syn(searched) => searched_parts(1, searched),
+        PacketAnswer::SynAck(searched) => searched_parts(2, searched),
         PacketAnswer::Nothing => plain(4, 0, 0, 0, 0, 0),
         PacketAnswer::Refused(refusal) => refused_packet(refusal),
     }

@@ -64,7 +64,8 @@ searchOver is o l = searchRow (featuresOf o) (o .olayout .kinds) (o .olayout .by
 unfoldable pub searchAll : TcpObservation → List ℕ → Found
 searchAll o l = searchOver (numbersFrom 0 (recordCount l)) o l
 
--- What the plain search answers: what it finds, and how many records it examined.
+-- What the plain search answers: what it finds, and how many records it examined. By features, of a list that fits: its size is then what
+-- the header counts.
 abbrev pub searchedRecords : Features → List ℕ → List ℕ → List ℕ → Searched
 searchedRecords f kinds bytes l = searchedIn (recordCount l) (searchRecords f kinds bytes l)
 

@@ -3,7 +3,7 @@ ghost use mathlib.Core.Path.{_≡_};
 ghost use Rattle.search.specs.Search.{searched, searchList};
 use finding::search_records;
 use found::Found;
-pub use found::Searched;
+use found::Searched;
 use matching::features_of;
 use observable::TcpObservation;
 use refusals::ListRefusal;
@@ -21,8 +21,8 @@ pub enum SearchAnswer {
     List(ListRefusal),
 }
 
-// The search of a list that was checked before. It is total: what is not a well-formed record of the list does not fit, and what does
-// not fit its bytes has no records. The observation's features come first: the list's areas are then not carried past them
+// The search of a list that was checked before. It is total: what is not a well-formed record of the list does not fit, and a list
+// that does not fit has no records. The observation's features come first: the list's areas are then not carried past them
 // (docs/DECISIONS.md, 96).
 pub fn search_checked(observed: TcpObservation, list: &[u8]) -> Searched
     ensures { λ r. ⌜ r ≡ searched observed (now (list .entry)) ⌝ }

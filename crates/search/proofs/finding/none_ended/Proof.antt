@@ -2,7 +2,6 @@
 use Rattle.found.proofs.Examined.{all-examined, unranked-none, answers}
 use native.Mathlib.Omega.{arith}
 use mathlib.Core.Path.{refl, sym, _∙_}
-use borrow.Author.Needs.{needs}
 use Rattle.search.proofs.finding.none_ended.Statement.{statement}
 use Rattle.search.proofs.finding.none_ended.Tie as tie
 
