@@ -2,7 +2,8 @@
    reaches standard output is always a prefix of that; if it is cut, standard error says so and the status is 1.
 
    usage: gateway [-r] [-s] [-u] <BUNDLE
-     -r   print behind each line the number of the record, whether it is generic, the reason of a fuzzy answer, and what a refusal gives
+     -r   print behind each line the number of the record, whether it is generic, how many records were examined, the reason of a fuzzy
+          answer, and what a refusal gives
      -s   ask in strict mode: TCP headers whose data offset contradicts them are refused (14), options are read up to a damaged one
      -u   have the list checked with each packet, instead of once
 
@@ -107,6 +108,10 @@ static void print_record(termread_result answer) {
     print(" record %u%s", answer.number, answer.marks & TERMREAD_GENERIC ? " generic" : "");
 }
 
+static void print_examined(termread_result answer) {
+    print(" examined %u", answer.examined);
+}
+
 static void print_reason(termread_result answer) {
     if (answer.marks & TERMREAD_OUT_OF_RANGE) print(" hops %u", answer.hops);
     print_quirks("added", answer.added);
@@ -119,13 +124,16 @@ static void print_answer(termread_result answer, int reasons) {
     switch (answer.outcome) {
     case TERMREAD_EXACT:
         print("%s exact %u", kind, answer.label);
-        if (reasons) print_record(answer);
+        if (reasons) print_record(answer), print_examined(answer);
         break;
     case TERMREAD_FUZZY:
         print("%s fuzzy %u", kind, answer.label);
-        if (reasons) print_record(answer), print_reason(answer);
+        if (reasons) print_record(answer), print_examined(answer), print_reason(answer);
         break;
-    case TERMREAD_NONE: print("%s none", kind); break;
+    case TERMREAD_NONE:
+        print("%s none", kind);
+        if (reasons) print_examined(answer);
+        break;
     case TERMREAD_NOTHING: print("nothing"); break;
     case TERMREAD_REFUSED: print_refused(answer, reasons); break;
     default: fprintf(stderr, "gateway: unknown outcome %u\n", answer.outcome), exit(1);

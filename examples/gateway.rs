@@ -104,15 +104,23 @@ fn record_text(hit: Hit) -> String {
     format!(" record {}{}", hit.number, if hit.generic { " generic" } else { "" })
 }
 
+fn examined_text(examined: u16) -> String {
+    format!(" examined {examined}")
+}
+
 fn answer_text(answer: Answer, reasons: bool) -> String {
     match answer {
-        Answer::Exact { kind, hit } if reasons => format!("{} exact {}{}", kind_text(kind), hit.label, record_text(hit)),
-        Answer::Exact { kind, hit } => format!("{} exact {}", kind_text(kind), hit.label),
-        Answer::Fuzzy { kind, hit, reason } if reasons => {
-            format!("{} fuzzy {}{}{}", kind_text(kind), hit.label, record_text(hit), reason_text(reason))
+        Answer::Exact { kind, hit, examined } if reasons => {
+            format!("{} exact {}{}{}", kind_text(kind), hit.label, record_text(hit), examined_text(examined))
+        }
+        Answer::Exact { kind, hit, .. } => format!("{} exact {}", kind_text(kind), hit.label),
+        Answer::Fuzzy { kind, hit, reason, examined } if reasons => {
+            let found = format!("{} fuzzy {}{}", kind_text(kind), hit.label, record_text(hit));
+            found + &examined_text(examined) + &reason_text(reason)
         }
         Answer::Fuzzy { kind, hit, .. } => format!("{} fuzzy {}", kind_text(kind), hit.label),
-        Answer::None { kind } => format!("{} none", kind_text(kind)),
+        Answer::None { kind, examined } if reasons => format!("{} none{}", kind_text(kind), examined_text(examined)),
+        Answer::None { kind, .. } => format!("{} none", kind_text(kind)),
         Answer::Nothing => "nothing".into(),
         Answer::Refused(refusal) => refusal_text(refusal, reasons),
     }

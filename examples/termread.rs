@@ -101,15 +101,16 @@ pub struct Hit {
     pub generic: bool,
 }
 
-/// The answer of a packet. Exact, fuzzy and none are three cases, and a `match` has to name each.
+/// The answer of a packet. Exact, fuzzy and none are three cases, and a `match` has to name each. `examined` is how many records the search
+/// examined: the position, from 1, of the specific exact record that ended it, or the size of the list if none did.
 #[derive(Clone, Copy, Debug, PartialEq, Eq)]
 pub enum Answer {
     /// A record fits, and nothing was tolerated. A specific one if the list has such, else the first generic one.
-    Exact { kind: Kind, hit: Hit },
+    Exact { kind: Kind, hit: Hit, examined: u16 },
     /// A record fits, but for what the reason names.
-    Fuzzy { kind: Kind, hit: Hit, reason: Reason },
+    Fuzzy { kind: Kind, hit: Hit, reason: Reason, examined: u16 },
     /// No record of the list fits.
-    None { kind: Kind },
+    None { kind: Kind, examined: u16 },
     /// A good packet that is neither SYN nor SYN+ACK.
     Nothing,
     Refused(PacketRefusal),
@@ -166,8 +167,8 @@ pub fn answer_in(packet: &[u8], peer_mss: Option<u16>, list: &[u8], mode: Mode) 
     given.answer_or_list_refusal()
 }
 
-/// The answer as the library gives it: crates/gateway/specs/Parts.antt, and in C `termread_result`. Nothing reads `tolerated` and
-/// `examined`, which are 0 and kept for what is to come.
+/// The answer as the library gives it: crates/gateway/specs/Parts.antt, and in C `termread_result`. Nothing reads `tolerated`, which is 0
+/// and kept for what is to come.
 #[repr(C)]
 #[derive(Clone, Copy, Debug)]
 #[allow(dead_code)]
@@ -242,9 +243,9 @@ impl Given {
 
     fn answer(self) -> Option<Answer> {
         Some(match self.outcome {
-            EXACT => Answer::Exact { kind: self.kind()?, hit: self.hit() },
-            FUZZY => Answer::Fuzzy { kind: self.kind()?, hit: self.hit(), reason: self.reason() },
-            NONE => Answer::None { kind: self.kind()? },
+            EXACT => Answer::Exact { kind: self.kind()?, hit: self.hit(), examined: self.examined },
+            FUZZY => Answer::Fuzzy { kind: self.kind()?, hit: self.hit(), reason: self.reason(), examined: self.examined },
+            NONE => Answer::None { kind: self.kind()?, examined: self.examined },
             NOTHING => Answer::Nothing,
             REFUSED => Answer::Refused(self.packet_refusal()?),
             _ => return None,

@@ -19,8 +19,8 @@ extern "C" {
 /* ---- an answer
 
    Sixteen bytes, which come back in two registers. The outcome alone tells exact, fuzzy and none apart. No two different answers are
-   alike in all fields. A field that an answer does not have is 0; `tolerated`, `examined` and the bits of `marks` that are not named, or
-   named as kept, are 0 in every answer, and kept for what is to come. */
+   alike in all fields. A field that an answer does not have is 0; `tolerated` and the bits of `marks` that are not named, or named as
+   kept, are 0 in every answer, and kept for what is to come. */
 typedef struct termread_result {
     uint8_t outcome;   /* one of the outcomes */
     uint8_t kind;      /* of exact, fuzzy and none: TERMREAD_SYN or TERMREAD_SYNACK */
@@ -28,7 +28,8 @@ typedef struct termread_result {
     uint8_t tolerated; /* kept for what was tolerated of a fit: 0 */
     uint16_t label;    /* of exact and fuzzy: the label of the record */
     uint16_t number;   /* of exact and fuzzy: which record of the list it is, from 0 */
-    uint16_t examined; /* kept for how many records were examined: 0 */
+    uint16_t examined; /* of exact, fuzzy and none: how many records the search examined. Of exact by a specific record, which ends the
+                          search: its position, from 1; else the size of the list */
     uint16_t value;    /* of refusal 7: the flags byte; of refusal 10: the index of the first bad record, from 0 */
     uint8_t added;     /* of fuzzy: quirks that the packet shows and the record does not */
     uint8_t missing;   /* of fuzzy: quirks of the record that the packet does not show */
@@ -110,7 +111,8 @@ enum {
 termread_result termread_check_list(const uint8_t *list, size_t list_length);
 
 /* The answer of a packet (from its IP header on) against a list that termread_check_list found good: the same as termread_answer's.
-   It does not refuse a list: on one with bad records it answers as if those were not there, on one that does not fit it finds none. */
+   It does not refuse a list: on one with bad records it finds what it would find without them, and counts them as examined; on one that
+   does not fit it finds none, and has examined none. */
 termread_result termread_answer_checked(const uint8_t *packet, size_t packet_length, uint16_t peer_mss, const uint8_t *list,
                                         size_t list_length);
 

@@ -5,6 +5,7 @@ has. So its answer is the plain one to the same packet with no-ops from that opt
 payload and `tot_hdr` are those of the packet, and what stands before the damage is the same.
 """
 from contradictions import area, contradicts, parts, strictly
+from counts import printed
 
 OPT_BAD = 0x10000000
 
@@ -61,7 +62,7 @@ def strict_lines(ask, bundles):
     answers = strict_answers(ask, packets, ask(["observe", "plain"], [f"{peer} {packet.hex()}" for peer, packet in packets]))
     seen = [(key, *answer.split(" ", 1)) for key, answer in zip(asked, answers) if answer.startswith("syn")]
     found = ask(["search"], [f"{observation} | {key[2].hex()}" for key, _, observation in seen])
-    return {key: f"{kind} {' '.join(answer.split(' ')[:2])}" for (key, kind, _), answer in zip(seen, found, strict=True)}
+    return {key: f"{kind} {printed(answer)}" for (key, kind, _), answer in zip(seen, found, strict=True)}
 
 
 def strict_output(bundle, plain, damaged):

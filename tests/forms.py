@@ -7,6 +7,7 @@ SEEN = ("v=4 ttl=distance:64:0 olen=0 mss=1460 wsize=5840 wscale=- layout=2/0 qu
         " win=mss:4")
 FAR = SEEN.replace("64:0", "28:4")
 FIELDS = SEEN.split(" ")
+FOUND = "exact 7 at=0 count=1"
 
 
 def seen(**fields):
@@ -73,30 +74,51 @@ def ttl_forms():
     for ttl, answer in (("value:64", "exact 7 at=0"), ("value:29", "exact 7 at=0"), ("distance:29:35", "exact 7 at=0"),
                         ("guess:64", "exact 7 at=0"), ("bad:64", "exact 7 at=0"), ("value:28", f"fuzzy 7 at=0 hop=36 {reason}"),
                         ("value:65", f"fuzzy 7 at=0 hop=0 {reason}")):
-        yield f"{seen(ttl=ttl)} | {LIST.hex()}", answer
+        yield f"{seen(ttl=ttl)} | {LIST.hex()}", f"{answer} count=1"
 
 
 def found():
-    yield f"{SEEN} | {LIST.hex()}", "exact 7 at=0"
-    yield f"{FAR} | {LIST.hex()}", "fuzzy 7 at=0 hop=36 added=0x00000000 missing=0x00000000"
-    yield f"{seen(quirks='0x00000009')} | {LIST.hex()}", "fuzzy 7 at=0 hop=- added=0x00000009 missing=0x00000002"
+    yield f"{SEEN} | {LIST.hex()}", FOUND
+    yield f"{FAR} | {LIST.hex()}", "fuzzy 7 at=0 hop=36 added=0x00000000 missing=0x00000000 count=1"
+    yield f"{seen(quirks='0x00000009')} | {LIST.hex()}", "fuzzy 7 at=0 hop=- added=0x00000009 missing=0x00000002 count=1"
     other, far = record(window=(1, 9), label=9), record(ttl=(0, 128, 0), label=65535)
-    for records, answer in (([], "none"), ([other] * 3, "none"), ([other, far, record(), record()], "exact 7 at=2"),
-                            ([other, far, far], "fuzzy 65535 at=1 hop=64 added=0x00000000 missing=0x00000000"),
-                            ([other] * 2599 + [record()], "exact 7 at=2599")):
+    for records, answer in (([], "none count=0"), ([other] * 3, "none count=3"),
+                            ([other, far, record(), record()], "exact 7 at=2 count=3"),
+                            ([other, far, far], "fuzzy 65535 at=1 hop=64 added=0x00000000 missing=0x00000000 count=3"),
+                            ([other] * 2599 + [record()], "exact 7 at=2599 count=2600")):
         yield f"{SEEN} | {siglist(records).hex()}", answer
     # A record of any version has its df dropped for a packet of version 6, a record of version 6 has not.
-    yield f"{seen(v=6, quirks='0x00000000')} | {LIST.hex()}", "exact 7 at=0"
+    yield f"{seen(v=6, quirks='0x00000000')} | {LIST.hex()}", FOUND
     yield (f"{seen(v=6, quirks='0x00000000')} | {siglist([record(version=6)]).hex()}",
-           "fuzzy 7 at=0 hop=- added=0x00000000 missing=0x00000002")
-    yield f"{seen(pclass='+')} | {LIST.hex()}", "none"
-    yield f"{seen(peer=0)} | {LIST.hex()}", "exact 7 at=0"
+           "fuzzy 7 at=0 hop=- added=0x00000000 missing=0x00000002 count=1")
+    yield f"{seen(pclass='+')} | {LIST.hex()}", "none count=1"
+    yield f"{seen(peer=0)} | {LIST.hex()}", FOUND
     forty = siglist([record(window=(0, 0), count=40)], [(1, 0)] * 40)
-    yield f"{seen(layout=','.join(['1/0'] * 40))} | {forty.hex()}", "exact 7 at=0"
+    yield f"{seen(layout=','.join(['1/0'] * 40))} | {forty.hex()}", FOUND
     # The multiplier on input is not looked at.
     for window in ("win=-", "win=mss:5", "win=mtu:1", "win=", "win=any"):
-        yield f"{' '.join(FIELDS[:-1])} {window} | {LIST.hex()}", "exact 7 at=0"
-    yield f"{' '.join(FIELDS[:-1])} | {LIST.hex()}", "exact 7 at=0"
+        yield f"{' '.join(FIELDS[:-1])} {window} | {LIST.hex()}", FOUND
+    yield f"{' '.join(FIELDS[:-1])} | {LIST.hex()}", FOUND
+
+
+def counts():
+    """How many records are examined: a specific exact one ends the search, a generic exact, a fuzzy or another one does not."""
+    exact, generic, far, other = record(), record(generic=1, label=2), record(ttl=(0, 128, 0), label=3), record(window=(1, 9))
+    rejected = record(quirks=0x2002)  # the gates hold, ack+ is missing
+    reason = "hop=64 added=0x00000000 missing=0x00000000"
+    for records, answer in (([exact] * 2, "exact 7 at=0 count=1"), ([exact] + [other] * 299, "exact 7 at=0 count=1"),
+                            ([other] * 299 + [exact, other], "exact 7 at=299 count=300"),
+                            ([far, generic, exact, generic, far], "exact 7 at=2 count=3"),
+                            ([generic] * 4 + [exact] * 2, "exact 7 at=4 count=5"),
+                            ([generic, rejected], "exact 2 at=0 count=2"), ([other, generic, other], "exact 2 at=1 count=3"),
+                            ([far, other], f"fuzzy 3 at=0 {reason} count=2"), ([other, far], f"fuzzy 3 at=1 {reason} count=2"),
+                            ([far] + [rejected] * 299, f"fuzzy 3 at=0 {reason} count=300"), ([rejected], "none count=1"),
+                            ([other, rejected], "none count=2"), ([rejected, other], "none count=2")):
+        yield f"{SEEN} | {siglist(records).hex()}", answer
+    # The most records that a list can have. Their one entry lies over the first: the last byte of its quirks and the next.
+    for records, answer in (([other] * 65534 + [exact], "exact 7 at=65534 count=65535"), ([other] * 65535, "none count=65535"),
+                            ([generic] + [other] * 65534, "exact 2 at=0 count=65535")):
+        yield f"{SEEN} | {(be16(65535, 8, 1, 25) + b''.join(records)).hex()}", answer
 
 
 def kinds():
@@ -104,13 +126,17 @@ def kinds():
     specific, generic = record(label=1), record(label=2, generic=1)
     far, generic_far = (record(ttl=(0, 128, 0), label=n, generic=n > 3) for n in (3, 4))
     reason = "hop=64 added=0x00000000 missing=0x00000000"
-    for records, answer in (([generic], "exact 2 at=0"), ([generic] * 3, "exact 2 at=0"), ([generic, specific], "exact 1 at=1"),
-                            ([generic, generic, specific, specific], "exact 1 at=2"), ([specific, generic], "exact 1 at=0"),
-                            ([far, generic, generic], "exact 2 at=1"), ([generic_far, far, generic, far], "exact 2 at=2"),
-                            ([generic_far, generic, far, specific], "exact 1 at=3"), ([generic, far], "exact 2 at=0"),
-                            ([generic_far], f"fuzzy 4 at=0 {reason}"), ([generic_far, far], f"fuzzy 4 at=0 {reason}"),
-                            ([far, generic_far], f"fuzzy 3 at=0 {reason}"), ([record(olen=1), generic_far], f"fuzzy 4 at=1 {reason}"),
-                            ([record(olen=1, generic=1)], "none"), ([generic] * 2599 + [specific], "exact 1 at=2599")):
+    for records, answer in (([generic], "exact 2 at=0 count=1"), ([generic] * 3, "exact 2 at=0 count=3"),
+                            ([generic, specific], "exact 1 at=1 count=2"), ([specific, generic], "exact 1 at=0 count=1"),
+                            ([generic, generic, specific, specific], "exact 1 at=2 count=3"),
+                            ([far, generic, generic], "exact 2 at=1 count=3"), ([generic, far], "exact 2 at=0 count=2"),
+                            ([generic_far, far, generic, far], "exact 2 at=2 count=4"),
+                            ([generic_far, generic, far, specific], "exact 1 at=3 count=4"),
+                            ([generic_far], f"fuzzy 4 at=0 {reason} count=1"), ([generic_far, far], f"fuzzy 4 at=0 {reason} count=2"),
+                            ([far, generic_far], f"fuzzy 3 at=0 {reason} count=2"),
+                            ([record(olen=1), generic_far], f"fuzzy 4 at=1 {reason} count=2"),
+                            ([record(olen=1, generic=1)], "none count=1"),
+                            ([generic] * 2599 + [specific], "exact 1 at=2599 count=2600")):
         yield f"{SEEN} | {siglist(records).hex()}", answer
     for kind in (2, 3, 128, 255):
         for at in (0, 1, 299):
@@ -124,8 +150,8 @@ def refused_searches():
     yield f"{seen(layout=','.join(['255/255'] * 1000))} | {LIST.hex()}", "refused 11"
     for lists in ("| -", "|", "| ", "| ~00*7", f"| {LIST[:-1].hex()}"):
         yield f"{SEEN} {lists}", "refused 9"
-    yield f"{SEEN} | ~00*8", "none"
-    yield f"{SEEN} | {EMPTY_LIST.hex()}", "none"
+    yield f"{SEEN} | ~00*8", "none count=0"
+    yield f"{SEEN} | {EMPTY_LIST.hex()}", "none count=0"
     for at in (0, 1, 299):
         records = [record()] * at + [record(version=5)]
         yield f"{SEEN} | {siglist(records).hex()}", f"refused 10 {at}"
@@ -136,6 +162,7 @@ def refused_searches():
 def search_lines():
     yield from found()
     yield from ttl_forms()
+    yield from counts()
     yield from kinds()
     yield from refused_searches()
     text = LIST.hex()
@@ -149,7 +176,7 @@ def search_lines():
     for name in range(len(FIELDS) - 1):  # each field but the multiplier missing, or in another place
         rest = FIELDS[:name] + FIELDS[name + 1:]
         yield f"{' '.join(rest)} | {text}", BAD
-        yield f"{' '.join([*rest[:-1], FIELDS[name], rest[-1]])} | {text}", "exact 7 at=0" if name == len(FIELDS) - 2 else BAD
+        yield f"{' '.join([*rest[:-1], FIELDS[name], rest[-1]])} | {text}", FOUND if name == len(FIELDS) - 2 else BAD
     for bad in ("", "|", f"| {text}", SEEN, f"{SEEN} {text}", f"{SEEN}| {text}", f"{SEEN} |{text}", f"{SEEN}  | {text}",
                 f"{SEEN} |  {text}", f"{SEEN} | {text} ", f"{SEEN} | {text}0", f"{SEEN} | {text}\r", f" {SEEN} | {text}",
                 f"syn {SEEN} | {text}", f"{SEEN} | {text} | {text}", SEEN.replace(" ", "  ") + f" | {text}"):

@@ -28,8 +28,9 @@ int answer_search(Line *line) {
     case REFUSED:
         printf("refused %u", (unsigned)read.refusal);
         if (read.refusal == BAD_RECORD) printf(" %" PRIu32, read.bad_record);
-        break;
-    default: printf("unknown answer %u", (unsigned)read.outcome);
+        return 1;
+    default: printf("unknown answer %u", (unsigned)read.outcome); return 1;
     }
+    printf(" count=%u", (unsigned)read.examined);
     return 1;
 }

@@ -78,6 +78,7 @@ typedef struct {
     uint32_t bad_record; /* of refusal 10 */
     uint16_t label;      /* of exact and fuzzy */
     uint16_t number;     /* of the record, from 0: of exact and fuzzy */
+    uint16_t examined;   /* how many records: up to the specific exact one that ended the search, else all; 0 beside a refusal */
     uint8_t outcome;     /* 1 exact, 2 fuzzy, 3 none, 5 refused, as for C */
     uint8_t refusal;     /* 9, 10 or 11, else 0 */
     uint8_t far;         /* 1 if the TTL is out of range */

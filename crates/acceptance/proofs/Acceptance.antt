@@ -5,6 +5,7 @@ use Rattle.acceptance.proofs.Demand2.{demand2}
 use Rattle.acceptance.proofs.Demand3.{demand3}
 use Rattle.acceptance.proofs.GenericLast.{generic-last}
 use Rattle.acceptance.proofs.Honesty.{honesty}
+use Rattle.acceptance.proofs.HowLong.{how-long}
 use Rattle.acceptance.proofs.Lines.{lines}
 use Rattle.acceptance.proofs.Modes.{modes}
 use Rattle.acceptance.proofs.OnPaper.{on-paper}
@@ -32,4 +33,5 @@ acceptance =
       genericLast = generic-last;
       ttlTable = ttl-table;
       oneWalk = one-walk;
+      howLong = how-long;
     }

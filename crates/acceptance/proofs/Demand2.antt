@@ -2,7 +2,7 @@
 use mathlib.Core.Path.{_≡_, refl, sym, _∙_, ap}
 use mathlib.Core.Bool.{Bool, true, false, cond}
 use mathlib.Core.List.{List, []}
-use Prim.Native.Nat.{ℕ, _<_}
+use Prim.Native.Nat.{ℕ, _+_, _<_}
 use native.Mathlib.Omega.{arith}
 use lib.Dec.{eqb}
 use borrow.Author.Tests.{lt-ltb, le-ltb}
@@ -28,20 +28,24 @@ use Rattle.flow.specs.declared.Reading.{Reading}
 use Rattle.flow.specs.Reading.{readPacket}
 use Rattle.matching.specs.declared.SignatureFit.{SignatureFit}
 use Rattle.matching.specs.declared.SignatureFit.the-variants as fit
+use Rattle.matching.specs.Fit.{featuresOf, fitOf}
+use Rattle.sigrecord.specs.Record.{signatureOf, entryCount}
 use Rattle.siglist.specs.declared.ListAnswer.{ListAnswer}
 use Rattle.siglist.specs.declared.ListAnswer.the-variants as list
-use Rattle.siglist.specs.List.{recordCount, listFits, recordGood, checkList}
+use Rattle.siglist.specs.List.{recordCount, listFits, recordAt, entriesOf, recordGood, checkList}
 use Rattle.siglist.proofs.FirstBad.{does-not-fit, Checked, first-bad-named}
 use Rattle.found.specs.declared.Hit.{Hit}
+use Rattle.found.specs.declared.Found.{Found}
 use Rattle.found.specs.declared.Found.the-variants as found
+use Rattle.found.specs.Examined.{examinedOf, searchedIn}
 use Rattle.search.specs.declared.SearchAnswer.the-variants as answer
 use Rattle.found.specs.Rank.{foundOf}
-use Rattle.search.specs.Search.{fitAt, hitAt, candidateAt, searchList}
+use Rattle.search.specs.Search.{fitAt, hitAt, candidateAt, searched, searchList}
 use Rattle.search.proofs.Order.{single}
-use Rattle.acceptance.specs.Values.{packetA, exampleList, theRecord}
+use Rattle.acceptance.specs.Values.{packetA, exampleList, theRecord, after}
 use Rattle.acceptance.specs.Demand2.{MultiplierTheorem, ofOne, SingleFit, ShutOut, Demand2}
 use Rattle.acceptance.proofs.Observation.{the-observation}
-use Rattle.acceptance.proofs.Values.{values}
+use Rattle.acceptance.proofs.Values.{same-found, values}
 
 -- ---- the multiplier
 
@@ -69,6 +73,23 @@ of-one hit fit.None = refl
 of-one hit fit.Exact = refl
 of-one hit (fit.Fuzzy r) = refl
 
+-- Of one record one is examined.
+one-examined : (hit : Hit) (x : SignatureFit) → hit .number ≡ 0 → examinedOf 1 (ofOne hit x) ≡ 1
+one-examined hit fit.None first = refl
+one-examined hit (fit.Fuzzy r) first = refl
+one-examined hit fit.Exact first = by-kind (hit .generic)
+  where
+    by-kind : (generic : Bool) → cond generic 1 (hit .number + 1) ≡ 1
+    by-kind true = refl
+    by-kind false = omega (arith, first)
+
+one-answer
+    : (hit : Hit) (x : SignatureFit) (y : Found)
+    → hit .number ≡ 0
+    → y ≡ foundOf hit x
+    → answer.Searched (searchedIn 1 y) ≡ after 1 (ofOne hit x)
+one-answer hit x y first e = rw (e, of-one hit x, one-examined hit x first)
+
 module _ (l : List ℕ) (good : checkList l ≡ list.Good) where
   -- A good list fits, and its records are good.
   fits : listFits l ≡ true
@@ -86,12 +107,15 @@ module _ (l : List ℕ) (good : checkList l ≡ list.Good) where
       by-check (Checked.first-bad k b u bad before) e = let z : _≡_ {A = ℕ} 0 1 = cc in absurd (omega arith)
 
 single-fit : SingleFit
-unfolding searchList candidateAt fitAt
+unfolding searchList searched candidateAt fitAt
 single-fit o l few good one =
-    rw (le-ltb 40 (o .olayout .count) few, good)
-    (ap answer.Found
-    (single o l one
-    ∙ rw (fits l good, lt-ltb 0 (recordCount l) (omega arith), record-good l good 0 (omega arith)) (of-one (hitAt l 0) _)))
+    rw (le-ltb 40 (o .olayout .count) few, good, fits l good, one)
+    (one-answer (hitAt l 0)
+    (fitOf (featuresOf o) (o .olayout .kinds) (o .olayout .bytes) (signatureOf (recordAt l 0)) (entryCount (recordAt l 0))
+    (entriesOf l (recordAt l 0)))
+    _
+    refl
+    (single o l one ∙ rw (fits l good, lt-ltb 0 (recordCount l) (omega arith), record-good l good 0 (omega arith))))
 
 -- ---- what is shut out
 
@@ -121,8 +145,7 @@ shut-out =
           let z : _≡_ {A = ℕ} 0 1 = cc in
           omega arith;
       none-always = λ h.
-          let e = h packetA in
-          let a = values .search .exact in
+          let same = same-found _ _ _ _ (sym (values .search .exact) ∙ h packetA .1) in
           let z : _≡_ {A = ℕ} 0 1 = cc in
           omega arith;
       untouched = λ h.
@@ -135,7 +158,7 @@ shut-out =
           let z : _≡_ {A = ℕ} 0 1 = cc in
           omega arith;
       constant-search = λ c h.
-          let e : answer.Found (found.Exact theRecord) ≡ answer.List why.DoesNotFit =
+          let e : after 1 (found.Exact theRecord) ≡ answer.List why.DoesNotFit =
           sym (values .search .exact)
           ∙ h (readPacket packetA mss.Absent .observation) exampleList
           ∙ sym (h emptyObservation [])

@@ -12,12 +12,12 @@ use Rattle.matching.specs.Fit.{featuresOf}
 use Rattle.siglist.specs.List.{checkList}
 use Rattle.found.specs.declared.Found.{Found}
 use Rattle.found.specs.declared.Found.the-variants as found
-use Rattle.search.specs.Search.{searchOver, searchAll}
+use Rattle.search.specs.Search.{searchOver, searched}
 use Rattle.search.proofs.Rows.{longer-row}
 use Rattle.packet_answer.specs.declared.PacketAnswer.{PacketAnswer}
 use Rattle.packet_answer.specs.declared.PacketAnswer.the-variants as packet
 use Rattle.packet_answer.specs.Packet.{peerOf, answerIn}
-use Rattle.gateway.specs.Parts.{GatewayAnswer, foundParts, packetParts, refusedList, partsOf, gatewayIn}
+use Rattle.gateway.specs.Parts.{GatewayAnswer, foundParts, searchedParts, packetParts, refusedList, partsOf, gatewayIn}
 use Rattle.gateway.specs.Decode.{AllBytes, answerFrom}
 use Rattle.gateway.specs.Zeros.{Zeros}
 use Rattle.gateway.proofs.Room.{PacketFits}
@@ -32,13 +32,13 @@ use Rattle.acceptance.proofs.Fit.{exact-to, exact-from, fuzzy-to, fuzzy
 
 module _ (mode : Mode) (p : List ℕ) (peer : Mss) (l : List ℕ) where
   syn-answer
-      : readIn mode p peer .answer ≡ reading.Syn → answerIn mode p peer l ≡ packet.Syn (searchAll (readIn mode p peer .observation) l)
+      : readIn mode p peer .answer ≡ reading.Syn → answerIn mode p peer l ≡ packet.Syn (searched (readIn mode p peer .observation) l)
   unfolding answerIn
   syn-answer e = rw e
 
   syn-ack-answer
       : readIn mode p peer .answer ≡ reading.SynAck
-      → answerIn mode p peer l ≡ packet.SynAck (searchAll (readIn mode p peer .observation) l)
+      → answerIn mode p peer l ≡ packet.SynAck (searched (readIn mode p peer .observation) l)
   unfolding answerIn
   syn-ack-answer e = rw e
 
@@ -53,17 +53,16 @@ module _ (mode : Mode) (p : List ℕ) (peer : Mss) (l : List ℕ) where
 -- ---- the struct that a gateway gets
 
 -- The outcome in a search's struct is which of the three it is.
-found-outcome-of : (kind : ℕ) (f : Found) → foundParts kind f .outcome ≡ whichOf f
-unfolding foundParts
-found-outcome-of kind found.None = refl
-found-outcome-of kind (found.Exact hit) = refl
-found-outcome-of kind (found.Fuzzy hit reason) = refl
+found-outcome-of : (kind n : ℕ) (f : Found) → foundParts kind f n .outcome ≡ whichOf f
+found-outcome-of kind n found.None = refl
+found-outcome-of kind n (found.Exact hit) = refl
+found-outcome-of kind n (found.Fuzzy hit reason) = refl
 
 -- The outcome in an answer's struct is what the answer is.
 outcome-of : (a : GatewayAnswer) → partsOf a .outcome ≡ outcomeOf a
-unfolding packetParts refusedList
-outcome-of (GatewayAnswer.answered (packet.Syn f)) = found-outcome-of 1 f
-outcome-of (GatewayAnswer.answered (packet.SynAck f)) = found-outcome-of 2 f
+unfolding packetParts searchedParts refusedList
+outcome-of (GatewayAnswer.answered (packet.Syn s)) = found-outcome-of 1 (s .examined) (s .found)
+outcome-of (GatewayAnswer.answered (packet.SynAck s)) = found-outcome-of 2 (s .examined) (s .found)
 outcome-of (GatewayAnswer.answered packet.Nothing) = refl
 outcome-of (GatewayAnswer.answered (packet.Refused r)) = refl
 outcome-of (GatewayAnswer.list-refused r) = refl

@@ -11,6 +11,7 @@ pub mod First
 pub mod Fit
 pub mod GenericLast
 pub mod Honesty
+pub mod HowLong
 pub mod Lines
 pub mod Modes
 pub mod NotFree

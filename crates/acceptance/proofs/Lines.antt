@@ -31,7 +31,7 @@ use Rattle.text.specs.Decimal.{width, decimal, newline}
 use Rattle.text.proofs.Decimal.{digitsRead, read-back}
 use Rattle.report.specs.Text.{refusedWord, nothingWord, synWord, synackWord, noneWord, exactWord, fuzzyWord, foundText, answerText, lineOf}
 use Rattle.report.specs.Text.{headLine, refusedLine}
-use Rattle.acceptance.specs.Lines.{PrintedFound, Printed, printed, TwoBytes, LabelFits, Words, Lines}
+use Rattle.acceptance.specs.Lines.{PrintedFound, Printed, printedFound, printed, TwoBytes, LabelFits, Words, Lines}
 
 -- ---- a line, read back
 
@@ -49,14 +49,16 @@ readLine s =
     (cond (eqb (byteAt s 3) 97) (Printed.synack (readFound (drop 7 s)))
     (cond (eqb (byteAt s 3) 104) Printed.nothing (Printed.refused (digitsRead 0 (drop 8 s)))))
 
+read-found : (f : Found) → TwoBytes f → readFound (foundText f ++ newline) ≡ printedFound f
+unfolding foundText readFound
+read-found (found.Exact hit) h = ap PrintedFound.exact (read-decimal (hit .label) h)
+read-found (found.Fuzzy hit reason) h = ap PrintedFound.fuzzy (read-decimal (hit .label) h)
+read-found found.None h = refl
+
 read-line : (a : PacketAnswer) → LabelFits a → readLine (lineOf a) ≡ printed a
-unfolding lineOf answerText foundText readLine readFound
-read-line (packet.Syn (found.Exact hit)) h = ap (λ (n : ℕ). Printed.syn (PrintedFound.exact n)) (read-decimal (hit .label) h)
-read-line (packet.Syn (found.Fuzzy hit reason)) h = ap (λ (n : ℕ). Printed.syn (PrintedFound.fuzzy n)) (read-decimal (hit .label) h)
-read-line (packet.Syn found.None) h = refl
-read-line (packet.SynAck (found.Exact hit)) h = ap (λ (n : ℕ). Printed.synack (PrintedFound.exact n)) (read-decimal (hit .label) h)
-read-line (packet.SynAck (found.Fuzzy hit reason)) h = ap (λ (n : ℕ). Printed.synack (PrintedFound.fuzzy n)) (read-decimal (hit .label) h)
-read-line (packet.SynAck found.None) h = refl
+unfolding lineOf answerText readLine
+read-line (packet.Syn s) h = ap Printed.syn (read-found (s .found) h)
+read-line (packet.SynAck s) h = ap Printed.synack (read-found (s .found) h)
 read-line packet.Nothing h = refl
 read-line (packet.Refused r) h = ap Printed.refused (read-decimal (packetNumber r) (let few = numbered (table.Packet r) .1 in omega arith))
 
@@ -73,14 +75,16 @@ linePrinted (Printed.synack f) = synackWord ++ foundPrinted f ++ newline
 linePrinted Printed.nothing = nothingWord ++ newline
 linePrinted (Printed.refused n) = refusedWord ++ decimal n ++ newline
 
+found-printed : (f : Found) → foundText f ≡ foundPrinted (printedFound f)
+unfolding foundText foundPrinted
+found-printed (found.Exact hit) = refl
+found-printed (found.Fuzzy hit reason) = refl
+found-printed found.None = refl
+
 line-printed : (a : PacketAnswer) → lineOf a ≡ linePrinted (printed a)
-unfolding lineOf answerText foundText linePrinted foundPrinted
-line-printed (packet.Syn (found.Exact hit)) = refl
-line-printed (packet.Syn (found.Fuzzy hit reason)) = refl
-line-printed (packet.Syn found.None) = refl
-line-printed (packet.SynAck (found.Exact hit)) = refl
-line-printed (packet.SynAck (found.Fuzzy hit reason)) = refl
-line-printed (packet.SynAck found.None) = refl
+unfolding lineOf answerText linePrinted
+line-printed (packet.Syn s) = rw (found-printed (s .found))
+line-printed (packet.SynAck s) = rw (found-printed (s .found))
 line-printed packet.Nothing = refl
 line-printed (packet.Refused r) = refl
 
@@ -97,8 +101,8 @@ found-fits (found.Fuzzy hit reason) h = h .0 .0
 found-fits found.None h = tt
 
 label-fits : (a : PacketAnswer) → PacketFits a → LabelFits a
-label-fits (packet.Syn f) h = found-fits f h
-label-fits (packet.SynAck f) h = found-fits f h
+label-fits (packet.Syn s) h = found-fits (s .found) (h .0)
+label-fits (packet.SynAck s) h = found-fits (s .found) (h .0)
 label-fits packet.Nothing h = tt
 label-fits (packet.Refused r) h = tt
 
@@ -178,12 +182,12 @@ all-words =
     record {
       packets-0 = refl;
       packets-16383 = refl;
-      syn-exact = λ n g. refl;
-      syn-fuzzy = λ n g reason. refl;
-      syn-none = refl;
-      synack-exact = λ n g. refl;
-      synack-fuzzy = λ n g reason. refl;
-      synack-none = refl;
+      syn-exact = λ n k g. refl;
+      syn-fuzzy = λ n k g reason. refl;
+      syn-none = λ k. refl;
+      synack-exact = λ n k g. refl;
+      synack-fuzzy = λ n k g reason. refl;
+      synack-none = λ k. refl;
       nothing = refl;
       refused-1 = refl;
       refused-2 = refl;

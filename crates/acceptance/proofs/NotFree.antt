@@ -38,15 +38,15 @@ use Rattle.matching.specs.Fit.{featuresOf, scalarGates, toleranceOf, fitOf}
 use Rattle.sigrecord.specs.Record.{versionOf, ttlOf, mssOf, scaleOf, windowOf, payloadOf, signatureOf}
 use Rattle.sigrecord.specs.WellFormed.{versionGood, ttlGood, presenceGood, windowGood, payloadGood, quirksGood, scalarsGood}
 use Rattle.siglist.specs.List.{listFits, layoutLies, recordGood, recordsFrom, checkList}
+use Rattle.found.specs.declared.Found.{Found}
 use Rattle.found.specs.declared.Found.the-variants as found
-use Rattle.search.specs.declared.SearchAnswer.the-variants as answer
 use Rattle.found.specs.Least.{prefer, leastFrom, firstLeast, numbersFrom}
 use Rattle.found.specs.Rank.{foundOf}
-use Rattle.search.specs.Search.{fitAt, candidateAt, rankAt, foundAt, searchRow, searchOver, searchAll, searchList}
+use Rattle.search.specs.Search.{fitAt, candidateAt, rankAt, foundAt, searchRow, searchOver, searchAll, searched, searchList}
 use Rattle.alike.proofs.Packets.{read-alike}
-use Rattle.acceptance.specs.Values.{packetA, exampleList, theRecord}
+use Rattle.acceptance.specs.Values.{packetA, exampleList, theRecord, after}
 use Rattle.acceptance.specs.NotFree.{ReadApart, AnsweredApart, stamped, overIpv6, noLength, noLengthIpv6, NotFree}
-use Rattle.acceptance.proofs.Values.{values}
+use Rattle.acceptance.proofs.Values.{same-found, values}
 
 -- Two readings of which one number differs.
 told-apart
@@ -83,19 +83,20 @@ firstKind r = byteAt (r .observation .olayout .kinds) 0
 
 -- An answer that is another than packet A's.
 not-exact
-    : (p : List ℕ)
-    → (searchList (readPacket p mss.Absent .observation) exampleList ≡ answer.Found (found.Exact theRecord) → ⊥)
+    : (p : List ℕ) (x : Found)
+    → searchList (readPacket p mss.Absent .observation) exampleList ≡ after 1 x
+    → (found.Exact theRecord ≡ x → ⊥)
     → AnsweredApart packetA p
-not-exact p differs same = differs (sym same ∙ values .search .exact)
+not-exact p x other differs same = differs (same-found _ _ _ _ (sym (values .search .exact) ∙ same ∙ other))
 
 -- With another kind of option packet A does not fit.
-other-kind : searchList (readPacket (set packetA 40 3) mss.Absent .observation) exampleList ≡ answer.Found found.None
+other-kind : searchList (readPacket (set packetA 40 3) mss.Absent .observation) exampleList ≡ after 1 found.None
 unfolding readPacket readIp readIpv4 ipv4Facts ipv4Quirks ipv4OptionLength readingOf guessOf initialOf readTcp flagsInvalid maskedType
     isSynType observationFrom observationOf quirksOfHeaders headerQuirks payloadClass walkOf walkFrom optionsAfter asked runsPast putEntry
     entryByte seeOption laterMss laterScale laterQuirks trailingNonzero excessiveScaling ownTimestampZero peerTimestampNonzero anyNonzero
     addIf with bitOf placeOf empty fromQuirks be16 be32 checkList listFits recordsFrom recordGood layoutLies scalarsGood versionGood ttlGood
     presenceGood windowGood payloadGood quirksGood entryGood entriesGood allBelow isEmpty difference seventeen displayOrder searchList
-    searchAll searchOver searchRow foundAt firstLeast leastFrom prefer numbersFrom rankAt candidateAt foundOf fitAt featuresOf
+    searched searchAll searchOver searchRow foundAt firstLeast leastFrom prefer numbersFrom rankAt candidateAt foundOf fitAt featuresOf
     windowMultiplier ownTimestampNonzero holdsKind contains holds digit multiplierOf firstMultiple twelve divides signatureOf versionOf
     ttlOf mssOf scaleOf windowOf payloadOf fitOf scalarGates versionMatches olenMatches mssMatches windowMatches scaleMatches payloadMatches
     layoutMatches entriesMatch toleranceOf ttlFit quirksFit maskedQuirks maskWhenObsV4 maskWhenObsV6 fuzzyDeletable fuzzyAddable judge
@@ -111,15 +112,9 @@ unfolding readPacket readIn readIp readIpv4 ipv4Facts ipv4Quirks ipv4OptionLengt
 not-free =
     record {
       apart = λ p q differs a. differs (read-alike plainMode p q mss.Absent a);
-      ttl = not-exact (set packetA 8 0x1c) (λ e.
-          let other = values .search .fuzzy in
-          let z : _≡_ {A = ℕ} 0 1 = cc in
-          omega arith);
-      window = not-exact (set packetA 34 0x17) (λ e.
-          let other = values .search .none in
-          let z : _≡_ {A = ℕ} 0 1 = cc in
-          omega arith);
-      kind = not-exact (set packetA 40 3) (λ e. let other = other-kind in let z : _≡_ {A = ℕ} 0 1 = cc in omega arith);
+      ttl = not-exact (set packetA 8 0x1c) _ (values .search .fuzzy) (λ e. let z : _≡_ {A = ℕ} 0 1 = cc in omega arith);
+      window = not-exact (set packetA 34 0x17) _ (values .search .none) (λ e. let z : _≡_ {A = ℕ} 0 1 = cc in omega arith);
+      kind = not-exact (set packetA 40 3) _ other-kind (λ e. let z : _≡_ {A = ℕ} 0 1 = cc in omega arith);
       ownStamp = told-apart quirkBits stamped (set stamped 47 0) refl;
       peerStamp = told-apart quirkBits stamped (set stamped 51 1) refl;
       version = told-apart refused packetA (set packetA 0 0x65) refl;

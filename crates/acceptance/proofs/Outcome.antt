@@ -20,11 +20,12 @@ use Rattle.siglist.specs.List.{recordCount, recordAt, checkList}
 use Rattle.found.specs.declared.Hit.{Hit}
 use Rattle.found.specs.declared.Found.{Found}
 use Rattle.found.specs.declared.Found.the-variants as found
+use Rattle.found.specs.declared.Searched.{Searched}
 use Rattle.search.specs.declared.SearchAnswer.{SearchAnswer}
 use Rattle.search.specs.declared.SearchAnswer.the-variants as answer
 use Rattle.found.specs.Least.{numbersFrom}
 use Rattle.found.proofs.Least.{numbers-length, numbers-at}
-use Rattle.search.specs.Search.{hitAt, searchOver, searchAll, afterListCheck, searchList}
+use Rattle.search.specs.Search.{hitAt, searchOver, searchAll, searched, afterListCheck, searchList}
 use Rattle.search.proofs.Order as order
 use Rattle.acceptance.specs.Outcome.{fitOfRecord, SpecificExact, Named, FirstSpecific, FirstGeneric, Outcome, FourOutcomes}
 
@@ -59,7 +60,7 @@ one-hit l g h e m n =
 
 module _ (o : TcpObservation) (l : List ℕ) where
   -- The record that a search names first of the specific ones is specific and exact.
-  is-specific : {hit : Hit} → FirstSpecific o l hit → SpecificExact o l (hit .number)
+  pub is-specific : {hit : Hit} → FirstSpecific o l hit → SpecificExact o l (hit .number)
   is-specific a = record { exact = a .exact; specific = sym (a .named .own-kind) ∙ a .specific }
 
   -- No two answers have their outcomes together.
@@ -167,13 +168,13 @@ module _ (o : TcpObservation) (l : List ℕ) where
       })
   as-outcome (order.Outcome.none before) = let size = few in λ i b. sym (fit-here i (omega arith)) ∙ before i (omega arith)
 
-  found-outcome : Outcome o l (searchAll o l)
-  unfolding searchAll searchOver places
+  pub found-outcome : Outcome o l (searched o l .found)
+  unfolding searched searchAll searchOver places
   found-outcome = as-outcome (order.outcome (featuresOf o) (o .olayout .kinds) (o .olayout .bytes) l places)
 
   -- A search answers so exactly when its list's records are so.
-  pub answered : (x : Found) → (searchAll o l ≡ x) ↔ Outcome o l x
-  answered x = (λ e. rw (← e) found-outcome, λ so. one-outcome (searchAll o l) x found-outcome so)
+  pub answered : (x : Found) → (searched o l .found ≡ x) ↔ Outcome o l x
+  answered x = (λ e. rw (← e) found-outcome, λ so. one-outcome (searched o l .found) x found-outcome so)
 
   of-kind-specific : (hit : Hit) → hit .generic ≡ false → Outcome o l (found.Exact hit) → FirstSpecific o l hit
   of-kind-specific hit kind (inl a) = a
@@ -198,17 +199,21 @@ module _ (o : TcpObservation) (l : List ℕ) where
         none = answered found.None;
       }
 
-  after-found : (a : ListAnswer) (x : Found) → afterListCheck a o l ≡ answer.Found x → Outcome o l x
-  after-found list.Good x e = let same : searchAll o l ≡ x = cc in answered x .0 same
-  after-found (list.Refused r) x e = let z : _≡_ {A = ℕ} 0 1 = cc in absurd (omega arith)
+  -- What is not refused is the search of the list.
+  after-found : (a : ListAnswer) (s : Searched) → afterListCheck a o l ≡ answer.Searched s → s ≡ searched o l
+  after-found list.Good s e = cc
+  after-found (list.Refused r) s e = let z : _≡_ {A = ℕ} 0 1 = cc in absurd (omega arith)
 
-  pub search-outcome : (x : Found) → searchList o l ≡ answer.Found x → Outcome o l x
+  pub not-refused : (s : Searched) → searchList o l ≡ answer.Searched s → s ≡ searched o l
   unfolding searchList
-  search-outcome x = by-count (ltb 40 (o .olayout .count))
+  not-refused s = by-count (ltb 40 (o .olayout .count))
     where
       by-count
           : (t : Bool)
-          → cond {A = SearchAnswer} t answer.LayoutTooLong (afterListCheck (checkList l) o l) ≡ answer.Found x
-          → Outcome o l x
+          → cond {A = SearchAnswer} t answer.LayoutTooLong (afterListCheck (checkList l) o l) ≡ answer.Searched s
+          → s ≡ searched o l
       by-count true e = let z : _≡_ {A = ℕ} 0 1 = cc in absurd (omega arith)
-      by-count false e = after-found (checkList l) x e
+      by-count false e = after-found (checkList l) s e
+
+  pub search-outcome : (s : Searched) → searchList o l ≡ answer.Searched s → Outcome o l (s .found)
+  search-outcome s e = rw (not-refused s e) found-outcome

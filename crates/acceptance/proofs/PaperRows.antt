@@ -95,7 +95,7 @@ module _ (p l : List ℕ) where
   list-also (list.Refused (why.BadRecord i)) e = Also.of-10 (refusals .list-gives l i e)
 
   search-also : (o : TcpObservation) (a : SearchAnswer) → searchList o l ≡ a → Also p l (searchPaper a)
-  search-also o (search.Found f) e = none-returned
+  search-also o (search.Searched f) e = none-returned
   search-also o (search.List why.DoesNotFit) e = others p l 9 (λ e. omega arith) (λ e. omega arith)
   search-also o (search.List (why.BadRecord i)) e = Also.of-10 (refusals .search-gives o l i e)
   search-also o search.LayoutTooLong e = others p l 11 (λ e. omega arith) (λ e. omega arith)

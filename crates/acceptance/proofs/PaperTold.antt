@@ -76,7 +76,7 @@ list-again list.Good = tt
 list-again (list.Refused r) = refl
 
 search-again : Again (ofList search.List search.LayoutTooLong) searchVerdict
-search-again (search.Found f) = tt
+search-again (search.Searched f) = tt
 search-again search.LayoutTooLong = refl
 search-again (search.List r) = refl
 

@@ -20,12 +20,14 @@ use Rattle.sigrecord.specs.WellFormed.{scalarsGood}
 use Rattle.siglist.specs.declared.ListAnswer.{ListAnswer}
 use Rattle.refusals.specs.declared.ListRefusal.the-variants as why
 use Rattle.siglist.specs.declared.ListAnswer.the-variants as list
-use Rattle.siglist.specs.List.{recordCount, recordAt, listFits, layoutLies, recordGood, checkList}
+use Rattle.siglist.specs.List.{recordCount, sizeOf, recordAt, listFits, layoutLies, recordGood, checkList}
 use Rattle.siglist.proofs.FirstBad.{Checked, first-bad-named}
+use Rattle.found.specs.Examined.{searchedIn}
 use Rattle.found.specs.Least.{numbersFrom}
 use Rattle.found.proofs.Least.{Without, end, stays-in, left-out}
-use Rattle.search.specs.Search.{fitAt, rankAt, searchOver, searchAll, searchList}
-use Rattle.search.proofs.Rows.{no-rank, none-fits, none-found, without}
+use Rattle.search.specs.Search.{fitAt, rankAt, searchOver, searchAll, searched, searchList}
+use Rattle.search.proofs.Examined.{none-examined}
+use Rattle.search.proofs.Rows.{no-rank, none-fits, without}
 use Rattle.flow.specs.Modes.{readIn}
 use Rattle.packet_answer.specs.declared.PacketAnswer.the-variants as packet
 use Rattle.bundle.specs.declared.BundleCheck.the-variants as check
@@ -106,19 +108,20 @@ good-outcome (list.Refused r) e = absurd (omega arith)
 -- ---- the statements
 
 search-unchecked : SearchUnchecked
-unfolding searchAll searchOver searchList checkList featuresOf
+unfolding searched searchAll searchOver searchList checkList featuresOf
 search-unchecked =
     record {
       same = λ o l few good. rw (le-ltb 40 (o .olayout .count) few, good);
       bad-record = λ o l.
-          sym
+          ap (searchedIn (sizeOf l))
+          (sym
           (without (featuresOf o) (o .olayout .kinds) (o .olayout .bytes) l
-          (good-ones (featuresOf o) (o .olayout .kinds) (o .olayout .bytes) l (numbersFrom 0 (recordCount l))));
-      does-not-fit =
-          λ o l e. none-found (featuresOf o) (o .olayout .kinds) (o .olayout .bytes) l (unfit l e) (numbersFrom 0 (recordCount l));
+          (good-ones (featuresOf o) (o .olayout .kinds) (o .olayout .bytes) l (numbersFrom 0 (recordCount l)))));
+      does-not-fit = λ o l e. none-examined o l (unfit l e);
       layout-too-long = λ o l long.
-          none-fits (featuresOf o) (o .olayout .kinds) (o .olayout .bytes) l
-          (long-fits-not (featuresOf o) (o .olayout .kinds) (o .olayout .bytes) l long) (numbersFrom 0 (recordCount l));
+          ap (searchedIn (sizeOf l))
+          (none-fits (featuresOf o) (o .olayout .kinds) (o .olayout .bytes) l
+          (long-fits-not (featuresOf o) (o .olayout .kinds) (o .olayout .bytes) l long) (numbersFrom 0 (recordCount l)));
     }
 
 packet-unchecked : PacketUnchecked

@@ -5,6 +5,7 @@ use Rattle.acceptance.specs.Demand2.{Demand2}
 use Rattle.acceptance.specs.Demand3.{Demand3}
 use Rattle.acceptance.specs.GenericLast.{GenericLast}
 use Rattle.acceptance.specs.Honesty.{Honesty}
+use Rattle.acceptance.specs.HowLong.{HowLong}
 use Rattle.acceptance.specs.Lines.{Lines}
 use Rattle.acceptance.specs.Modes.{Modes}
 use Rattle.acceptance.specs.OnPaper.{OnPaper}
@@ -41,3 +42,5 @@ pub record Acceptance : Type 1 where
   pub ttlTable : TtlTable
   -- D1: one option walk, with the places of damage (document 02, Wish 5).
   pub oneWalk : OneWalk
+  -- D1: how many records a search examined (document 02, Wish 6).
+  pub howLong : HowLong

@@ -38,7 +38,7 @@ use Rattle.found.specs.declared.Found.the-variants as found
 use Rattle.search.specs.declared.SearchAnswer.{SearchAnswer}
 use Rattle.search.specs.declared.SearchAnswer.the-variants as answer
 use Rattle.search.specs.Search.{searchList}
-use Rattle.acceptance.specs.Values.{Values, exampleList}
+use Rattle.acceptance.specs.Values.{Values, exampleList, after}
 
 -- ---- the multiplier
 
@@ -111,7 +111,7 @@ SingleFit =
     → checkList l ≡ list.Good
     → recordCount l ≡ 1
     → searchList o l
-    ≡ answer.Found
+    ≡ after 1
     (ofOne (record { label = labelOf (recordAt l 0); number = 0; generic = isGeneric (recordAt l 0) })
     (fitOf (featuresOf o) (o .olayout .kinds) (o .olayout .bytes) (signatureOf (recordAt l 0)) (entryCount (recordAt l 0))
     (entriesOf l (recordAt l 0))))
@@ -122,7 +122,10 @@ pub record ShutOut : Type 0 where
   -- "a reader that refuses all (packet A)"
   pub refuses-all : ((p : List ℕ) → (r : PacketRefusal) × (readPacket p mss.Absent .answer ≡ packet.Refused r)) → ⊥
   -- "one that says none always (A is exact)"
-  pub none-always : ((p : List ℕ) → searchList (readPacket p mss.Absent .observation) exampleList ≡ answer.Found found.None) → ⊥
+  pub none-always
+      : ((p : List ℕ)
+      → (n : ℕ) × (searchList (readPacket p mss.Absent .observation) exampleList ≡ after n found.None))
+      → ⊥
   -- "one that hands back an empty observation untouched"
   pub untouched : ((p : List ℕ) → readPacket p mss.Absent .observation ≡ emptyObservation) → ⊥
   -- "a walk that reads the first option truly and the rest for show (a second MSS would not replace the first)"

@@ -116,7 +116,7 @@ pub record SameAnswer : Type 0 where
       → walkOptions (stopOf mode) syn quirks (optionsIn p) ≡ walkOptions (stopOf mode) syn quirks (optionsIn q)
   -- the packet reader
   pub reader : (mode : Mode) (p q : List ℕ) (peer : Mss) → Alike p q → readIn mode p peer ≡ readIn mode q peer
-  -- the search, with its reason and its refusals
+  -- the search, with its reason, its count and its refusals
   pub search
       : (mode : Mode) (p q : List ℕ) (peer : Mss) (l : List ℕ)
       → Alike p q
@@ -198,7 +198,7 @@ pub record BundleSame : Type 0 where
   pub not-whole : Overlap
 
 pub record Demand3 : Type 0 where
-  -- the sentence itself: the answer is that of `answerOf`, a refusal or an observation and what the search finds for it
+  -- the sentence itself: the answer is that of `answerOf`, a refusal or an observation and what the search answers for it
   pub free-bytes
       : (p q : List ℕ) (peer : Mss) (l : List ℕ) → DifferOnly (Free p q) p q → answerOf p peer l ≡ answerOf q peer l
   -- and in any mode

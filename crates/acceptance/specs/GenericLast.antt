@@ -19,10 +19,10 @@ use Rattle.found.specs.declared.Hit.{Hit}
 use Rattle.found.specs.declared.Found.the-variants as found
 use Rattle.search.specs.declared.SearchAnswer.{SearchAnswer}
 use Rattle.search.specs.declared.SearchAnswer.the-variants as answer
-use Rattle.search.specs.Search.{searchAll, searchList}
+use Rattle.search.specs.Search.{searched, searchList}
 use Rattle.acceptance.specs.Outcome.{fitOfRecord, Named, FirstFuzzy, NoneFits}
 use Rattle.acceptance.specs.Refusals.{BadRecord}
-use Rattle.acceptance.specs.Values.{packetA}
+use Rattle.acceptance.specs.Values.{packetA, after}
 
 -- ---- as before
 
@@ -44,9 +44,11 @@ pub record FirstExact (o : TcpObservation) (l : List ℕ) (hit : Hit) : Type 0 w
 -- reason; else none". Whatever is found is specific.
 pub record AsBefore (l : List ℕ) : Type 0 where
   pub bad : (i : ℕ) → i < recordCount l → BadRecord l i ↔ BadBefore l i
-  pub exact : (o : TcpObservation) (hit : Hit) → (searchAll o l ≡ found.Exact hit) ↔ FirstExact o l hit
-  pub fuzzy : (o : TcpObservation) (hit : Hit) (reason : FuzzyReason) → (searchAll o l ≡ found.Fuzzy hit reason) ↔ FirstFuzzy o l hit reason
-  pub none : (o : TcpObservation) → (searchAll o l ≡ found.None) ↔ NoneFits o l
+  pub exact : (o : TcpObservation) (hit : Hit) → (searched o l .found ≡ found.Exact hit) ↔ FirstExact o l hit
+  pub fuzzy
+      : (o : TcpObservation) (hit : Hit) (reason : FuzzyReason)
+      → (searched o l .found ≡ found.Fuzzy hit reason) ↔ FirstFuzzy o l hit reason
+  pub none : (o : TcpObservation) → (searched o l .found ≡ found.None) ↔ NoneFits o l
   pub specific : (hit : Hit) → Named l hit → hit .generic ≡ false
 
 -- ---- two records
@@ -59,8 +61,8 @@ recordWith t kind label =
 abbrev pub twoRecords : List ℕ → List ℕ → List ℕ
 twoRecords r s = 0 ∷ 2 ∷ 0 ∷ 8 ∷ 0 ∷ 1 ∷ 0 ∷ 56 ∷ r ++ s ++ (2 ∷ 0 ∷ [])
 
--- Packet A against two records: "first specific exact, else first generic exact, else first fuzzy of either kind.
--- [..] 10 now covers byte 21 above 1". A record of TTL 128 fits it fuzzily.
+-- Packet A against two records, and against none: "first specific exact, else first generic exact, else first fuzzy of either kind.
+-- [..] 10 now covers byte 21 above 1"; and how many were examined. A record of TTL 128 fits it fuzzily.
 abbrev pub searchA : List ℕ → List ℕ → SearchAnswer
 searchA r s = searchList (readPacket packetA mss.Absent .observation) (twoRecords r s)
 
@@ -68,15 +70,18 @@ abbrev pub farReason : FuzzyReason
 farReason = record { hops = hops.OutOfRange 64; added = setOf 0; missing = setOf 0 }
 
 pub record KindValues : Type 0 where
+  pub first-specific
+      : searchA (recordWith 64 0 7) (recordWith 64 0 8) ≡ after 1 (found.Exact (record { label = 7; number = 0; generic = false }))
   pub specific-behind-generic
-      : searchA (recordWith 64 1 7) (recordWith 64 0 8) ≡ answer.Found (found.Exact (record { label = 8; number = 1; generic = false }))
+      : searchA (recordWith 64 1 7) (recordWith 64 0 8) ≡ after 2 (found.Exact (record { label = 8; number = 1; generic = false }))
   pub first-generic
-      : searchA (recordWith 64 1 7) (recordWith 64 1 8) ≡ answer.Found (found.Exact (record { label = 7; number = 0; generic = true }))
+      : searchA (recordWith 64 1 7) (recordWith 64 1 8) ≡ after 2 (found.Exact (record { label = 7; number = 0; generic = true }))
   pub generic-behind-fuzzy
-      : searchA (recordWith 128 0 7) (recordWith 64 1 8) ≡ answer.Found (found.Exact (record { label = 8; number = 1; generic = true }))
+      : searchA (recordWith 128 0 7) (recordWith 64 1 8) ≡ after 2 (found.Exact (record { label = 8; number = 1; generic = true }))
   pub first-fuzzy-generic
       : searchA (recordWith 128 1 7) (recordWith 128 0 8)
-      ≡ answer.Found (found.Fuzzy (record { label = 7; number = 0; generic = true }) farReason)
+      ≡ after 2 (found.Fuzzy (record { label = 7; number = 0; generic = true }) farReason)
+  pub no-records : searchList (readPacket packetA mss.Absent .observation) (0 ∷ 0 ∷ 0 ∷ 8 ∷ 0 ∷ 0 ∷ 0 ∷ 8 ∷ []) ≡ after 0 found.None
   pub byte-21-of-2 : searchA (recordWith 64 0 7) (recordWith 64 2 8) ≡ answer.List (refusal.BadRecord 1)
 
 pub record GenericLast : Type 0 where

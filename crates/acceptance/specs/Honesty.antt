@@ -31,9 +31,10 @@ use Rattle.siglist.specs.List.{checkList}
 use Rattle.found.specs.declared.Hit.{Hit}
 use Rattle.found.specs.declared.Found.{Found}
 use Rattle.found.specs.declared.Found.the-variants as found
+use Rattle.found.specs.declared.Searched.{Searched}
 use Rattle.found.specs.Rank.{rankOf}
 use Rattle.search.specs.declared.SearchAnswer.the-variants as answer
-use Rattle.search.specs.Search.{searchOver, searchAll, searchList}
+use Rattle.search.specs.Search.{searchOver, searched, searchList}
 use Rattle.packet_answer.specs.declared.PacketAnswer.{PacketAnswer}
 use Rattle.packet_answer.specs.declared.PacketAnswer.the-variants as packet
 use Rattle.packet_answer.specs.Packet.{peerOf, answerIn}
@@ -93,8 +94,8 @@ whichOf found.None = 3
 
 -- Of a gateway's answer: one of the three, or 4 (neither SYN nor SYN+ACK), or 5 (refused).
 abbrev pub outcomeOf : GatewayAnswer → ℕ
-outcomeOf (GatewayAnswer.answered (packet.Syn f)) = whichOf f
-outcomeOf (GatewayAnswer.answered (packet.SynAck f)) = whichOf f
+outcomeOf (GatewayAnswer.answered (packet.Syn s)) = whichOf (s .found)
+outcomeOf (GatewayAnswer.answered (packet.SynAck s)) = whichOf (s .found)
 outcomeOf (GatewayAnswer.answered packet.Nothing) = 4
 outcomeOf (GatewayAnswer.answered (packet.Refused r)) = 5
 outcomeOf (GatewayAnswer.list-refused r) = 5
@@ -126,8 +127,8 @@ pub record Honesty : Type 0 where
       : (f : Features) (kinds bytes : List ℕ) (s : Signature) (count : ℕ) (entries : List ℕ) (reason : FuzzyReason)
       → (fitOf f kinds bytes s count entries ≡ fit.Fuzzy reason) ↔ FitsFuzzily f kinds bytes s count entries reason
   -- What a search finds: the first specific exact record of its list, else the first generic exact one, else the first fuzzy one of
-  -- either kind with its reason, else none.
-  pub search : (o : TcpObservation) (l : List ℕ) (x : Found) → searchList o l ≡ answer.Found x → Outcome o l x
+  -- either kind with its reason, else none. How many records it examined is in HowLong.antt.
+  pub search : (o : TcpObservation) (l : List ℕ) (s : Searched) → searchList o l ≡ answer.Searched s → Outcome o l (s .found)
   -- Over a longer row of record numbers a search finds the same, or what has strictly less rank: specific exact, generic exact, fuzzy,
   -- none.
   pub longer-row
@@ -141,11 +142,11 @@ pub record Honesty : Type 0 where
   pub syn-answer
       : (mode : Mode) (p : List ℕ) (peer : Mss) (l : List ℕ)
       → readIn mode p peer .answer ≡ reading.Syn
-      → answerIn mode p peer l ≡ packet.Syn (searchAll (readIn mode p peer .observation) l)
+      → answerIn mode p peer l ≡ packet.Syn (searched (readIn mode p peer .observation) l)
   pub syn-ack-answer
       : (mode : Mode) (p : List ℕ) (peer : Mss) (l : List ℕ)
       → readIn mode p peer .answer ≡ reading.SynAck
-      → answerIn mode p peer l ≡ packet.SynAck (searchAll (readIn mode p peer .observation) l)
+      → answerIn mode p peer l ≡ packet.SynAck (searched (readIn mode p peer .observation) l)
   -- "nothing" and a refusal stay what they are.
   pub nothing-answer
       : (mode : Mode) (p : List ℕ) (peer : Mss) (l : List ℕ)

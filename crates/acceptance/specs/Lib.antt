@@ -5,6 +5,7 @@ pub mod Demand2
 pub mod Demand3
 pub mod GenericLast
 pub mod Honesty
+pub mod HowLong
 pub mod Lent
 pub mod Lines
 pub mod Modes

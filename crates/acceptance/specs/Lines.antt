@@ -10,9 +10,9 @@ use Rattle.tcp.specs.declared.Mss.{Mss}
 use Rattle.refusals.specs.declared.PacketRefusal.the-variants as refusal
 use Rattle.refusals.specs.Refusals.{packetNumber}
 use Rattle.matching.specs.declared.FuzzyReason.{FuzzyReason}
-use Rattle.found.specs.declared.Hit.{Hit}
 use Rattle.found.specs.declared.Found.{Found}
 use Rattle.found.specs.declared.Found.the-variants as found
+use Rattle.found.specs.declared.Searched.{Searched}
 use Rattle.flow.specs.declared.Mode.{Mode}
 use Rattle.packet_answer.specs.declared.PacketAnswer.{PacketAnswer}
 use Rattle.packet_answer.specs.declared.PacketAnswer.the-variants as packet
@@ -37,7 +37,8 @@ pub data Printed : Type 0 where
   nothing : Printed
   refused : ℕ → Printed
 
--- Exact, fuzzy or none, with the record's label; its number in the list and the reason of a fuzzy answer are not printed.
+-- Exact, fuzzy or none, with the record's label; its number in the list, the reason of a fuzzy answer and how many records were examined
+-- are not printed.
 abbrev pub printedFound : Found → PrintedFound
 printedFound (found.Exact hit) = PrintedFound.exact (hit .label)
 printedFound (found.Fuzzy hit reason) = PrintedFound.fuzzy (hit .label)
@@ -45,8 +46,8 @@ printedFound found.None = PrintedFound.none
 
 -- SYN or SYN+ACK with what was found, nothing, or a refusal by its number; the flags byte of refusal 7 is not printed.
 abbrev pub printed : PacketAnswer → Printed
-printed (packet.Syn f) = Printed.syn (printedFound f)
-printed (packet.SynAck f) = Printed.synack (printedFound f)
+printed (packet.Syn s) = Printed.syn (printedFound (s .found))
+printed (packet.SynAck s) = Printed.synack (printedFound (s .found))
 printed packet.Nothing = Printed.nothing
 printed (packet.Refused r) = Printed.refused (packetNumber r)
 
@@ -57,32 +58,37 @@ TwoBytes (found.Fuzzy hit reason) = hit .label < 65536
 TwoBytes found.None = Unit {0}
 
 abbrev pub LabelFits : PacketAnswer → Type 0
-LabelFits (packet.Syn f) = TwoBytes f
-LabelFits (packet.SynAck f) = TwoBytes f
+LabelFits (packet.Syn s) = TwoBytes (s .found)
+LabelFits (packet.SynAck s) = TwoBytes (s .found)
 LabelFits packet.Nothing = Unit {0}
 LabelFits (packet.Refused r) = Unit {0}
 
 -- ---- the words
 
--- Record n of a list, with this label, specific or generic.
-abbrev pub labelled : ℕ → ℕ → Bool → Hit
-labelled label n generic = record { label = label; number = n; generic = generic }
+-- This, found in record n of a list, specific or generic, after k records.
+abbrev pub exactly : ℕ → ℕ → Bool → ℕ → Searched
+exactly label n generic k = record { found = found.Exact (record { label = label; number = n; generic = generic }); examined = k }
+
+abbrev pub fuzzily : ℕ → ℕ → Bool → FuzzyReason → ℕ → Searched
+fuzzily label n generic reason k =
+    record { found = found.Fuzzy (record { label = label; number = n; generic = generic }) reason; examined = k }
+
+abbrev pub noneAfter : ℕ → Searched
+noneAfter k = record { found = found.None; examined = k }
 
 -- "`packets N`, then a line each", "`refused N`", "`syn none`, `synack` with the same endings, `nothing`, `refused 1` to `refused 7`":
--- every word, with numbers of one digit to five; whichever record of the list was found, and of either kind.
+-- every word, with numbers of one digit to five; whichever record of the list was found, of either kind, after however many.
 pub record Words : Type 0 where
   pub packets-0 : headLine 0 ≡ ascii "packets 0\n"
   pub packets-16383 : headLine 16383 ≡ ascii "packets 16383\n"
-  pub syn-exact : (n : ℕ) (g : Bool) → lineOf (packet.Syn (found.Exact (labelled 7 n g))) ≡ ascii "syn exact 7\n"
+  pub syn-exact : (n k : ℕ) (g : Bool) → lineOf (packet.Syn (exactly 7 n g k)) ≡ ascii "syn exact 7\n"
   pub syn-fuzzy
-      : (n : ℕ) (g : Bool) (reason : FuzzyReason)
-      → lineOf (packet.Syn (found.Fuzzy (labelled 10254 n g) reason)) ≡ ascii "syn fuzzy 10254\n"
-  pub syn-none : lineOf (packet.Syn found.None) ≡ ascii "syn none\n"
-  pub synack-exact : (n : ℕ) (g : Bool) → lineOf (packet.SynAck (found.Exact (labelled 0 n g))) ≡ ascii "synack exact 0\n"
+      : (n k : ℕ) (g : Bool) (reason : FuzzyReason) → lineOf (packet.Syn (fuzzily 10254 n g reason k)) ≡ ascii "syn fuzzy 10254\n"
+  pub syn-none : (k : ℕ) → lineOf (packet.Syn (noneAfter k)) ≡ ascii "syn none\n"
+  pub synack-exact : (n k : ℕ) (g : Bool) → lineOf (packet.SynAck (exactly 0 n g k)) ≡ ascii "synack exact 0\n"
   pub synack-fuzzy
-      : (n : ℕ) (g : Bool) (reason : FuzzyReason)
-      → lineOf (packet.SynAck (found.Fuzzy (labelled 65535 n g) reason)) ≡ ascii "synack fuzzy 65535\n"
-  pub synack-none : lineOf (packet.SynAck found.None) ≡ ascii "synack none\n"
+      : (n k : ℕ) (g : Bool) (reason : FuzzyReason) → lineOf (packet.SynAck (fuzzily 65535 n g reason k)) ≡ ascii "synack fuzzy 65535\n"
+  pub synack-none : (k : ℕ) → lineOf (packet.SynAck (noneAfter k)) ≡ ascii "synack none\n"
   pub nothing : lineOf packet.Nothing ≡ ascii "nothing\n"
   pub refused-1 : lineOf (packet.Refused refusal.Version) ≡ ascii "refused 1\n"
   pub refused-2 : lineOf (packet.Refused refusal.TooShort) ≡ ascii "refused 2\n"

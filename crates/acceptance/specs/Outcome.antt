@@ -16,7 +16,7 @@ use Rattle.siglist.specs.List.{recordCount, recordAt}
 use Rattle.found.specs.declared.Hit.{Hit}
 use Rattle.found.specs.declared.Found.{Found}
 use Rattle.found.specs.declared.Found.the-variants as found
-use Rattle.search.specs.Search.{fitAt, searchAll}
+use Rattle.search.specs.Search.{fitAt, searched}
 
 -- How record i of a list fits an observation; what is not a well-formed record of the list does not fit.
 abbrev pub fitOfRecord : TcpObservation → List ℕ → ℕ → SignatureFit
@@ -68,7 +68,7 @@ Outcome o l found.None = NoneFits o l
 
 -- The four outcomes, each exactly when the list's records are so.
 pub record FourOutcomes (o : TcpObservation) (l : List ℕ) : Type 0 where
-  pub specific : (hit : Hit) → ((searchAll o l ≡ found.Exact hit) × (hit .generic ≡ false)) ↔ FirstSpecific o l hit
-  pub generic : (hit : Hit) → ((searchAll o l ≡ found.Exact hit) × (hit .generic ≡ true)) ↔ FirstGeneric o l hit
-  pub fuzzy : (hit : Hit) (reason : FuzzyReason) → (searchAll o l ≡ found.Fuzzy hit reason) ↔ FirstFuzzy o l hit reason
-  pub none : (searchAll o l ≡ found.None) ↔ NoneFits o l
+  pub specific : (hit : Hit) → ((searched o l .found ≡ found.Exact hit) × (hit .generic ≡ false)) ↔ FirstSpecific o l hit
+  pub generic : (hit : Hit) → ((searched o l .found ≡ found.Exact hit) × (hit .generic ≡ true)) ↔ FirstGeneric o l hit
+  pub fuzzy : (hit : Hit) (reason : FuzzyReason) → (searched o l .found ≡ found.Fuzzy hit reason) ↔ FirstFuzzy o l hit reason
+  pub none : (searched o l .found ≡ found.None) ↔ NoneFits o l

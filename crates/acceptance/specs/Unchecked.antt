@@ -21,11 +21,13 @@ use Rattle.flow.specs.declared.Mode.{Mode}
 use Rattle.flow.specs.Modes.{readIn}
 use Rattle.refusals.specs.declared.ListRefusal.the-variants as why
 use Rattle.siglist.specs.declared.ListAnswer.the-variants as list
-use Rattle.siglist.specs.List.{recordCount, recordGood, checkList}
+use Rattle.siglist.specs.List.{recordCount, sizeOf, recordGood, checkList}
 use Rattle.found.specs.declared.Found.the-variants as found
+use Rattle.found.specs.declared.Searched.{Searched}
+use Rattle.found.specs.Examined.{searchedIn}
 use Rattle.search.specs.declared.SearchAnswer.the-variants as answer
 use Rattle.found.specs.Least.{numbersFrom}
-use Rattle.search.specs.Search.{searchOver, searchAll, searchList}
+use Rattle.search.specs.Search.{searchOver, searched, searchList}
 use Rattle.packet_answer.specs.declared.PacketAnswer.the-variants as packet
 use Rattle.packet_answer.specs.Packet.{peerOf, answerIn}
 use Rattle.bundle.specs.declared.BundleCheck.the-variants as check
@@ -43,6 +45,10 @@ goodOnes l (i ∷ is) = cond (recordGood l i) (i ∷ goodOnes l is) (goodOnes l 
 abbrev pub goodRecords : List ℕ → List ℕ
 goodRecords l = goodOnes l (numbersFrom 0 (recordCount l))
 
+-- No record fits, since there are none.
+abbrev pub nothingThere : Searched
+nothingThere = record { found = found.None; examined = 0 }
+
 -- `search_checked`, against `search` (refusals 11, 9 and 10).
 pub record SearchUnchecked : Type 0 where
   -- What `search` does not refuse, both answer alike.
@@ -50,12 +56,12 @@ pub record SearchUnchecked : Type 0 where
       : (o : TcpObservation) (l : List ℕ)
       → o .olayout .count ≤ 40
       → checkList l ≡ list.Good
-      → searchList o l ≡ answer.Found (searchAll o l)
-  -- 10: the answer is that of the list without its bad records.
-  pub bad-record : (o : TcpObservation) (l : List ℕ) → searchAll o l ≡ searchOver (goodRecords l) o l
-  -- 9 and 11: none.
-  pub does-not-fit : (o : TcpObservation) (l : List ℕ) → checkList l ≡ list.Refused why.DoesNotFit → searchAll o l ≡ found.None
-  pub layout-too-long : (o : TcpObservation) (l : List ℕ) → 40 < o .olayout .count → searchAll o l ≡ found.None
+      → searchList o l ≡ answer.Searched (searched o l)
+  -- 10: what is found is what the list without its bad records has, each by its number in the whole list, of which the count is, too.
+  pub bad-record : (o : TcpObservation) (l : List ℕ) → searched o l ≡ searchedIn (sizeOf l) (searchOver (goodRecords l) o l)
+  -- 9 and 11: none; what does not fit has no records to examine.
+  pub does-not-fit : (o : TcpObservation) (l : List ℕ) → checkList l ≡ list.Refused why.DoesNotFit → searched o l ≡ nothingThere
+  pub layout-too-long : (o : TcpObservation) (l : List ℕ) → 40 < o .olayout .count → searched o l ≡ searchedIn (sizeOf l) found.None
 
 -- `answer_packet` and `termread_answer_checked`, against `termread_answer` (refusals 9 and 10 before a packet's own), in every mode.
 pub record PacketUnchecked : Type 0 where
@@ -69,27 +75,27 @@ pub record PacketUnchecked : Type 0 where
       → checkedStruct mode p peer l ≡ structAt mode p peer l
   -- `termread_check_list` has outcome 0 of a good list and of no other, and every other field is then 0.
   pub checked : (l : List ℕ) → (listStruct l .outcome ≡ 0) ↔ (checkList l ≡ list.Good)
-  pub checked-good : (l : List ℕ) → checkList l ≡ list.Good → listStruct l ≡ plain 0 0 0 0 0
-  -- 10: that of the list without its bad records.
+  pub checked-good : (l : List ℕ) → checkList l ≡ list.Good → listStruct l ≡ plain 0 0 0 0 0 0
+  -- 10: as `search_checked`.
   pub syn
       : (mode : Mode) (p : List ℕ) (peer : Mss) (l : List ℕ)
       → readIn mode p peer .answer ≡ reading.Syn
-      → answerIn mode p peer l ≡ packet.Syn (searchOver (goodRecords l) (readIn mode p peer .observation) l)
+      → answerIn mode p peer l ≡ packet.Syn (searchedIn (sizeOf l) (searchOver (goodRecords l) (readIn mode p peer .observation) l))
   pub syn-ack
       : (mode : Mode) (p : List ℕ) (peer : Mss) (l : List ℕ)
       → readIn mode p peer .answer ≡ reading.SynAck
-      → answerIn mode p peer l ≡ packet.SynAck (searchOver (goodRecords l) (readIn mode p peer .observation) l)
+      → answerIn mode p peer l ≡ packet.SynAck (searchedIn (sizeOf l) (searchOver (goodRecords l) (readIn mode p peer .observation) l))
   -- 9: none.
   pub syn-unfit
       : (mode : Mode) (p : List ℕ) (peer : Mss) (l : List ℕ)
       → readIn mode p peer .answer ≡ reading.Syn
       → checkList l ≡ list.Refused why.DoesNotFit
-      → answerIn mode p peer l ≡ packet.Syn found.None
+      → answerIn mode p peer l ≡ packet.Syn nothingThere
   pub syn-ack-unfit
       : (mode : Mode) (p : List ℕ) (peer : Mss) (l : List ℕ)
       → readIn mode p peer .answer ≡ reading.SynAck
       → checkList l ≡ list.Refused why.DoesNotFit
-      → answerIn mode p peer l ≡ packet.SynAck found.None
+      → answerIn mode p peer l ≡ packet.SynAck nothingThere
 
 -- `packet_at`, against `check_bundle` (refusals 12, 9 and 10), in every mode.
 pub record BundleUnchecked : Type 0 where

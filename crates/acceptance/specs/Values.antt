@@ -22,8 +22,10 @@ use Rattle.sigrecord.specs.declared.WindowSize.the-variants as wsize
 use Rattle.distances.specs.DistanceGates.{windowMatches}
 use Rattle.distances.specs.Distances.{initialTtl, ttlFit}
 use Rattle.found.specs.declared.Hit.{Hit}
+use Rattle.found.specs.declared.Found.{Found}
 use Rattle.found.specs.declared.Found.the-variants as found
 use Rattle.siglist.specs.declared.ListAnswer.the-variants as list
+use Rattle.search.specs.declared.SearchAnswer.{SearchAnswer}
 use Rattle.search.specs.declared.SearchAnswer.the-variants as search
 use Rattle.siglist.specs.List.{checkList}
 use Rattle.search.specs.Search.{searchList}
@@ -142,14 +144,18 @@ exampleList =
 abbrev pub theRecord : Hit
 theRecord = record { label = 7; number = 0; generic = false }
 
+-- What a search answers that examined so many records.
+abbrev pub after : ℕ → Found → SearchAnswer
+after n x = search.Searched (record { found = x; examined = n })
+
 -- Packet A, packet B (A with TTL byte 1c) and an observation of another window: the three answers.
 pub record ThreeAnswers : Type 0 where
   pub list-good : checkList exampleList ≡ list.Good
-  pub exact : searchList (readPacket packetA mss.Absent .observation) exampleList ≡ search.Found (found.Exact theRecord)
+  pub exact : searchList (readPacket packetA mss.Absent .observation) exampleList ≡ after 1 (found.Exact theRecord)
   pub fuzzy
       : searchList (readPacket (set packetA 8 0x1c) mss.Absent .observation) exampleList
-      ≡ search.Found (found.Fuzzy theRecord (record { hops = hops.OutOfRange 36; added = setOf 0; missing = setOf 0 }))
-  pub none : searchList (readPacket (set packetA 34 0x17) mss.Absent .observation) exampleList ≡ search.Found found.None
+      ≡ after 1 (found.Fuzzy theRecord (record { hops = hops.OutOfRange 36; added = setOf 0; missing = setOf 0 }))
+  pub none : searchList (readPacket (set packetA 34 0x17) mss.Absent .observation) exampleList ≡ after 1 found.None
 
 -- "The whole example", as a bundle: its header, the list behind it, then A, B (A with TTL byte 1c) and C, peer absent; and its four lines.
 abbrev pub exampleBundle : List ℕ

@@ -10,16 +10,22 @@ use Rattle.flow.specs.Modes.{modeOf}
 use Rattle.witness.specs.declared.PlainLine.{PlainLine}
 use Rattle.witness.specs.declared.PlainPacket.{PlainPacket}
 use Rattle.witness.specs.Lined.{lineRead}
-use Rattle.counted.specs.Counted.{countedAnswer, countedReading, countedReadingIn}
+use Rattle.counted.specs.Counted.{countedAnswer, countedKind, countedReading, countedReadingIn}
 use Rattle.counted.proofs.counted_answer.Reads as counted-answer'
 use Rattle.counted.proofs.counted_line.Reads as counted-line'
 use Rattle.counted.proofs.counted_observe.Reads as counted-observe'
 use Rattle.counted.proofs.counted_observe_in.Reads as counted-observe-in'
+use Rattle.counted.proofs.counted_read.Reads as counted-read'
 
 pub counted-observe-one
     : (κs : Lfts 1) (packet : RefT (List ℕ)) (peer : ℕ)
     → ExactlyOne PlainPacket (λ (r : PlainPacket). counted-observe'.Post κs (packet, (peer, tt)) r (packet, (peer, tt)))
 counted-observe-one κs packet peer = equation (countedReading (now packet) peer)
+
+pub counted-read-one
+    : (κs : Lfts 1) (packet : RefT (List ℕ)) (peer : ℕ)
+    → ExactlyOne ℕ (λ (r : ℕ). counted-read'.Post κs (packet, (peer, tt)) r (packet, (peer, tt)))
+counted-read-one κs packet peer = equation (countedKind (now packet) peer)
 
 pub counted-observe-in-one
     : (κs : Lfts 1) (packet : RefT (List ℕ)) (peer bits : ℕ)

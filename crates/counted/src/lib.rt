@@ -1,16 +1,18 @@
 // What tools/benchmark counts, in an archive of its own; not part of the product.
 ghost use mathlib.Core.Path.{_≡_};
 ghost use Rattle.flow.specs.Modes.{modeOf};
-ghost use Rattle.counted.specs.Counted.{countedReading, countedReadingIn, foundCode, countedAnswer};
+ghost use Rattle.counted.specs.Counted.{countedReading, countedReadingIn, countedKind, searchedCode, countedAnswer};
 ghost use Rattle.witness.specs.Lined.{lineRead};
 use flow::Mode;
 use flow::mode_of;
 use found::Found;
+use found::Searched;
 use packet_answer::peer_of;
 use window_size::Multiplier;
 use witness::PlainLine;
 use witness::PlainPacket;
 use witness::witness_line;
+use witness::written::answer_number;
 use witness::written::plain_packet;
 
 // The reading of a packet in the plain mode, whole, as a struct that C can read; the window's multiplier, which a search computes, is
@@ -25,7 +27,17 @@ pub extern "C" fn counted_observe(packet: &[u8], peer: u16) -> PlainPacket
     )
 }
 
-// The same in a mode that is given as for C.
+// The reading in the plain mode, of which only the answer is handed on: what was read is left where it is.
+#[no_mangle]
+pub extern "C" fn counted_read(packet: &[u8], peer: u16) -> u8
+    ensures { λ r. ⌜ r ≡ countedKind (now (packet .entry)) peer ⌝ }
+{
+    let reading = flow::read_packet_in(packet, peer_of(peer), Mode::PLAIN);
+    let answer = reading.answer;
+    answer_number(answer)
+}
+
+// The same as `counted_observe` in a mode that is given as for C.
 #[no_mangle]
 pub extern "C" fn counted_observe_in(packet: &[u8], peer: u16, bits: u8) -> PlainPacket
     ensures { λ r. ⌜ r ≡ countedReadingIn (modeOf bits) (now (packet .entry)) peer ⌝ }
@@ -36,24 +48,27 @@ pub extern "C" fn counted_observe_in(packet: &[u8], peer: u16, bits: u8) -> Plai
     )
 }
 
-fn found_code(found: Found) -> u64
-    ensures { λ r. ⌜ r ≡ foundCode found ⌝ }
+// What was found and how many records were examined, in one number.
+fn searched_code(searched: Searched) -> u64
+    ensures { λ r. ⌜ r ≡ searchedCode searched ⌝ }
 {
+    let found = searched.found;
+    let examined = 262144 * (searched.examined as u64);
     match found {
-        Found::None => 65536,
-        Found::Exact(hit) => 131072 + (hit.label as u64),
-        Found::Fuzzy(hit, _) => 196608 + (hit.label as u64),
+        Found::None => examined + 65536,
+        Found::Exact(hit) => examined + 131072 + (hit.label as u64),
+        Found::Fuzzy(hit, _) => examined + 196608 + (hit.label as u64),
     }
 }
 
-// From a packet to what the search of a checked list finds for it.
+// From a packet to what the search of a checked list answers for it.
 #[no_mangle]
 pub extern "C" fn counted_answer(packet: &[u8], peer: u16, list: &[u8]) -> u64
     ensures { λ r. ⌜ r ≡ countedAnswer (now (packet .entry)) peer (now (list .entry)) ⌝ }
 {
     let reading = flow::read_packet_in(packet, peer_of(peer), Mode::PLAIN);
     let observation = reading.observation;
-    found_code(search::search_checked(observation, list))
+    searched_code(search::search_checked(observation, list))
 }
 
 // The reading of a signature line, whole, as a struct that C can read.

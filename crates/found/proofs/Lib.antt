@@ -1,3 +1,4 @@
+pub mod Examined
 pub mod Least
 pub mod Rank
 pub mod Unique

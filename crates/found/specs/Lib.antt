@@ -1,2 +1,3 @@
+pub mod Examined
 pub mod Least
 pub mod Rank

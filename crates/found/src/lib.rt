@@ -1,4 +1,4 @@
-// What a search finds, and its rank (document 01, "The signature list"; document 02, Wish 3): added by the port.
+// What a search finds, its rank, and how long it was (document 01, "The signature list"; document 02, Wishes 3 and 6): added by the port.
 ghost use mathlib.Core.Path.{_≡_};
 ghost use Rattle.found.specs.Rank.{foundOf, exactRank, rankOf, isNone};
 use matching::FuzzyReason;
@@ -16,6 +16,12 @@ pub enum Found {
     None,
     Exact(Hit),
     Fuzzy(Hit, FuzzyReason),
+}
+
+// What a search answers: what it finds, and how many records it examined.
+pub struct Searched {
+    pub found: Found,
+    pub examined: u16,
 }
 
 pub fn is_none(fit: SignatureFit) -> bool

@@ -21,17 +21,18 @@ use Rattle.refusals.specs.Refusals.{listValue}
 use Rattle.siglist.specs.declared.ListAnswer.{ListAnswer}
 use Rattle.siglist.specs.declared.ListAnswer.the-variants as list
 use Rattle.sigrecord.specs.Record.{signatureOf, entryCount}
-use Rattle.siglist.specs.List.{recordCount, listFits, recordStart, recordAt, entriesOf, recordGood, checkList}
+use Rattle.siglist.specs.List.{recordCount, sizeOf, listFits, recordStart, recordAt, entriesOf, recordGood, checkList}
 use Rattle.siglist.proofs.FirstBad.{Checked, does-not-fit, first-bad-named}
 use Rattle.found.specs.declared.Hit.{Hit}
 use Rattle.found.specs.Least.{Place, nowhere, at}
 use Rattle.found.specs.Rank.{foundOf}
-use Rattle.search.specs.Search.{fitAt, hitAt, candidateAt, foundAt, searchRow, searchOver, searchAll}
+use Rattle.search.specs.Search.{fitAt, hitAt, candidateAt, foundAt, searchRow, searchOver, searchAll, searched}
+use Rattle.search.proofs.Examined.{within}
 use Rattle.packet_answer.specs.declared.PacketAnswer.{PacketAnswer}
 use Rattle.packet_answer.specs.Packet.{peerOf, judged, answerIn}
 use Rattle.gateway.specs.Parts.{partsOf, afterList, gatewayIn}
 use Rattle.gateway.specs.Decode.{AllBytes}
-use Rattle.gateway.proofs.Room.{HitFits, FoundFits, PacketFits, AnswerFits}
+use Rattle.gateway.proofs.Room.{HitFits, FoundFits, SearchedFits, PacketFits, AnswerFits}
 use Rattle.gateway.proofs.ReadBack.{injective}
 use Rattle.gateway.proofs.Given.{part-bytes, two-bytes, RefusedFits, reading-fits}
 use Rattle.gateway.proofs.Tolerated.{FitSmall, fit-small}
@@ -73,16 +74,27 @@ module _ (l : List ℕ) (lent : AllBytes l) where
       (hit-fits i)
       (fit-small f kinds bytes (recordAt l i) (entryCount (recordAt l i)) (entriesOf l (recordAt l i)) (record-bytes i))
 
-  found-fits : (r : Reading) → FoundFits (searchAll (r .observation) l)
-  unfolding searchAll searchOver searchRow
+  found-fits : (r : Reading) → FoundFits (searched (r .observation) l .found)
+  unfolding searched searchAll searchOver searchRow
   found-fits r = read-fits (featuresOf (r .observation)) (r .observation .olayout .kinds) (r .observation .olayout .bytes) _
+
+  -- The size is of two bytes, or 0, and no more records are examined.
+  size-fits : sizeOf l < 65536
+  size-fits = by-test (listFits l)
+    where
+      by-test : (t : Bool) → cond t (recordCount l) 0 < 65536
+      by-test true = two-bytes l 0 lent
+      by-test false = omega arith
+
+  searched-fits : (r : Reading) → SearchedFits (searched (r .observation) l)
+  searched-fits r = (found-fits r, omega (arith, within (r .observation) l, size-fits))
 
 -- ---- the answer
 
 -- Each kind of answer, where its refusal fits.
 judged-fits : (a : Answer) (r : Reading) (l : List ℕ) → AllBytes l → RefusedFits a → PacketFits (judged a (r .observation) l)
-judged-fits reading.Syn r l h fits = found-fits l h r
-judged-fits reading.SynAck r l h fits = found-fits l h r
+judged-fits reading.Syn r l h fits = searched-fits l h r
+judged-fits reading.SynAck r l h fits = searched-fits l h r
 judged-fits reading.Nothing r l h fits = tt
 judged-fits (reading.Refused x) r l h fits = fits
 

@@ -8,6 +8,7 @@ use Rattle.matching.specs.declared.Hops.the-variants as hops
 use Rattle.found.specs.declared.Hit.{Hit}
 use Rattle.found.specs.declared.Found.{Found}
 use Rattle.found.specs.declared.Found.the-variants as found
+use Rattle.found.specs.declared.Searched.{Searched}
 use Rattle.packet_answer.specs.declared.PacketAnswer.{PacketAnswer}
 use Rattle.packet_answer.specs.declared.PacketAnswer.the-variants as packet
 use Rattle.gateway.specs.Parts.{GatewayAnswer}
@@ -27,9 +28,12 @@ FoundFits found.None = Unit {0}
 FoundFits (found.Exact hit) = HitFits hit
 FoundFits (found.Fuzzy hit reason) = HitFits hit × ReasonFits reason
 
+abbrev pub SearchedFits : Searched → Type 0
+SearchedFits s = FoundFits (s .found) × (s .examined < 65536)
+
 abbrev pub PacketFits : PacketAnswer → Type 0
-PacketFits (packet.Syn f) = FoundFits f
-PacketFits (packet.SynAck f) = FoundFits f
+PacketFits (packet.Syn s) = SearchedFits s
+PacketFits (packet.SynAck s) = SearchedFits s
 PacketFits packet.Nothing = Unit {0}
 PacketFits (packet.Refused r) = packetValue r < 256
 

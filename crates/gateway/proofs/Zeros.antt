@@ -17,21 +17,20 @@ use Rattle.found.specs.declared.Found.{Found}
 use Rattle.found.specs.declared.Found.the-variants as found
 use Rattle.packet_answer.specs.declared.PacketAnswer.the-variants as packet
 use Rattle.gateway.specs.Parts.{GatewayAnswer, plain, refused, genericMark, fuzzy}
-use Rattle.gateway.specs.Parts.{foundParts, packetParts, refusedList, partsOf, listParts}
+use Rattle.gateway.specs.Parts.{foundParts, searchedParts, packetParts, refusedList, partsOf, listParts}
 use Rattle.gateway.specs.Zeros.{Zeros}
 use Rattle.gateway.proofs.Marks.{bits-0-and-2, no-distance, not-far}
 
 plain-zeros
-    : (outcome kind label number : ℕ) (generic : Bool)
-    → ((outcome ≡ 1 → ⊥) → (outcome ≡ 2 → ⊥) → (outcome ≡ 3 → ⊥) → kind ≡ 0)
+    : (outcome kind label number examined : ℕ) (generic : Bool)
+    → ((outcome ≡ 1 → ⊥) → (outcome ≡ 2 → ⊥) → (outcome ≡ 3 → ⊥) → (kind ≡ 0) × (examined ≡ 0))
     → ((outcome ≡ 1 → ⊥) → (outcome ≡ 2 → ⊥) → (label ≡ 0) × (number ≡ 0) × (genericMark generic ≡ 0))
-    → Zeros (plain outcome kind label number (genericMark generic))
-plain-zeros outcome kind label number generic kinds records =
+    → Zeros (plain outcome kind label number examined (genericMark generic))
+plain-zeros outcome kind label number examined generic searches records =
     record {
       tolerated = refl;
-      examined = refl;
       other-marks = bits-0-and-2 hops.InRange generic;
-      kind = kinds;
+      searched = searches;
       record-found = records;
       reason = λ h. (refl, refl, refl, not-far generic);
       in-range = λ h. refl;
@@ -44,9 +43,8 @@ refused-zeros
 refused-zeros refusal value values =
     record {
       tolerated = refl;
-      examined = refl;
       other-marks = (refl, omega arith);
-      kind = λ h i j. refl;
+      searched = λ h i j. (refl, refl);
       record-found = λ h i. (refl, refl, refl);
       reason = λ h. (refl, refl, refl, refl);
       in-range = λ h. refl;
@@ -54,13 +52,12 @@ refused-zeros refusal value values =
       value = values;
     }
 
-fuzzy-zeros : (kind : ℕ) (hit : Hit) (r : FuzzyReason) → Zeros (fuzzy kind hit r)
-fuzzy-zeros kind hit r =
+fuzzy-zeros : (kind : ℕ) (hit : Hit) (r : FuzzyReason) (examined : ℕ) → Zeros (fuzzy kind hit r examined)
+fuzzy-zeros kind hit r examined =
     record {
       tolerated = refl;
-      examined = refl;
       other-marks = bits-0-and-2 (r .hops) (hit .generic);
-      kind = λ h i j. absurd (i refl);
+      searched = λ h i j. absurd (i refl);
       record-found = λ h i. absurd (i refl);
       reason = λ h. absurd (h refl);
       in-range = no-distance (r .hops) (hit .generic);
@@ -68,12 +65,12 @@ fuzzy-zeros kind hit r =
       value = λ h i. refl;
     }
 
-found-zeros : (kind : ℕ) (f : Found) → Zeros (foundParts kind f)
-unfolding foundParts
-found-zeros kind found.None = plain-zeros 3 kind 0 0 false (λ h i j. absurd (j refl)) (λ h i. (refl, refl, refl))
-found-zeros kind (found.Exact hit) =
-    plain-zeros 1 kind (hit .label) (hit .number) (hit .generic) (λ h i j. absurd (h refl)) (λ h i. absurd (h refl))
-found-zeros kind (found.Fuzzy hit reason) = fuzzy-zeros kind hit reason
+found-zeros : (kind : ℕ) (f : Found) (examined : ℕ) → Zeros (foundParts kind f examined)
+found-zeros kind found.None examined =
+    plain-zeros 3 kind 0 0 examined false (λ h i j. absurd (j refl)) (λ h i. (refl, refl, refl))
+found-zeros kind (found.Exact hit) examined =
+    plain-zeros 1 kind (hit .label) (hit .number) examined (hit .generic) (λ h i j. absurd (h refl)) (λ h i. absurd (h refl))
+found-zeros kind (found.Fuzzy hit reason) examined = fuzzy-zeros kind hit reason examined
 
 -- Only refusals 7 and 10 return anything.
 packet-alone : (r : PacketRefusal) → (packetNumber r ≡ 7 → ⊥) → packetValue r ≡ 0
@@ -93,15 +90,15 @@ list-alone (bad.BadRecord i) h = absurd (h refl)
 
 -- Of every answer.
 pub zeros : (a : GatewayAnswer) → Zeros (partsOf a)
-unfolding packetParts refusedList
-zeros (GatewayAnswer.answered (packet.Syn f)) = found-zeros 1 f
-zeros (GatewayAnswer.answered (packet.SynAck f)) = found-zeros 2 f
-zeros (GatewayAnswer.answered packet.Nothing) = plain-zeros 4 0 0 0 false (λ h i j. refl) (λ h i. (refl, refl, refl))
+unfolding packetParts searchedParts refusedList
+zeros (GatewayAnswer.answered (packet.Syn s)) = found-zeros 1 (s .found) (s .examined)
+zeros (GatewayAnswer.answered (packet.SynAck s)) = found-zeros 2 (s .found) (s .examined)
+zeros (GatewayAnswer.answered packet.Nothing) = plain-zeros 4 0 0 0 0 false (λ h i j. (refl, refl)) (λ h i. (refl, refl, refl))
 zeros (GatewayAnswer.answered (packet.Refused r)) = refused-zeros (packetNumber r) (packetValue r) (λ h i. packet-alone r h)
 zeros (GatewayAnswer.list-refused r) = refused-zeros (listNumber r) (listValue r % 65536) (λ h i. list-alone r i)
 
 -- Of what is said of a list.
 pub list-zeros : (a : ListAnswer) → Zeros (listParts a)
 unfolding listParts
-list-zeros list.Good = plain-zeros 0 0 0 0 false (λ h i j. refl) (λ h i. (refl, refl, refl))
+list-zeros list.Good = plain-zeros 0 0 0 0 0 false (λ h i j. (refl, refl)) (λ h i. (refl, refl, refl))
 list-zeros (list.Refused r) = zeros (GatewayAnswer.list-refused r)

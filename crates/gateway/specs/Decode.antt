@@ -13,6 +13,7 @@ use Rattle.matching.specs.declared.Hops.the-variants as hops
 use Rattle.found.specs.declared.Hit.{Hit}
 use Rattle.found.specs.declared.Found.{Found}
 use Rattle.found.specs.declared.Found.the-variants as found
+use Rattle.found.specs.declared.Searched.{Searched}
 use Rattle.packet_answer.specs.declared.PacketAnswer.the-variants as packet
 use Rattle.gateway.specs.declared.TermreadResult.{TermreadResult}
 use Rattle.gateway.specs.Parts.{GatewayAnswer}
@@ -33,6 +34,9 @@ foundFrom a =
     cond (eqb (a .outcome) 1) (found.Exact (hitFrom a))
     (cond (eqb (a .outcome) 2) (found.Fuzzy (hitFrom a) (reasonFrom a)) found.None)
 
+abbrev pub searchedFrom : TermreadResult → Searched
+searchedFrom a = record { found = foundFrom a; examined = a .examined }
+
 -- A refusal of a packet or a list. No answer of a gateway has another; it would be read as a list's, since an answer it is not.
 abbrev pub refusedAs : Refusal → GatewayAnswer
 refusedAs r =
@@ -43,7 +47,7 @@ abbrev pub answerFrom : TermreadResult → GatewayAnswer
 answerFrom a =
     cond (eqb (a .outcome) 5) (refusedAs (refusalFrom (a .refusal) (a .value)))
     (cond (eqb (a .outcome) 4) (GatewayAnswer.answered packet.Nothing)
-    (GatewayAnswer.answered (cond (eqb (a .kind) 1) (packet.Syn (foundFrom a)) (packet.SynAck (foundFrom a)))))
+    (GatewayAnswer.answered (cond (eqb (a .kind) 1) (packet.Syn (searchedFrom a)) (packet.SynAck (searchedFrom a)))))
 
 -- What a lent byte string is: each of its numbers is a byte.
 abbrev pub AllBytes : List ℕ → Type 0

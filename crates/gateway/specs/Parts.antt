@@ -1,5 +1,5 @@
 -- An answer for C: a struct, whose field `outcome` alone tells exact, fuzzy and none apart. No two of its fields share a meaning, and a
--- field that an answer does not have is 0; so are, of every answer, `tolerated`, `examined` and the bits of `marks` but two.
+-- field that an answer does not have is 0; so are, of every answer, `tolerated` and the bits of `marks` but two.
 use Prim.Native.Nat.{ℕ, _+_, _%_}
 use mathlib.Core.Bool.{Bool, cond}
 use mathlib.Core.List.{List}
@@ -16,6 +16,7 @@ use Rattle.siglist.specs.List.{checkList}
 use Rattle.found.specs.declared.Hit.{Hit}
 use Rattle.found.specs.declared.Found.{Found}
 use Rattle.found.specs.declared.Found.the-variants as found
+use Rattle.found.specs.declared.Searched.{Searched}
 use Rattle.packet_answer.specs.declared.PacketAnswer.{PacketAnswer}
 use Rattle.packet_answer.specs.declared.PacketAnswer.the-variants as packet
 use Rattle.packet_answer.specs.Packet.{peerOf, answerOf, answerIn, packetVerdict}
@@ -24,9 +25,10 @@ use Rattle.gateway.specs.declared.TermreadResult.{TermreadResult}
 -- ---- the fields
 
 -- `outcome`: 1 exact, 2 fuzzy, 3 none, 4 nothing (neither SYN nor SYN+ACK), 5 refused; of a list 0, it is good. `kind`, of exact, fuzzy
--- and none: 1 SYN, 2 SYN+ACK. `label` and `number`, of exact and fuzzy: those of the record, which are counted from 0.
-abbrev pub plain : ℕ → ℕ → ℕ → ℕ → ℕ → TermreadResult
-plain outcome kind label number marks =
+-- and none: 1 SYN, 2 SYN+ACK. `label` and `number`, of exact and fuzzy: those of the record, which are counted from 0. `examined`, of
+-- exact, fuzzy and none: how many records the search examined (document 02, Wish 6).
+abbrev pub plain : ℕ → ℕ → ℕ → ℕ → ℕ → ℕ → TermreadResult
+plain outcome kind label number examined marks =
     record {
       outcome = outcome;
       kind = kind;
@@ -34,7 +36,7 @@ plain outcome kind label number marks =
       tolerated = 0;
       label = label;
       number = number;
-      examined = 0;
+      examined = examined;
       value = 0;
       added = 0;
       missing = 0;
@@ -75,8 +77,8 @@ abbrev pub marksOf : Hops → Bool → ℕ
 marksOf hops.InRange generic = genericMark generic
 marksOf (hops.OutOfRange d) generic = genericMark generic + 1
 
-abbrev pub fuzzy : ℕ → Hit → FuzzyReason → TermreadResult
-fuzzy kind hit reason =
+abbrev pub fuzzy : ℕ → Hit → FuzzyReason → ℕ → TermreadResult
+fuzzy kind hit reason examined =
     record {
       outcome = 2;
       kind = kind;
@@ -84,7 +86,7 @@ fuzzy kind hit reason =
       tolerated = 0;
       label = hit .label;
       number = hit .number;
-      examined = 0;
+      examined = examined;
       value = 0;
       added = bitsOf (reason .added) % 256;
       missing = bitsOf (reason .missing) % 256;
@@ -94,15 +96,19 @@ fuzzy kind hit reason =
 
 -- ---- the struct of an answer
 
-unfoldable pub foundParts : ℕ → Found → TermreadResult
-foundParts kind found.None = plain 3 kind 0 0 0
-foundParts kind (found.Exact hit) = plain 1 kind (hit .label) (hit .number) (genericMark (hit .generic))
-foundParts kind (found.Fuzzy hit reason) = fuzzy kind hit reason
+-- What a search found, and how many records it examined.
+abbrev pub foundParts : ℕ → Found → ℕ → TermreadResult
+foundParts kind found.None examined = plain 3 kind 0 0 examined 0
+foundParts kind (found.Exact hit) examined = plain 1 kind (hit .label) (hit .number) examined (genericMark (hit .generic))
+foundParts kind (found.Fuzzy hit reason) examined = fuzzy kind hit reason examined
+
+unfoldable pub searchedParts : ℕ → Searched → TermreadResult
+searchedParts kind s = foundParts kind (s .found) (s .examined)
 
 unfoldable pub packetParts : PacketAnswer → TermreadResult
-packetParts (packet.Syn f) = foundParts 1 f
-packetParts (packet.SynAck f) = foundParts 2 f
-packetParts packet.Nothing = plain 4 0 0 0 0
+packetParts (packet.Syn s) = searchedParts 1 s
+packetParts (packet.SynAck s) = searchedParts 2 s
+packetParts packet.Nothing = plain 4 0 0 0 0 0
 packetParts (packet.Refused r) = refused (packetNumber r) (packetValue r)
 
 unfoldable pub refusedList : ListRefusal → TermreadResult
@@ -133,7 +139,7 @@ gatewayIn mode p peer l = afterList (checkList l) (answerIn mode p (peerOf peer)
 
 -- Of a list: all 0 if it is well formed, or its refusal.
 unfoldable pub listParts : ListAnswer → TermreadResult
-listParts list.Good = plain 0 0 0 0 0
+listParts list.Good = plain 0 0 0 0 0 0
 listParts (list.Refused r) = refusedList r
 
 -- Which refusal of the table the answer is, if any.

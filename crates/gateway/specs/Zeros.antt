@@ -6,10 +6,9 @@ use Rattle.gateway.specs.declared.TermreadResult.{TermreadResult}
 pub record Zeros (a : TermreadResult) : Type 0 where
   -- In every answer: what later requests fill.
   pub tolerated : a .tolerated ≡ 0
-  pub examined : a .examined ≡ 0
   pub other-marks : (a .marks / 2 % 2 ≡ 0) × (a .marks < 8)
   -- Unless exact, fuzzy or none.
-  pub kind : (a .outcome ≡ 1 → ⊥) → (a .outcome ≡ 2 → ⊥) → (a .outcome ≡ 3 → ⊥) → a .kind ≡ 0
+  pub searched : (a .outcome ≡ 1 → ⊥) → (a .outcome ≡ 2 → ⊥) → (a .outcome ≡ 3 → ⊥) → (a .kind ≡ 0) × (a .examined ≡ 0)
   -- Unless exact or fuzzy.
   pub record-found : (a .outcome ≡ 1 → ⊥) → (a .outcome ≡ 2 → ⊥) → (a .label ≡ 0) × (a .number ≡ 0) × (a .marks ≡ 0)
   -- Unless fuzzy; and the hop distance unless the TTL is out of range.

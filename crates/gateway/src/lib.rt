@@ -4,12 +4,13 @@ ghost use Rattle.refusals.specs.Refusals.{packetNumber, packetValue};
 ghost use Rattle.siglist.specs.List.{checkList};
 ghost use Rattle.flow.specs.Modes.{modeOf};
 ghost use Rattle.packet_answer.specs.Packet.{peerOf, answerOf, answerIn};
-ghost use Rattle.gateway.specs.Parts.{plain, refused, hopsOf, genericMark, marksOf, fuzzy, foundParts, packetParts};
+ghost use Rattle.gateway.specs.Parts.{plain, refused, hopsOf, genericMark, marksOf, fuzzy, searchedParts, packetParts};
 ghost use Rattle.gateway.specs.Parts.{refusedList, partsOf, gatewayAnswer, gatewayIn, listParts};
 use flow::Mode;
 use flow::mode_of;
 use found::Found;
 use found::Hit;
+use found::Searched;
 use matching::FuzzyReason;
 use matching::Hops;
 use packet_answer::PacketAnswer;
@@ -47,8 +48,8 @@ pub struct TermreadResult {
 // The bit of `marks` that says that the record is generic.
 const GENERIC: u8 = 4;
 
-fn plain(outcome: u8, kind: u8, label: u16, number: u16, marks: u8) -> TermreadResult
-    ensures { λ r. ⌜ r ≡ plain outcome kind label number marks ⌝ }
+fn plain(outcome: u8, kind: u8, label: u16, number: u16, examined: u16, marks: u8) -> TermreadResult
+    ensures { λ r. ⌜ r ≡ plain outcome kind label number examined marks ⌝ }
 {
     TermreadResult {
         outcome,
@@ -57,7 +58,7 @@ fn plain(outcome: u8, kind: u8, label: u16, number: u16, marks: u8) -> TermreadR
         tolerated: 0,
         label,
         number,
-        examined: 0,
+        examined,
         value: 0,
         added: 0,
         missing: 0,
@@ -112,8 +113,8 @@ fn marks_of(hops: Hops, generic: bool) -> u8
     }
 }
 
-fn fuzzy(kind: u8, hit: Hit, reason: FuzzyReason) -> TermreadResult
-    ensures { λ r. ⌜ r ≡ fuzzy kind hit reason ⌝ }
+fn fuzzy(kind: u8, hit: Hit, reason: FuzzyReason, examined: u16) -> TermreadResult
+    ensures { λ r. ⌜ r ≡ fuzzy kind hit reason examined ⌝ }
 {
     let hops = reason.hops;
     let added = reason.added;
@@ -125,7 +126,7 @@ fn fuzzy(kind: u8, hit: Hit, reason: FuzzyReason) -> TermreadResult
         tolerated: 0,
         label: hit.label,
         number: hit.number,
-        examined: 0,
+        examined,
         value: 0,
         added: (added.bits() % 256) as u8,
         missing: (missing.bits() % 256) as u8,
@@ -135,18 +136,20 @@ fn fuzzy(kind: u8, hit: Hit, reason: FuzzyReason) -> TermreadResult
 }
 
 // A generic exact record leaves by a way of its own, so that on both ways the mark is a constant.
-fn found_parts(kind: u8, found: Found) -> TermreadResult
-    ensures { λ r. ⌜ r ≡ foundParts kind found ⌝ }
+fn searched_parts(kind: u8, searched: Searched) -> TermreadResult
+    ensures { λ r. ⌜ r ≡ searchedParts kind searched ⌝ }
 {
+    let examined = searched.examined;
+    let found = searched.found;
     match found {
-        Found::None => plain(3, kind, 0, 0, 0),
+        Found::None => plain(3, kind, 0, 0, examined, 0),
         Found::Exact(hit) => {
             if hit.generic {
-                return plain(1, kind, hit.label, hit.number, GENERIC);
+                return plain(1, kind, hit.label, hit.number, examined, GENERIC);
             }
-            plain(1, kind, hit.label, hit.number, 0)
+            plain(1, kind, hit.label, hit.number, examined, 0)
         }
-        Found::Fuzzy(hit, reason) => fuzzy(kind, hit, reason),
+        Found::Fuzzy(hit, reason) => fuzzy(kind, hit, reason, examined),
     }
 }
 
@@ -163,9 +166,9 @@ fn packet_parts(answer: PacketAnswer) -> TermreadResult
     ensures { λ r. ⌜ r ≡ packetParts answer ⌝ }
 {
     match answer {
-        PacketAnswer::Syn(found) => found_parts(1, found),
-        PacketAnswer::SynAck(found) => found_parts(2, found),
-        PacketAnswer::Nothing => plain(4, 0, 0, 0, 0),
+        PacketAnswer::Syn(searched) => searched_parts(1, searched),
+        PacketAnswer::SynAck(searched) => searched_parts(2, searched),
+        PacketAnswer::Nothing => plain(4, 0, 0, 0, 0, 0),
         PacketAnswer::Refused(refusal) => refused_packet(refusal),
     }
 }
@@ -194,7 +197,7 @@ pub extern "C" fn termread_check_list(list: &[u8]) -> TermreadResult
     ensures { λ r. ⌜ r ≡ listParts (checkList (now (list .entry))) ⌝ }
 {
     match check_list(list) {
-        ListAnswer::Good => plain(0, 0, 0, 0, 0),
+        ListAnswer::Good => plain(0, 0, 0, 0, 0, 0),
         ListAnswer::Refused(refusal) => refused_list(refusal),
     }
 }

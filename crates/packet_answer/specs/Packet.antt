@@ -13,7 +13,7 @@ use Rattle.flow.specs.declared.Mode.{Mode}
 use Rattle.flow.specs.declared.Reading.{Reading}
 use Rattle.flow.specs.Reading.{readPacket}
 use Rattle.flow.specs.Modes.{readIn}
-use Rattle.search.specs.Search.{searchAll}
+use Rattle.search.specs.Search.{searched}
 use Rattle.packet_answer.specs.declared.PacketAnswer.{PacketAnswer}
 use Rattle.packet_answer.specs.declared.PacketAnswer.the-variants as packet
 
@@ -23,8 +23,8 @@ peerOf n = cond (eqb n 0) mss.Absent (mss.Present n)
 
 -- A SYN or SYN+ACK is searched for in the list; nothing and a refusal stay what they are.
 abbrev pub judged : Answer → TcpObservation → List ℕ → PacketAnswer
-judged reading.Syn o l = packet.Syn (searchAll o l)
-judged reading.SynAck o l = packet.SynAck (searchAll o l)
+judged reading.Syn o l = packet.Syn (searched o l)
+judged reading.SynAck o l = packet.SynAck (searched o l)
 judged reading.Nothing o l = packet.Nothing
 judged (reading.Refused r) o l = packet.Refused r
 
@@ -41,7 +41,7 @@ answerIn mode p peer l = afterReading (readIn mode p peer) l
 
 -- Which refusal of the table the answer is, if any.
 abbrev pub packetVerdict : PacketAnswer → Verdict
-packetVerdict (packet.Syn f) = Verdict.accepted
-packetVerdict (packet.SynAck f) = Verdict.accepted
+packetVerdict (packet.Syn s) = Verdict.accepted
+packetVerdict (packet.SynAck s) = Verdict.accepted
 packetVerdict packet.Nothing = Verdict.accepted
 packetVerdict (packet.Refused r) = packetRefused r

@@ -1,18 +1,18 @@
-// The answer of a packet: what its search finds, nothing, or a refusal. Added by the port.
+// The answer of a packet: what its search answers, nothing, or a refusal. Added by the port.
 ghost use mathlib.Core.Path.{_≡_};
 ghost use Rattle.packet_answer.specs.Packet.{peerOf, answerOf, answerIn};
 use flow::Answer;
 use flow::Mode;
 use flow::read_packet_in;
-use found::Found;
+use found::Searched;
 use refusals::PacketRefusal;
 use search::search_checked;
 use tcp::Mss;
 
-// The answer of a packet: what its search finds, nothing, or a refusal 1 to 7 or 14.
+// The answer of a packet: what its search answers, nothing, or a refusal 1 to 7 or 14.
 pub enum PacketAnswer {
-    Syn(Found),
-    SynAck(Found),
+    Syn(Searched),
+    SynAck(Searched),
     Nothing,
     Refused(PacketRefusal),
 }
@@ -39,10 +39,10 @@ pub fn answer_packet_in(packet: &[u8], peer: Mss, list: &[u8], mode: Mode) -> Pa
         Answer::Refused(refusal) => PacketAnswer::Refused(refusal),
         Answer::Syn | Answer::SynAck => {
             let observation = reading.observation;
-            let found = search_checked(observation, list);
+            let searched = search_checked(observation, list);
             match answer {
-                Answer::Syn => PacketAnswer::Syn(found),
-                _ => PacketAnswer::SynAck(found),
+                Answer::Syn => PacketAnswer::Syn(searched),
+                _ => PacketAnswer::SynAck(searched),
             }
         }
     }

@@ -24,8 +24,8 @@ found-length (found.Fuzzy hit reason) =
 
 pub answer-length : (a : PacketAnswer) → length (answerText a) ≤ 18
 unfolding answerText
-answer-length (packet.Syn f) = omega (arith, length-append synWord (foundText f), found-length f)
-answer-length (packet.SynAck f) = omega (arith, length-append synackWord (foundText f), found-length f)
+answer-length (packet.Syn s) = omega (arith, length-append synWord (foundText (s .found)), found-length (s .found))
+answer-length (packet.SynAck s) = omega (arith, length-append synackWord (foundText (s .found)), found-length (s .found))
 answer-length packet.Nothing = omega arith
 answer-length (packet.Refused r) = omega (arith, length-append refusedWord (decimal (packetNumber r)), decimal-length (packetNumber r))
 

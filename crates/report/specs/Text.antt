@@ -51,8 +51,8 @@ foundText (found.Fuzzy hit reason) = fuzzyWord ++ decimal (hit .label)
 
 -- `syn exact 7`, `synack none`, `nothing`, `refused 2`, ..
 unfoldable pub answerText : PacketAnswer → List ℕ
-answerText (packet.Syn f) = synWord ++ foundText f
-answerText (packet.SynAck f) = synackWord ++ foundText f
+answerText (packet.Syn s) = synWord ++ foundText (s .found)
+answerText (packet.SynAck s) = synackWord ++ foundText (s .found)
 answerText packet.Nothing = nothingWord
 answerText (packet.Refused r) = refusedWord ++ decimal (packetNumber r)
 

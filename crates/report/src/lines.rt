@@ -48,11 +48,13 @@ pub(crate) fn put_line(page: &mut [u8], at: usize, answer: PacketAnswer) -> usiz
     ensures { λ r. ⌜ Put (now (page .entry)) at (lineOf answer) r (now (page .exit)) ⌝ }
 {
     match answer {
-        PacketAnswer::Syn(found) => {
+        PacketAnswer::Syn(searched) => {
+            let found = searched.found;
             let next = put_word(page, at, b"syn ");
             put_found(page, next, found)
         }
-        PacketAnswer::SynAck(found) => {
+        PacketAnswer::SynAck(searched) => {
+            let found = searched.found;
             let next = put_word(page, at, b"synack ");
             put_found(page, next, found)
         }

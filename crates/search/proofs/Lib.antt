@@ -1,5 +1,6 @@
+pub mod Examined
 pub mod Fits
 pub mod Order
-pub mod SearchOrder
 pub mod Rows
+pub mod SearchOrder
 pub mod Unique

@@ -13,13 +13,15 @@ use Rattle.matching.specs.Fit.{passes}
 use Rattle.found.specs.declared.Found.{Found}
 use Rattle.found.specs.declared.Found.the-variants as found
 use Rattle.found.specs.Least.{unranked, Place, nowhere, at, rankThere, prefer, leastFrom, firstLeast, numbersFrom}
+use Rattle.found.specs.Examined.{examinedOf}
 use Rattle.found.specs.Rank.{foundOf, rankOf}
+use Rattle.found.proofs.Examined.{ended-there}
 use Rattle.found.proofs.Least as least
 use Rattle.found.proofs.Rank.{exact-first}
 use Rattle.siglist.specs.declared.Areas.{Areas}
 use Rattle.siglist.specs.List.{recordAt, listFits, AreasFit}
 use Rattle.search.specs.Next.{Next}
-use Rattle.search.specs.Search.{fitAt, candidateAt, rankAt, foundAt, searchRow}
+use Rattle.search.specs.Search.{fitAt, hitAt, candidateAt, rankAt, foundAt, searchRow}
 use Rattle.search.proofs.Fits.{gate-fails}
 
 -- What does not fit comes last.
@@ -155,6 +157,15 @@ module _ (f : Features) (kinds bytes l : List ℕ) where
       → new ≡ Passed (r + 1)
   after a i r held new fits e next step =
       step ∙ ap (λ (h : Found). prefer rankOf h (candidateAt f kinds bytes l r)) (e ∙ skipped a i r fits next) ∙ one-record r
+
+  -- It ended the search at its position.
+  pub ended-at
+      : (size i : ℕ) (new : Found)
+      → new ≡ candidateAt f kinds bytes l i
+      → rankOf new ≡ 0
+      → examinedOf size new ≡ i + 1
+  unfolding candidateAt
+  ended-at size i new e zero = rw e (ended-there size (hitAt l i) (fitAt f kinds bytes l i) (ap rankOf (sym e) ∙ zero))
 
   pub first-best : (r n : ℕ) (new : Found) → r < n → new ≡ Passed (r + 1) → rankOf new ≡ 0 → new ≡ Passed n
   first-best r n new inside e zero = e ∙ ended (r + 1) n (omega arith) (ap rankOf (sym e) ∙ zero)

@@ -7,16 +7,16 @@ use denote.Ref.{RefT, now}
 use Rattle.basis.specs.Unique.{ExactlyOne}
 use Rattle.basis.proofs.Unique.{equation}
 use Rattle.observable.specs.declared.TcpObservation.{TcpObservation}
-use Rattle.found.specs.declared.Found.{Found}
+use Rattle.found.specs.declared.Searched.{Searched}
 use Rattle.search.specs.declared.SearchAnswer.{SearchAnswer}
-use Rattle.search.specs.Search.{searchAll, searchList}
+use Rattle.search.specs.Search.{searchList, searched}
 use Rattle.search.proofs.search.Reads as search'
 use Rattle.search.proofs.search_checked.Reads as search-checked'
 
 pub search-checked-one
     : (κs : Lfts 1) (observed : TcpObservation) (list : RefT (List ℕ))
-    → ExactlyOne Found (λ (r : Found). search-checked'.Post κs (observed, (list, tt)) r (observed, (list, tt)))
-search-checked-one κs observed list = equation (searchAll observed (now list))
+    → ExactlyOne Searched (λ (r : Searched). search-checked'.Post κs (observed, (list, tt)) r (observed, (list, tt)))
+search-checked-one κs observed list = equation (searched observed (now list))
 
 pub search-one
     : (κs : Lfts 1) (observed : TcpObservation) (list : RefT (List ℕ))

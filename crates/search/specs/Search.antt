@@ -1,6 +1,6 @@
 -- The search (document 02, Wish 3): "first specific exact, else first generic exact, else first fuzzy of either kind", else none
 -- (document 01, "The signature list"), as the first record of least rank. It goes over a row of record numbers; the plain search takes
--- 0, 1, .. to the last.
+-- 0, 1, .. to the last, and also answers how many records it examined (Wish 6).
 use Prim.Native.Nat.{ℕ}
 use mathlib.Core.Bool.{cond, _&&_}
 use mathlib.Core.List.{List}
@@ -13,6 +13,8 @@ use Rattle.matching.specs.Fit.{featuresOf, fitOf}
 use Rattle.found.specs.declared.Hit.{Hit}
 use Rattle.found.specs.declared.Found.{Found}
 use Rattle.found.specs.declared.Found.the-variants as found
+use Rattle.found.specs.declared.Searched.{Searched}
+use Rattle.found.specs.Examined.{searchedIn}
 use Rattle.found.specs.Least.{Place, nowhere, at, firstLeast, numbersFrom}
 use Rattle.found.specs.Rank.{foundOf, rankOf}
 use Rattle.refusals.specs.declared.Refusal.the-variants as refusal
@@ -22,7 +24,7 @@ use Rattle.siglist.specs.declared.ListAnswer.the-variants as list
 use Rattle.search.specs.declared.SearchAnswer.{SearchAnswer}
 use Rattle.search.specs.declared.SearchAnswer.the-variants as answer
 use Rattle.sigrecord.specs.Record.{signatureOf, entryCount, labelOf, isGeneric}
-use Rattle.siglist.specs.List.{recordCount, listFits, recordAt, entriesOf, recordGood, checkList}
+use Rattle.siglist.specs.List.{recordCount, sizeOf, listFits, recordAt, entriesOf, recordGood, checkList}
 
 -- How record i fits: what is not a well-formed record of the list does not fit.
 unfoldable pub fitAt : Features → List ℕ → List ℕ → List ℕ → ℕ → SignatureFit
@@ -62,17 +64,25 @@ searchOver is o l = searchRow (featuresOf o) (o .olayout .kinds) (o .olayout .by
 unfoldable pub searchAll : TcpObservation → List ℕ → Found
 searchAll o l = searchOver (numbersFrom 0 (recordCount l)) o l
 
+-- What the plain search answers: what it finds, and how many records it examined. By features, of a list that fits: its size is then what
+-- the header counts.
+abbrev pub searchedRecords : Features → List ℕ → List ℕ → List ℕ → Searched
+searchedRecords f kinds bytes l = searchedIn (recordCount l) (searchRecords f kinds bytes l)
+
+unfoldable pub searched : TcpObservation → List ℕ → Searched
+searched o l = searchedIn (sizeOf l) (searchAll o l)
+
 -- "a search [meets] 11, then 9, then 10"; 11: "observation's layout count over 40"
 abbrev pub afterListCheck : ListAnswer → TcpObservation → List ℕ → SearchAnswer
 afterListCheck (list.Refused r) o l = answer.List r
-afterListCheck list.Good o l = answer.Found (searchAll o l)
+afterListCheck list.Good o l = answer.Searched (searched o l)
 
 unfoldable pub searchList : TcpObservation → List ℕ → SearchAnswer
 searchList o l = cond (ltb 40 (o .olayout .count)) answer.LayoutTooLong (afterListCheck (checkList l) o l)
 
 -- Which refusal of the table the answer is, if any, and its number; 0 if it is none.
 abbrev pub searchVerdict : SearchAnswer → Verdict
-searchVerdict (answer.Found f) = Verdict.accepted
+searchVerdict (answer.Searched s) = Verdict.accepted
 searchVerdict answer.LayoutTooLong = Verdict.refused refusal.LayoutTooLong
 searchVerdict (answer.List r) = listRefused r
 

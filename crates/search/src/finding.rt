@@ -5,11 +5,14 @@ ghost use Rattle.matching.specs.Fit.{passes};
 ghost use Prim.Native.Nat.{_+_, _*_, _≤_, _<_};
 ghost use lib.ListN.{length};
 ghost use Rattle.siglist.specs.List.{recordAt, AreasFit};
+ghost use Rattle.found.specs.Examined.{searchedIn};
+ghost use Rattle.found.specs.Rank.{rankOf};
 ghost use Rattle.search.specs.Candidate.{holds};
 ghost use Rattle.search.specs.Next.{Next};
-ghost use Rattle.search.specs.Search.{candidateAt, searchRecords};
+ghost use Rattle.search.specs.Search.{candidateAt, searchedRecords};
 use found::Found;
 use found::Hit;
+use found::Searched;
 use found::found_of;
 use found::is_none;
 use found::rank_of;
@@ -96,30 +99,55 @@ pub(crate) fn next_candidate(observed: Features, list: &[u8], areas: Areas, from
     i
 }
 
-// The records in list order, with the first of least rank among those passed; one of rank 0, specific and exact, ends the search.
+// Every rank is less.
+const UNRANKED: u8 = 255;
+
+// What a search answers that no record ended: all were examined. One that holds nothing answers a constant, so that nothing that is held
+// need be read for it (docs/DECISIONS.md, 96).
+fn none_ended(held: Found, best: u8, size: u16) -> Searched
+    requires { ⌜ (best ≡ rankOf held) × (0 < best) ⌝ }
+    ensures { λ r. ⌜ r ≡ searchedIn size held ⌝ }
+{
+    if best == UNRANKED {
+        return Searched {
+            found: Found::None,
+            examined: size,
+        };
+    }
+    Searched {
+        found: held,
+        examined: size,
+    }
+}
+
+// The records in list order, with the first of least rank among those passed; one of rank 0, specific and exact, ends the search, and
+// its position, from one, is the count; else all were examined.
 pub(crate) fn search_records(
     observed: Features,
     kinds: &[u8; 40],
     bytes: &[u8; 40],
     list: &[u8],
     areas: Areas,
-) -> Found
+) -> Searched
     requires { ⌜ AreasFit (now list) areas ⌝ }
-    ensures { λ r. ⌜ r ≡ searchRecords observed (now (kinds .entry)) (now (bytes .entry)) (now (list .entry)) ⌝ }
+    ensures { λ r. ⌜ r ≡ searchedRecords observed (now (kinds .entry)) (now (bytes .entry)) (now (list .entry)) ⌝ }
 {
     let count = areas.records as usize;
     let mut held = Found::None;
-    let mut best: u8 = 255;
+    let mut best = UNRANKED;
     let mut i = 0;
     while i < count {
         i = next_candidate(observed, list, areas, i);
         if count <= i {
-            return held;
+            return none_ended(held, best, areas.records);
         }
         let found = candidate_at(observed, kinds, bytes, list, areas, i);
         let rank = rank_of(found);
         if rank == 0 {
-            return found;
+            return Searched {
+                found,
+                examined: i as u16 + 1,
+            };
         }
         if rank < best {
             held = found;
@@ -127,5 +155,5 @@ pub(crate) fn search_records(
         }
         i += 1;
     }
-    held
+    none_ended(held, best, areas.records)
 }

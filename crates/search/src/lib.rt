@@ -1,8 +1,9 @@
-// The search of a signature list (document 01, "The signature list"; document 02, Wish 3): added by the port.
+// The search of a signature list (document 01, "The signature list"; document 02, Wishes 3 and 6): added by the port.
 ghost use mathlib.Core.Path.{_≡_};
-ghost use Rattle.search.specs.Search.{searchAll, searchList};
+ghost use Rattle.search.specs.Search.{searched, searchList};
 use finding::search_records;
-pub use found::Found;
+use found::Found;
+use found::Searched;
 use matching::features_of;
 use observable::TcpObservation;
 use refusals::ListRefusal;
@@ -13,21 +14,26 @@ use siglist::read_header;
 
 mod finding;
 
-// A search's answer: what it finds, or why it or its list is refused.
+// A search's answer: what it finds and how many records it examined, or why it or its list is refused.
 pub enum SearchAnswer {
-    Found(Found),
+    Searched(Searched),
     LayoutTooLong,
     List(ListRefusal),
 }
 
-// The search of a list that was checked before. It is total: what is not a well-formed record of the list does not fit.
-pub fn search_checked(observed: TcpObservation, list: &[u8]) -> Found
-    ensures { λ r. ⌜ r ≡ searchAll observed (now (list .entry)) ⌝ }
+// The search of a list that was checked before. It is total: what is not a well-formed record of the list does not fit, and a list
+// that does not fit has no records. The observation's features come first: the list's areas are then not carried past them
+// (docs/DECISIONS.md, 96).
+pub fn search_checked(observed: TcpObservation, list: &[u8]) -> Searched
+    ensures { λ r. ⌜ r ≡ searched observed (now (list .entry)) ⌝ }
 {
-    let Header::Fits(areas) = read_header(list) else {
-        return Found::None;
-    };
     let features = features_of(observed);
+    let Header::Fits(areas) = read_header(list) else {
+        return Searched {
+            found: Found::None,
+            examined: 0,
+        };
+    };
     let layout = observed.olayout;
     let kinds = layout.kinds;
     let bytes = layout.bytes;
@@ -45,6 +51,6 @@ pub fn search(observed: TcpObservation, list: &[u8]) -> SearchAnswer
     }
     match check_list(list) {
         ListAnswer::Refused(refusal) => SearchAnswer::List(refusal),
-        ListAnswer::Good => SearchAnswer::Found(search_checked(observed, list)),
+        ListAnswer::Good => SearchAnswer::Searched(search_checked(observed, list)),
     }
 }

@@ -38,6 +38,10 @@ areaFits offset size l = leb (offset + size) (length l)
 unfoldable pub listFits : List ℕ → Bool
 listFits l = leb 8 (length l) && areaFits (recordsOffset l) (24 * recordCount l) l && areaFits (layoutOffset l) (2 * layoutCount l) l
 
+-- The size of a list: the records that its header counts, if they fit; else it has none.
+abbrev pub sizeOf : List ℕ → ℕ
+sizeOf l = cond (listFits l) (recordCount l) 0
+
 -- The four numbers of the header.
 unfoldable pub areasOf : List ℕ → Areas
 areasOf l =

@@ -9,6 +9,7 @@ use Rattle.basis.specs.Unique.{ExactlyOne}
 use Rattle.basis.proofs.Unique.{both, equation}
 use Rattle.text.specs.Written.{left-with}
 use Rattle.window_size.specs.declared.Multiplier.{Multiplier}
+use Rattle.flow.specs.declared.Answer.{Answer}
 use Rattle.flow.specs.declared.Reading.{Reading}
 use Rattle.witness.specs.declared.PlainLine.{PlainLine}
 use Rattle.witness.specs.declared.PlainObservation.{PlainObservation}
@@ -21,7 +22,7 @@ use Rattle.witness.specs.declared.PlainWalk.{PlainWalk}
 use Rattle.witness.specs.Lined.{lineRead}
 use Rattle.witness.specs.Taken.{hopsRead, searchRead}
 use Rattle.witness.specs.Walked.{walkRead}
-use Rattle.witness.specs.Written.{optionsRead, packetRead, plainPacket, ttlRead}
+use Rattle.witness.specs.Written.{answerNumber, optionsRead, packetRead, plainPacket, ttlRead}
 use Rattle.witness.proofs.witness_first_page.Reads as witness-first-page'
 use Rattle.witness.proofs.witness_hops.Reads as witness-hops'
 use Rattle.witness.proofs.witness_line.Reads as witness-line'
@@ -31,6 +32,7 @@ use Rattle.witness.proofs.witness_packet.Reads as witness-packet'
 use Rattle.witness.proofs.witness_search.Reads as witness-search'
 use Rattle.witness.proofs.witness_ttl.Reads as witness-ttl'
 use Rattle.witness.proofs.witness_walk.Reads as witness-walk'
+use Rattle.witness.proofs.written.answer_number.Reads as answer-number'
 use Rattle.witness.proofs.written.plain_packet.Reads as plain-packet'
 
 pub witness-packet-one
@@ -77,6 +79,9 @@ pub witness-next-page-one
     (λ (r : PlainProgress × List ℕ). witness-next-page'.Post κs (bundle, (progress, (page, (bits, tt)))) (r .0)
     (bundle, (progress, (left-with page (r .1), (bits, tt)))))
 witness-next-page-one κs bundle progress page bits = both _ _
+
+pub answer-number-one : (answer : Answer) → ExactlyOne ℕ (λ (r : ℕ). answer-number'.Post tt (answer, tt) r (answer, tt))
+answer-number-one answer = equation (answerNumber answer)
 
 pub plain-packet-one
     : (reading : Reading) (multiplier : Multiplier)

@@ -33,6 +33,7 @@ use Rattle.matching.specs.declared.Hops.{Hops}
 use Rattle.matching.specs.declared.Hops.the-variants as hops
 use Rattle.found.specs.declared.Found.{Found}
 use Rattle.found.specs.declared.Found.the-variants as found
+use Rattle.found.specs.declared.Searched.{Searched}
 use Rattle.refusals.specs.declared.Refusal.the-variants as refusal
 use Rattle.refusals.specs.Refusals.{number, packetValue, listValue}
 use Rattle.search.specs.declared.SearchAnswer.{SearchAnswer}
@@ -189,31 +190,33 @@ abbrev pub kindNumber : Bool → ℕ
 kindNumber generic = cond generic 1 0
 
 -- An answer without a reason.
-abbrev pub outcomeOf : ℕ → ℕ → ℕ → ℕ → ℕ → ℕ → PlainSearch
-outcomeOf outcome label number kind refusal bad =
+abbrev pub outcomeOf : ℕ → ℕ → ℕ → ℕ → ℕ → PlainSearch
+outcomeOf outcome label number kind examined =
     record {
       added = 0;
       missing = 0;
-      «bad_record» = bad;
+      «bad_record» = 0;
       label = label;
       number = number;
+      examined = examined;
       outcome = outcome;
-      refusal = refusal;
+      refusal = 0;
       far = 0;
       hops = 0;
       generic = kind;
     }
 
-unfoldable pub plainFound : Found → PlainSearch
-plainFound found.None = outcomeOf 3 0 0 0 0 0
-plainFound (found.Exact hit) = outcomeOf 1 (hit .label) (hit .number) (kindNumber (hit .generic)) 0 0
-plainFound (found.Fuzzy hit reason) =
+abbrev pub plainFound : Found → ℕ → PlainSearch
+plainFound found.None examined = outcomeOf 3 0 0 0 examined
+plainFound (found.Exact hit) examined = outcomeOf 1 (hit .label) (hit .number) (kindNumber (hit .generic)) examined
+plainFound (found.Fuzzy hit reason) examined =
     record {
       added = bitsOf (reason .added);
       missing = bitsOf (reason .missing);
       «bad_record» = 0;
       label = hit .label;
       number = hit .number;
+      examined = examined;
       outcome = 2;
       refusal = 0;
       far = hopsFar (reason .hops);
@@ -221,10 +224,29 @@ plainFound (found.Fuzzy hit reason) =
       generic = kindNumber (hit .generic);
     }
 
+unfoldable pub plainSearched : Searched → PlainSearch
+plainSearched s = plainFound (s .found) (s .examined)
+
+abbrev pub refusedSearch : ℕ → ℕ → PlainSearch
+refusedSearch refusal bad =
+    record {
+      added = 0;
+      missing = 0;
+      «bad_record» = bad;
+      label = 0;
+      number = 0;
+      examined = 0;
+      outcome = 5;
+      refusal = refusal;
+      far = 0;
+      hops = 0;
+      generic = 0;
+    }
+
 unfoldable pub plainSearch : SearchAnswer → PlainSearch
-plainSearch (search.Found f) = plainFound f
-plainSearch search.LayoutTooLong = outcomeOf 5 0 0 0 (number refusal.LayoutTooLong) 0
-plainSearch (search.List r) = outcomeOf 5 0 0 0 (number (refusal.List r)) (listValue r % 4294967296)
+plainSearch (search.Searched s) = plainSearched s
+plainSearch search.LayoutTooLong = refusedSearch (number refusal.LayoutTooLong) 0
+plainSearch (search.List r) = refusedSearch (number (refusal.List r)) (listValue r % 4294967296)
 
 -- ---- the output of a bundle
 

@@ -113,6 +113,7 @@ pub struct PlainSearch {
     pub bad_record: u32,
     pub label: u16,
     pub number: u16,
+    pub examined: u16,
     pub outcome: u8,
     pub refusal: u8,
     pub far: u8,

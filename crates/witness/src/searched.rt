@@ -1,8 +1,9 @@
 // What a search answers, as a struct of numbers.
 ghost use mathlib.Core.Path.{_≡_};
-ghost use Rattle.witness.specs.Written.{hopsFar, hopsNumber, kindNumber, outcomeOf, plainFound, plainSearch};
+ghost use Rattle.witness.specs.Written.{hopsFar, hopsNumber, kindNumber, outcomeOf, plainSearched, refusedSearch, plainSearch};
 use crate::PlainSearch;
 use found::Found;
+use found::Searched;
 use matching::Hops;
 use refusals::Refusal;
 use refusals::list_value;
@@ -34,36 +35,38 @@ fn kind_number(generic: bool) -> u8
 }
 
 // An answer without a reason.
-fn outcome_of(
-    outcome: u8,
-    label: u16,
-    number: u16,
-    generic: u8,
-    refusal: u8,
-    bad_record: u32,
-) -> PlainSearch
-    ensures { λ r. ⌜ r ≡ outcomeOf outcome label number generic refusal «bad_record» ⌝ }
+fn outcome_of(outcome: u8, label: u16, number: u16, generic: u8, examined: u16) -> PlainSearch
+    ensures { λ r. ⌜ r ≡ outcomeOf outcome label number generic examined ⌝ }
 {
     PlainSearch {
         added: 0,
         missing: 0,
-        bad_record,
+        bad_record: 0,
         label,
         number,
+        examined,
         outcome,
-        refusal,
+        refusal: 0,
         far: 0,
         hops: 0,
         generic,
     }
 }
 
-fn plain_found(found: Found) -> PlainSearch
-    ensures { λ r. ⌜ r ≡ plainFound found ⌝ }
+fn plain_searched(searched: Searched) -> PlainSearch
+    ensures { λ r. ⌜ r ≡ plainSearched searched ⌝ }
 {
+    let found = searched.found;
+    let examined = searched.examined;
     match found {
-        Found::None => outcome_of(3, 0, 0, 0, 0, 0),
-        Found::Exact(hit) => outcome_of(1, hit.label, hit.number, kind_number(hit.generic), 0, 0),
+        Found::None => outcome_of(3, 0, 0, 0, examined),
+        Found::Exact(hit) => outcome_of(
+            1,
+            hit.label,
+            hit.number,
+            kind_number(hit.generic),
+            examined,
+        ),
         Found::Fuzzy(hit, reason) => {
             let hops = reason.hops;
             let added = reason.added;
@@ -74,6 +77,7 @@ fn plain_found(found: Found) -> PlainSearch
                 bad_record: 0,
                 label: hit.label,
                 number: hit.number,
+                examined,
                 outcome: 2,
                 refusal: 0,
                 far: hops_far(hops),
@@ -84,22 +88,33 @@ fn plain_found(found: Found) -> PlainSearch
     }
 }
 
+fn refused_search(refusal: u8, bad_record: u32) -> PlainSearch
+    ensures { λ r. ⌜ r ≡ refusedSearch refusal «bad_record» ⌝ }
+{
+    PlainSearch {
+        added: 0,
+        missing: 0,
+        bad_record,
+        label: 0,
+        number: 0,
+        examined: 0,
+        outcome: 5,
+        refusal,
+        far: 0,
+        hops: 0,
+        generic: 0,
+    }
+}
+
 pub(crate) fn plain_search(answer: SearchAnswer) -> PlainSearch
     ensures { λ r. ⌜ r ≡ plainSearch answer ⌝ }
 {
     match answer {
-        SearchAnswer::Found(found) => plain_found(found),
-        SearchAnswer::LayoutTooLong => outcome_of(
-            5,
-            0,
-            0,
-            0,
-            refusal_number(Refusal::LayoutTooLong),
-            0,
-        ),
+        SearchAnswer::Searched(searched) => plain_searched(searched),
+        SearchAnswer::LayoutTooLong => refused_search(refusal_number(Refusal::LayoutTooLong), 0),
         SearchAnswer::List(why) => {
             let refusal = refusal_number(Refusal::List(why));
-            outcome_of(5, 0, 0, 0, refusal, (list_value(why) % 4294967296) as u32)
+            refused_search(refusal, (list_value(why) % 4294967296) as u32)
         }
     }
 }

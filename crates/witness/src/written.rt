@@ -159,7 +159,7 @@ fn plain_observation(o: TcpObservation, multiplier: Multiplier) -> PlainObservat
 
 // ---- a packet
 
-fn answer_number(answer: Answer) -> u8
+pub fn answer_number(answer: Answer) -> u8
     ensures { λ r. ⌜ r ≡ answerNumber answer ⌝ }
 {
     match answer {

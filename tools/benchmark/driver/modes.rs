@@ -54,7 +54,7 @@ pub fn all(lines: &[&str]) {
     let list = list_of(lines).bytes;
     for (name, packet) in [("Linux", &LINUX[..]), ("Windows", &WINDOWS[..])] {
         // What is to be found was compared with the original before: none, exact, fuzzy, as crates/counted numbers them.
-        let found = [NONE, EXACT, FUZZY][port::answer(packet, 0, &list) as usize / 65536 - 1];
+        let found = [NONE, EXACT, FUZZY][port::parts(port::answer(packet, 0, &list)).0 as usize / 65536 - 1];
         checked(&alike(&format!("answer: {name} SYN, 91 records in p0f's order"), packet, 0, (found, 0)), &list);
     }
 }

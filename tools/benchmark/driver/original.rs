@@ -56,6 +56,14 @@ pub fn number(found: &Found) -> u64 {
     }
 }
 
+/// How many records a search that found this examined: up to a specific exact one, else all.
+pub fn examined(found: &Found, generic: &[bool]) -> u64 {
+    match found {
+        Some((i, SignatureFit::Exact)) if !generic[*i] => *i as u64 + 1,
+        _ => generic.len() as u64,
+    }
+}
+
 #[inline(always)]
 pub fn answer(packet: &[u8], tracker: &mut ConnectionTracker, signatures: &[Signature]) -> Found {
     let seen = observation(observe(packet, tracker)?)?;

@@ -68,6 +68,7 @@ unsafe extern "C" {
     fn counted_line(line: *const u8, size: usize) -> Line;
     fn counted_observe(packet: *const u8, size: usize, peer: u16) -> Reading;
     fn counted_observe_in(packet: *const u8, size: usize, peer: u16, mode: u8) -> Reading;
+    fn counted_read(packet: *const u8, size: usize, peer: u16) -> u8;
     fn counted_answer(packet: *const u8, size: usize, peer: u16, list: *const u8, length: usize) -> u64;
     fn termread_answer(packet: *const u8, size: usize, peer: u16, list: *const u8, length: usize) -> Given;
     fn termread_answer_in(packet: *const u8, size: usize, peer: u16, list: *const u8, length: usize, mode: u8) -> Given;
@@ -87,9 +88,26 @@ pub fn observe_in(packet: &[u8], peer: u16, mode: u8) -> Reading {
     unsafe { counted_observe_in(packet.as_ptr(), packet.len(), peer, mode) }
 }
 
+/// The reading alone, of which the answer is handed on. Without the feature `reads`, for archives of an earlier commit, followed by the
+/// search of an empty string, which ended there before it looked at the observation.
+#[inline(always)]
+pub fn read(packet: &[u8], peer: u16) -> u64 {
+    if cfg!(feature = "reads") {
+        u64::from(unsafe { counted_read(packet.as_ptr(), packet.len(), peer) })
+    } else {
+        answer(packet, peer, &[])
+    }
+}
+
 #[inline(always)]
 pub fn answer(packet: &[u8], peer: u16, list: &[u8]) -> u64 {
     unsafe { counted_answer(packet.as_ptr(), packet.len(), peer, list.as_ptr(), list.len()) }
+}
+
+/// An answer's parts: what was found, as `original::number` has it, and how many records were examined, which is 0 in the archives of
+/// an earlier commit.
+pub fn parts(answer: u64) -> (u64, u64) {
+    (answer % 262144, answer / 262144)
 }
 
 #[inline(always)]

@@ -38,11 +38,10 @@ fn observation(row: &str, packet: &[u8]) {
     measure(row, "port", '+', || read_only(packet, 0));
 }
 
-/// The port's reading, left as it is: the search of an empty list ends before it looks at the observation, and the reader is a
-/// function of its own in the archive, so that nothing of it is left out.
+/// The port's reading, left as it is: the reader is a function of its own in the archive, so that nothing of it is left out.
 #[inline(always)]
 fn read_only(packet: &[u8], peer: u16) {
-    black_box(port::answer(black_box(packet), black_box(peer), black_box(&[])));
+    black_box(port::read(black_box(packet), black_box(peer)));
 }
 
 /// The reading written out as numbers, in a struct that C can read. The original has no such form: its side is its own struct.
@@ -141,7 +140,7 @@ fn record_more(name: &str, kind: u64, packet: &[u8], line: &str) {
     let row = &format!("fit: {name}");
     let (two, one) = (list_of(&[FIRST, line]), list_of(&[FIRST]));
     let observed = seen(packet, &mut ConnectionTracker::new(1));
-    assert_eq!(same_answer(packet, &two) / 65536, kind, "{row}");
+    assert_eq!(same_answer(row, packet, &two) / 65536, kind, "{row}");
     for (sign, list) in [('+', &two), ('-', &one)] {
         measure(row, "original", sign, || {
             drop(black_box(original::find(black_box(&list.signatures), black_box(&observed))));
@@ -157,7 +156,7 @@ fn alone(name: &str, kind: u64, packet: &[u8], line: &str) {
     let row = &format!("lone fit: {name}");
     let list = list_of(&[line]);
     let observed = seen(packet, &mut ConnectionTracker::new(1));
-    assert_eq!(same_answer(packet, &list) / 65536, kind, "{row}");
+    assert_eq!(same_answer(row, packet, &list) / 65536, kind, "{row}");
     measure(row, "original", '+', || {
         drop(black_box(fit(black_box(&list.signatures[0]), black_box(&observed))));
     });
@@ -185,8 +184,7 @@ fn searches(lines: &[&str], kinds: &[bool]) {
 
 fn search_by_kind(row: &str, list: &List) {
     let observed = seen(&LINUX, &mut ConnectionTracker::new(1));
-    let expected = original::number(&original::find_by_kind(&list.signatures, &list.generic, &observed));
-    assert_eq!(expected, port::answer(&LINUX, 0, &list.bytes), "{row}");
+    same_found(row, &original::find_by_kind(&list.signatures, &list.generic, &observed), &LINUX, list);
     measure(row, "original", '+', || {
         drop(black_box(original::find_by_kind(black_box(&list.signatures), black_box(&list.generic), black_box(&observed))));
     });
@@ -204,14 +202,14 @@ fn parted<'a>(lines: &[&'a str]) -> (&'a str, Vec<&'a str>) {
 
 fn search(row: &str, list: &List) {
     let observed = seen(&LINUX, &mut ConnectionTracker::new(1));
-    same_answer(&LINUX, list);
+    same_answer(row, &LINUX, list);
     measure(row, "original", '+', || {
         drop(black_box(original::find(black_box(&list.signatures), black_box(&observed))));
     });
     found(row, &LINUX, &list.bytes);
 }
 
-/// The port's search: from a packet to its answer, less the same with an empty list, so that the reading is taken off.
+/// The port's search: from a packet to its answer, less the reading alone.
 fn found(row: &str, packet: &[u8], list: &[u8]) {
     measure(row, "port", '+', || {
         black_box(port::answer(black_box(packet), black_box(0), black_box(list)));
@@ -219,10 +217,17 @@ fn found(row: &str, packet: &[u8], list: &[u8]) {
     measure(row, "port", '-', || read_only(packet, 0));
 }
 
-fn same_answer(packet: &[u8], list: &List) -> u64 {
-    let found = original::answer(packet, &mut ConnectionTracker::new(1), &list.signatures);
-    let number = original::number(&found);
-    assert_eq!(number, port::answer(packet, 0, &list.bytes));
+fn same_answer(row: &str, packet: &[u8], list: &List) -> u64 {
+    same_found(row, &original::answer(packet, &mut ConnectionTracker::new(1), &list.signatures), packet, list)
+}
+
+/// What was found, which must be the same on both sides, and so must the count: an archive that has `counted_read` gives one.
+fn same_found(row: &str, found: &original::Found, packet: &[u8], list: &List) -> u64 {
+    let (number, examined) = port::parts(port::answer(packet, 0, &list.bytes));
+    assert_eq!(original::number(found), number, "{row}");
+    if cfg!(feature = "reads") {
+        assert_eq!(original::examined(found, &list.generic), examined, "{row}: records examined");
+    }
     number
 }
 
@@ -240,7 +245,7 @@ fn answers(lines: &[&str]) {
 
 fn answer(row: &str, packet: &[u8], list: &List) {
     let mut tracker = ConnectionTracker::new(1);
-    same_answer(packet, list);
+    same_answer(row, packet, list);
     measure(row, "original", '+', || {
         drop(black_box(original::answer(black_box(packet), &mut tracker, black_box(&list.signatures))));
     });

@@ -28,6 +28,7 @@ typedef struct {
     uint64_t quirks[32], divisors[13], ttl_forms[4], reasons[5];
     uint64_t fuzzy_kinds[2]; /* of fuzzy answers: by a specific record, by a generic one */
     uint64_t passed[3];      /* specific exact behind a generic exact one, behind a fuzzy one; generic exact behind a fuzzy one */
+    uint64_t examined[4];    /* searches that count fewer records than the list has, all; of these ended by the last, of an empty list */
     uint64_t replaced[ANSWERS]; /* packets by their plain answer, where the strict one is 14 */
     uint64_t damaged[ANSWERS];  /* packets by their plain answer, where the strict walk stops */
     Difference *differences[KINDS][NUMBERS];

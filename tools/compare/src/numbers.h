@@ -7,6 +7,7 @@
             5 place of the first option past the end   6 of the first of a short length (65536 + offset, 0 if there is none)
    search   0 answer (65536 none, 131072 + label exact, 196608 + label fuzzy, or the refusal)
             1 index of refusal 10   2 hops   3 added   4 missing   5 the number of the record, from 0   6 whether it is generic
+            7 how many records were examined: up to the specific exact one that ended the search, else all; 0 beside a refusal
    line     0 answer (1 read, 13 refused)   1 offset   2 to 4 the record   20 to 30 layout
    hops     0 the hop distance that is reported for two TTLs of three bytes
    ttl      0 the form of a byte's reading (0 value, 1 distance, 3 bad)   1 its byte   2 its distance   3 the byte's guess */

@@ -111,7 +111,8 @@ static void found_numbers(int sort, const uint8_t fit[14], const uint8_t *record
     out->n[4] = be32_at(fit + 10);
 }
 
-/* "first specific exact, else first generic exact, else first fuzzy of either kind", else none, over single fits. */
+/* "first specific exact, else first generic exact, else first fuzzy of either kind", else none, over single fits; and "the position of the
+   specific exact record that ended it, counted from one, or the size of the list if none did". */
 int oracle_search(const uint8_t *o, const uint8_t *list, size_t size, Numbers *out) {
     size_t index;
     Firsts firsts;
@@ -121,6 +122,7 @@ int oracle_search(const uint8_t *o, const uint8_t *list, size_t size, Numbers *o
     out->n[0] = refused ? (unsigned)refused : 65536;
     if (refused) return 0;
     if (find_firsts(o, list, &firsts)) return out->n[0] = 99, 0;
+    out->n[7] = firsts.at[SPECIFIC] < 0 ? be16_at(list) : (uint64_t)firsts.at[SPECIFIC] + 1;
     for (sort = 0; sort < SORTS && firsts.at[sort] < 0; sort++) {}
     if (sort == SORTS) return 0;
     out->n[5] = (uint64_t)firsts.at[sort];

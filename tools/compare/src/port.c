@@ -86,6 +86,7 @@ void port_search(const uint8_t *observation, const uint8_t *list, size_t size, N
     out->n[4] = read.missing;
     out->n[5] = read.number;
     out->n[6] = read.generic;
+    out->n[7] = read.examined;
 }
 
 void port_hops(const uint8_t ttls[6], Numbers *out) {

@@ -136,6 +136,7 @@ static void report_counts(void) {
     row("fuzzy with hops, added ecn, added id-, missing df, missing id+", counts.reasons, 5);
     row("fuzzy by a specific record, by a generic one", counts.fuzzy_kinds, 2);
     row("specific exact behind a generic exact one, behind a fuzzy one; generic exact behind a fuzzy one", counts.passed, 3);
+    row("examined fewer records than the list has, all of them; of these ended by the last, of an empty list", counts.examined, 4);
 }
 
 uint64_t report(void) {

@@ -93,7 +93,8 @@ static void write_search_answer(const Numbers *answer) {
     case 0:
         printf("refused %u", label);
         if (label == 10) printf(" %" PRIu64, answer->n[1]);
-        break;
+        putchar('\n');
+        return;
     case 1: fputs("none", stdout); break;
     case 2: printf("exact %u at=%u", label, number); break;
     case 3:
@@ -102,7 +103,7 @@ static void write_search_answer(const Numbers *answer) {
         printf(" added=0x%08" PRIX32 " missing=0x%08" PRIX32, (uint32_t)answer->n[3], (uint32_t)answer->n[4]);
         break;
     }
-    putchar('\n');
+    printf(" count=%" PRIu64 "\n", answer->n[7]);
 }
 
 static void offer_search(const uint8_t *o, const uint8_t *list, size_t size, int place) {

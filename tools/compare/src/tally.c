@@ -145,11 +145,19 @@ static void count_found(const Numbers *found, int passed) {
     counts.reasons[4] += found->n[4] >> 2 & 1;
 }
 
+static void count_examined(const Numbers *found, unsigned records) {
+    counts.examined[0] += found->n[7] < records;
+    counts.examined[1] += found->n[7] == records;
+    counts.examined[2] += found->n[7] == records && found->n[0] / 65536 == 2 && found->n[6] == 0;
+    counts.examined[3] += records == 0;
+}
+
 Numbers try_search(const uint8_t *o, const uint8_t *list, size_t size) {
     Numbers port, original;
     uint8_t input[MOST];
     int passed = oracle_search(o, list, size, &original);
     count_found(&original, passed);
+    if (original.n[0] >= 65536) count_examined(&original, be16_at(list));
     port_search(o, list, size, &port);
     if (size > MOST - OBSERVATION) size = MOST - OBSERVATION;
     memcpy(input, o, OBSERVATION);

@@ -11,7 +11,7 @@ returns c =
       ← c .before .before .before .before .peer-of .ensures,
       ← c .before .before .before .read-packet-in .ensures,
       ← c .before .search-checked .ensures,
-      ← c .found-code .ensures,
+      ← c .searched-code .ensures,
     )
 
 pub counted-answer-spec : {M : Type 1} → statement M

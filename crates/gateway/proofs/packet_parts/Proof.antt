@@ -5,11 +5,11 @@ use Rattle.gateway.proofs.packet_parts.Tie as tie
 
 returns : tie.Need-returns
 unfolding packetParts
-returns c = rw (c .before .before .answer .given .1, c .found-parts .ensures)
+returns c = rw (c .before .before .answer .given .1, c .searched-parts .ensures)
 
 returns-2 : tie.Need-returns-2
 unfolding packetParts
-returns-2 c = rw (c .before .before .answer2 .given .1, c .found-parts2 .ensures)
+returns-2 c = rw (c .before .before .answer2 .given .1, c .searched-parts2 .ensures)
 
 returns-3 : tie.Need-returns-3
 unfolding packetParts

@@ -1,9 +1,11 @@
 -- `search::search_records` meets its contract.
-use Rattle.search.proofs.Rows.{at-start, skipped, after, first-best}
+use Rattle.search.proofs.Rows.{at-start, skipped, after, ended-at, first-best}
 use Rattle.search.specs.Search.{searchRow}
 use Rattle.siglist.specs.List.{recordCount, AreasFit}
 use Rattle.found.specs.Least.{numbersFrom}
 use Rattle.found.specs.Rank.{rankOf}
+use Rattle.found.specs.Examined.{searchedIn}
+use Rattle.found.proofs.Examined.{answers}
 use Rattle.found.proofs.Rank.{taken, left}
 use Prim.Native.Nat.{_-_, _≤_, _<_}
 use native.Mathlib.Omega.{arith}
@@ -26,11 +28,13 @@ loop-holds c = (search needs, refl, c .before .before .pre, at-start _ _ _ _, re
 
 returns : tie.Need-returns Inv-loop μ-loop
 returns c =
-    let l = c .before .before .before .loop in
-    let next = c .before .next-candidate in
+    let l = c .before .before .before .before .loop in
+    let next = c .before .before .next-candidate in
     let within = next .ensures .within in
-    let end : next .result ≡ recordCount (c .before .before .before .before .before .before .args .list .now) = omega arith in
-    rw (← end) (l .inv .3 ∙ skipped _ _ _ _ _ _ _ (l .inv .2) (next .ensures))
+    let size = recordCount (c .before .before .before .before .before .before .before .args .list .now) in
+    let end : next .result ≡ size = omega arith in
+    c .none-ended .ensures
+    ∙ rw (l .inv .2 .records, ← end) (ap (searchedIn _) (l .inv .3 ∙ skipped _ _ _ _ _ _ _ (l .inv .2) (next .ensures)))
 
 candidate-at-requires : tie.Need-candidate-at-requires Inv-loop μ-loop
 candidate-at-requires c κs =
@@ -45,11 +49,14 @@ returns-2 c =
     let next = at-next .before .next-candidate in
     let l = at-next .before .before .before .loop in
     let zero = sym (rank .ensures) ∙ c .if2 .taken in
-    rw (← l .inv .2 .records)
+    let size = recordCount (at-next .before .before .before .before .before .before .args .list .now) in
+    answers size _ _ _
+    (rw (← l .inv .2 .records)
     (first-best _ _ _ _ (next .result) _ _ (at-next .if1 .left)
     (after _ _ _ _ _ (l .i) _ _ _ (l .inv .2) (l .inv .3) (next .ensures)
     (taken (l .held) (found .result) _ _ _ (found .ensures) (l .inv .4) (rank .ensures) (omega (arith, c .if2 .taken, l .inv .5))))
-    zero)
+    zero))
+    (search needs ∙ sym (ended-at _ _ _ _ size (next .result) (found .result) (found .ensures) zero))
 
 loop-again : tie.Need-loop-again Inv-loop μ-loop
 loop-again c =
@@ -72,12 +79,14 @@ loop-again c =
 
 returns-3 : tie.Need-returns-3 Inv-loop μ-loop
 returns-3 c =
-    let l = c .before .loop in
-    let end : l .i ≡ recordCount (c .before .before .before .before .args .list .now) = omega arith in
-    rw (← end) (l .inv .3)
+    let l = c .before .before .loop in
+    let size = recordCount (c .before .before .before .before .before .args .list .now) in
+    let end : l .i ≡ size = omega arith in
+    c .none-ended2 .ensures ∙ rw (l .inv .2 .records, ← end) (ap (searchedIn _) (l .inv .3))
 
 pub search-records-spec : {M : Type 1} → statement M
 search-records-spec =
     tie.close
-    (tie.spec Inv-loop μ-loop (λ c. search needs) loop-holds (λ c κs. search needs) returns candidate-at-requires
-    (λ c κs. search needs) returns-2 (λ c. search needs) (λ c. search needs) loop-again returns-3)
+    (tie.spec Inv-loop μ-loop (λ c. search needs) loop-holds (λ c κs. search needs) (λ c κs. search needs) returns candidate-at-requires
+    (λ c κs. search needs) (λ c. search needs) (λ c. search needs) returns-2 (λ c. search needs) (λ c. search needs) loop-again
+    (λ c κs. search needs) returns-3)

@@ -6,11 +6,11 @@ use Rattle.witness.proofs.searched.plain_search.Tie as tie
 
 returns : tie.Need-returns
 unfolding plainSearch
-returns c = simp (c .before .before .answer .given .1, ← c .plain-found .ensures)
+returns c = simp (c .before .before .answer .given .1, ← c .plain-searched .ensures)
 
 returns-2 : tie.Need-returns-2
 unfolding plainSearch
-returns-2 c = simp (c .before .before .enum-told .given .1, ← c .before .refusal-number .ensures, ← c .outcome-of .ensures)
+returns-2 c = simp (c .before .before .enum-told .given .1, ← c .before .refusal-number .ensures, ← c .refused-search .ensures)
 
 returns-3 : tie.Need-returns-3
 unfolding plainSearch
@@ -22,7 +22,7 @@ returns-3 c =
       at-answer2 .answer2 .given .1,
       ← at-refusal-number2 .refusal-number2 .ensures,
       ← at-list-value .list-value .ensures,
-      ← c .outcome-of2 .ensures,
+      ← c .refused-search2 .ensures,
     )
 
 pub plain-search-spec : {M : Type 1} → statement M
