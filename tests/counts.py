@@ -11,12 +11,14 @@ def printed(answer):
     return " ".join(bare(answer).split(" ")[:2])
 
 
-def counted(line, answer):
-    """What is found, with the count that the record and the list of the line give: up to a specific exact one, else all."""
-    found, data = bare(answer), bytes.fromhex(line.split(" | ")[1])
+def examined(data, exact=None):
+    """How many records of a list's bytes: up to the exact one that was found, by its number, if it is specific; else all."""
     count, at = (int.from_bytes(data[k:k + 2], "big") for k in (0, 2))
-    if found.startswith("exact"):
-        number = int(found.split(" at=")[1])
-        if data[at + 24 * number + 21] == 0:
-            count = number + 1
-    return f"{found} count={count}"
+    return exact + 1 if exact is not None and data[at + 24 * exact + 21] == 0 else count
+
+
+def counted(line, answer):
+    """What is found, with the count that the record and the list of the line give."""
+    found, data = bare(answer), bytes.fromhex(line.split(" | ")[1])
+    exact = int(found.split(" at=")[1]) if found.startswith("exact") else None
+    return f"{found} count={examined(data, exact)}"

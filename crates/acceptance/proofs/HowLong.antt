@@ -1,10 +1,8 @@
 -- How many records a search examined, by the list's records alone.
-use mathlib.Core.Path.{_≡_, refl, sym, _∙_}
+use mathlib.Core.Path.{_≡_, refl, ap}
 use mathlib.Core.Bool.{Bool, true, false, cond}
 use mathlib.Core.List.{List}
-use mathlib.Core.Logic.{inl, inr}
 use Prim.Native.Nat.{ℕ, _+_, _<_}
-use native.Mathlib.Decide.{decLe}
 use native.Mathlib.Omega.{arith}
 use Rattle.observable.specs.declared.TcpObservation.{TcpObservation}
 use Rattle.matching.specs.Fit.{featuresOf}
@@ -23,7 +21,7 @@ use Rattle.gateway.specs.Parts.{GatewayAnswer, foundParts, searchedParts, packe
 use Rattle.acceptance.specs.Outcome.{SpecificExact, Outcome}
 use Rattle.acceptance.specs.Honesty.{checkedAnswer}
 use Rattle.acceptance.specs.HowLong.{Examined, ended-by, none-ended-it, ByOutcome, countOf, HowLong}
-use Rattle.acceptance.proofs.Outcome.{exact-none, is-specific, found-outcome, not-refused}
+use Rattle.acceptance.proofs.Outcome.{exact-none, level, is-specific, found-outcome, of-kind-specific, of-kind-generic, not-refused}
 
 module _ (o : TcpObservation) (l : List ℕ) where
   -- A record that fits is one of those that the list has, and those are no more than its header counts.
@@ -42,10 +40,10 @@ module _ (o : TcpObservation) (l : List ℕ) where
       → hit .generic ≡ generic
       → Outcome o l (found.Exact hit)
       → Examined o l (cond generic (sizeOf l) (hit .number + 1))
-  by-kind hit false kind (inl a) = ended-by (sized (hit .number) (is-specific o l a)) (is-specific o l a) (a .first)
-  by-kind hit true kind (inl a) = let z : true ≡ false = sym kind ∙ a .specific in let y : _≡_ {A = ℕ} 0 1 = cc in absurd (omega arith)
-  by-kind hit true kind (inr a) = none-ended-it (λ i inside. a .no-specific i (counted i inside))
-  by-kind hit false kind (inr a) = let z : false ≡ true = sym kind ∙ a .generic in let y : _≡_ {A = ℕ} 0 1 = cc in absurd (omega arith)
+  by-kind hit false kind out =
+      let a = of-kind-specific o l hit kind out in
+      ended-by (sized (hit .number) (is-specific o l a)) (is-specific o l a) (a .first)
+  by-kind hit true kind out = none-ended-it (λ i inside. of-kind-generic o l hit kind out .no-specific i (counted i inside))
 
   -- The count of what is found is the number by the list's records.
   by-outcome : (x : Found) → Outcome o l x → Examined o l (examinedOf (sizeOf l) x)
@@ -60,10 +58,7 @@ module _ (o : TcpObservation) (l : List ℕ) where
   -- There is one such number.
   one : {m n : ℕ} → Examined o l m → Examined o l n → m ≡ n
   one (ended-by {i = i} a x before) (ended-by {i = j} b y before') =
-      elim (decLe i j) [
-        | yes h ↦ elim (decLe j i) [ yes k ↦ omega arith | no k ↦ absurd (before' i (omega arith) x) ]
-        | no h ↦ absurd (before j (omega arith) y)
-      ]
+      ap (λ (n : ℕ). n + 1) (level i j (λ less. before' i less x) (λ less. before j less y))
   one (ended-by {i = i} a x before) (none-ended-it none) = absurd (none i a x)
   one (none-ended-it none) (ended-by {i = j} b y before) = absurd (none j b y)
   one (none-ended-it none) (none-ended-it none') = refl
@@ -90,15 +85,15 @@ good-size l = by-test (listFits l) _
 
 -- ---- the struct that a gateway gets
 
-three-count : (kind n : ℕ) (f : Found) → foundParts kind f n .examined ≡ n
-three-count kind n found.None = refl
-three-count kind n (found.Exact hit) = refl
-three-count kind n (found.Fuzzy hit reason) = refl
+found-count : (kind n : ℕ) (f : Found) → foundParts kind f n .examined ≡ n
+found-count kind n found.None = refl
+found-count kind n (found.Exact hit) = refl
+found-count kind n (found.Fuzzy hit reason) = refl
 
 count-of : (a : GatewayAnswer) → partsOf a .examined ≡ countOf a
 unfolding packetParts searchedParts refusedList
-count-of (GatewayAnswer.answered (packet.Syn s)) = three-count 1 (s .examined) (s .found)
-count-of (GatewayAnswer.answered (packet.SynAck s)) = three-count 2 (s .examined) (s .found)
+count-of (GatewayAnswer.answered (packet.Syn s)) = found-count 1 (s .examined) (s .found)
+count-of (GatewayAnswer.answered (packet.SynAck s)) = found-count 2 (s .examined) (s .found)
 count-of (GatewayAnswer.answered packet.Nothing) = refl
 count-of (GatewayAnswer.answered (packet.Refused r)) = refl
 count-of (GatewayAnswer.list-refused r) = refl

@@ -42,7 +42,7 @@ one-reason : {x : SignatureFit} {r s : FuzzyReason} → x ≡ fit.Fuzzy r → x 
 one-reason e f = cc
 
 -- Of two numbers neither is the less.
-level : (m n : ℕ) → (m < n → ⊥) → (n < m → ⊥) → m ≡ n
+pub level : (m n : ℕ) → (m < n → ⊥) → (n < m → ⊥) → m ≡ n
 level m n before after =
     elim (decLe m n) [
       | yes h ↦ elim (decLe n m) [ yes k ↦ omega arith | no k ↦ absurd (before (omega arith)) ]
@@ -176,11 +176,11 @@ module _ (o : TcpObservation) (l : List ℕ) where
   pub answered : (x : Found) → (searched o l .found ≡ x) ↔ Outcome o l x
   answered x = (λ e. rw (← e) found-outcome, λ so. one-outcome (searched o l .found) x found-outcome so)
 
-  of-kind-specific : (hit : Hit) → hit .generic ≡ false → Outcome o l (found.Exact hit) → FirstSpecific o l hit
+  pub of-kind-specific : (hit : Hit) → hit .generic ≡ false → Outcome o l (found.Exact hit) → FirstSpecific o l hit
   of-kind-specific hit kind (inl a) = a
   of-kind-specific hit kind (inr a) = absurd (false≢true (sym kind ∙ a .generic))
 
-  of-kind-generic : (hit : Hit) → hit .generic ≡ true → Outcome o l (found.Exact hit) → FirstGeneric o l hit
+  pub of-kind-generic : (hit : Hit) → hit .generic ≡ true → Outcome o l (found.Exact hit) → FirstGeneric o l hit
   of-kind-generic hit kind (inl a) = absurd (false≢true (sym (a .specific) ∙ kind))
   of-kind-generic hit kind (inr a) = a
 

@@ -59,9 +59,10 @@ pub record SearchUnchecked : Type 0 where
       → searchList o l ≡ answer.Searched (searched o l)
   -- 10: what is found is what the list without its bad records has, each by its number in the whole list, of which the count is, too.
   pub bad-record : (o : TcpObservation) (l : List ℕ) → searched o l ≡ searchedIn (sizeOf l) (searchOver (goodRecords l) o l)
-  -- 9 and 11: none; what does not fit has no records to examine.
+  -- 9 and 11: none; of what does not fit no record is examined, for too long a layout all are.
   pub does-not-fit : (o : TcpObservation) (l : List ℕ) → checkList l ≡ list.Refused why.DoesNotFit → searched o l ≡ nothingThere
-  pub layout-too-long : (o : TcpObservation) (l : List ℕ) → 40 < o .olayout .count → searched o l ≡ searchedIn (sizeOf l) found.None
+  pub layout-too-long
+      : (o : TcpObservation) (l : List ℕ) → 40 < o .olayout .count → searched o l ≡ record { found = found.None; examined = sizeOf l }
 
 -- `answer_packet` and `termread_answer_checked`, against `termread_answer` (refusals 9 and 10 before a packet's own), in every mode.
 pub record PacketUnchecked : Type 0 where
