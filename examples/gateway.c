@@ -1,11 +1,13 @@
 /* The terminal reader called from C: reads a bundle (document 01) on standard input and prints what the program `termread` prints. What
    reaches standard output is always a prefix of that; if it is cut, standard error says so and the status is 1.
 
-   usage: gateway [-r] [-s] [-u] <BUNDLE
+   usage: gateway [-l] [-r] [-s] [-u] [-w] <BUNDLE
+     -l   print last on each packet's line ` raw ` and what was seen of the packet, as p0f's raw line; - for nothing and refused
      -r   print behind each line the number of the record, whether it is generic, how many records were examined, the reason of a fuzzy
           answer, and what a refusal gives
      -s   ask in strict mode: TCP headers whose data offset contradicts them are refused (14), options are read up to a damaged one
      -u   have the list checked with each packet, instead of once
+     -w   print each record of the list before the packets, as its signature line: `record N LINE`
 
    Built and run by tools/link_examples:
      gcc -std=c99 -O2 -I include -o gateway examples/gateway.c target/staticlib/libgateway.a */
@@ -24,9 +26,11 @@
 enum { BUNDLE_MOST = 65535, BUNDLE_HEADER = 8, BEFORE_PACKET = 4, PAGE = 4096, PIECE_MOST = 64 };
 
 struct options {
+    int raw_lines;
     int reasons;
     int strict;
     int unchecked;
+    int records;
 };
 
 static size_t be16(const uint8_t *at) { return (size_t)at[0] * 256 + at[1]; }
@@ -79,6 +83,13 @@ static void print(const char *format, ...) {
     va_start(values, format);
     output.filled += (size_t)vsnprintf(output.text + output.filled, PAGE - output.filled, format, values);
     va_end(values);
+}
+
+/* Prints bytes that a page has room for. */
+static void print_bytes(const uint8_t *bytes, size_t length) {
+    if (PAGE - output.filled < length) flush();
+    memcpy(output.text + output.filled, bytes, length);
+    output.filled += length;
 }
 
 /* ---- an answer as text */
@@ -138,7 +149,31 @@ static void print_answer(termread_result answer, int reasons) {
     case TERMREAD_REFUSED: print_refused(answer, reasons); break;
     default: fprintf(stderr, "gateway: unknown outcome %u\n", answer.outcome), exit(1);
     }
-    print("\n");
+}
+
+/* ---- lines: the buffers are for the longest ones */
+
+static void print_raw_line(const uint8_t *packet, size_t size, uint16_t peer, struct options options) {
+    uint8_t line[TERMREAD_RAW_LINE_MOST];
+    termread_result answer;
+    if (options.strict) answer = termread_raw_line_in(line, sizeof line, packet, size, peer, TERMREAD_STRICT);
+    else answer = termread_raw_line(line, sizeof line, packet, size, peer);
+    print(" raw ");
+    if (answer.outcome == TERMREAD_LINE) print_bytes(line, answer.value);
+    else print("-");
+}
+
+/* Up to the first index that the list does not have. */
+static void print_records(const uint8_t *list, size_t length) {
+    uint8_t line[TERMREAD_RECORD_LINE_MOST];
+    size_t index;
+    for (index = 0;; index++) {
+        termread_result answer = termread_record_line(line, sizeof line, list, length, index);
+        if (answer.outcome != TERMREAD_LINE) return;
+        print("record %zu ", index);
+        print_bytes(line, answer.value);
+        print("\n");
+    }
 }
 
 /* ---- a bundle */
@@ -181,6 +216,8 @@ static void print_packets(const uint8_t *bundle, size_t length, struct options o
         uint16_t peer = (uint16_t)be16(bundle + at);
         size_t size = be16(bundle + at + 2);
         print_answer(answer_of(packet, size, peer, list, list_length, options), options.reasons);
+        if (options.raw_lines) print_raw_line(packet, size, peer, options);
+        print("\n");
         at = packet_end(bundle, length, at);
     }
 }
@@ -203,21 +240,25 @@ static void print_bundle(const uint8_t *bundle, size_t length, struct options op
     list = checked_list(bundle + be16(bundle + 6), be16(bundle + 4), options);
     if (list.outcome != TERMREAD_GOOD) {
         print_answer(list, options.reasons);
+        print("\n");
         return;
     }
+    if (options.records) print_records(bundle + be16(bundle + 6), be16(bundle + 4));
     print_packets(bundle, length, options);
 }
 
 int main(int count, char **words) {
     static uint8_t bundle[BUNDLE_MOST + 1];
-    struct options options = {0, 0, 0};
+    struct options options = {0, 0, 0, 0, 0};
     ssize_t length;
     int i;
     for (i = 1; i < count; i++) {
-        if (strcmp(words[i], "-r") == 0) options.reasons = 1;
+        if (strcmp(words[i], "-l") == 0) options.raw_lines = 1;
+        else if (strcmp(words[i], "-r") == 0) options.reasons = 1;
         else if (strcmp(words[i], "-s") == 0) options.strict = 1;
         else if (strcmp(words[i], "-u") == 0) options.unchecked = 1;
-        else return fprintf(stderr, "usage: gateway [-r] [-s] [-u] <BUNDLE\n"), 2;
+        else if (strcmp(words[i], "-w") == 0) options.records = 1;
+        else return fprintf(stderr, "usage: gateway [-l] [-r] [-s] [-u] [-w] <BUNDLE\n"), 2;
     }
     length = read_input(bundle, sizeof bundle);
     if (length < 0) return fprintf(stderr, "gateway: standard input could not be read\n"), 1;

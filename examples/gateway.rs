@@ -2,7 +2,7 @@
 //! What reaches standard output is always a prefix of that; if it is cut, standard error says so and the status is 1. (Rust itself opens
 //! /dev/null in the place of a standard stream that is closed when the program starts, and ignores SIGPIPE.)
 //!
-//! usage: gateway [-r] [-s] [-u] <BUNDLE, as examples/gateway.c. Built and run by tools/link_examples:
+//! usage: gateway [-l] [-r] [-s] [-u] [-w] <BUNDLE, as examples/gateway.c. Built and run by tools/link_examples:
 //!     rustc --edition 2021 -O -o gateway examples/gateway.rs -C link-arg=target/staticlib/libgateway.a
 
 mod termread;
@@ -14,15 +14,18 @@ use std::os::fd::FromRawFd;
 use std::process::ExitCode;
 use std::thread::sleep;
 use std::time::Duration;
-use termread::{answer, answer_in, Answer, Hit, Kind, List, ListRefusal, Mode, PacketRefusal, Quirk, Quirks, Reason};
+use termread::{answer, answer_in, raw_line, raw_line_in, record_line, RAW_LINE_MOST, RECORD_LINE_MOST};
+use termread::{Answer, Hit, Kind, List, ListRefusal, Mode, PacketRefusal, Quirk, Quirks, RawLine, Reason, RecordLineRefusal};
 
 const BUNDLE_MOST: usize = 65535;
 
 #[derive(Clone, Copy, Default)]
 struct Options {
+    raw_lines: bool,
     reasons: bool,
     strict: bool,
     unchecked: bool,
+    records: bool,
 }
 
 /// What a bundle holds: its packets, each with the MSS of its peer, and its list.
@@ -147,6 +150,39 @@ fn answers(bundle: &Bundle, options: Options) -> Result<Vec<Answer>, ListRefusal
     bundle.packets.iter().map(|&(mss, packet)| ask(packet, mss)).collect()
 }
 
+/// A line is of ASCII alone.
+fn text_of(line: &[u8]) -> String {
+    String::from_utf8_lossy(line).into_owned()
+}
+
+fn raw_text(packet: &[u8], mss: u16, strict: bool) -> String {
+    let peer = (mss != 0).then_some(mss);
+    let mut buffer = [0; RAW_LINE_MOST];
+    let seen = match strict {
+        true => raw_line_in(&mut buffer, packet, peer, Mode { strict }),
+        false => raw_line(&mut buffer, packet, peer),
+    };
+    match seen {
+        RawLine::Line { line, .. } => format!(" raw {}", text_of(line)),
+        RawLine::Nothing | RawLine::Refused(_) => " raw -".into(),
+        RawLine::BufferTooShort => unreachable!("the buffer is for the longest line"),
+    }
+}
+
+/// The records of a list that was found well formed, up to the first index that it does not have.
+fn records_text(list: &[u8]) -> String {
+    let mut buffer = [0; RECORD_LINE_MOST];
+    let mut text = String::new();
+    for index in 0.. {
+        match record_line(&mut buffer, list, index) {
+            Ok(line) => text += &format!("record {index} {}\n", text_of(line)),
+            Err(RecordLineRefusal::NoSuchRecord) => break,
+            Err(refusal) => unreachable!("the list was checked, and the buffer is for the longest line: {refusal:?}"),
+        }
+    }
+    text
+}
+
 fn output(bytes: &[u8], options: Options) -> String {
     let bundle = match read_bundle(bytes) {
         Some(bundle) => bundle,
@@ -155,8 +191,12 @@ fn output(bytes: &[u8], options: Options) -> String {
     match answers(&bundle, options) {
         Err(refusal) => list_refusal_text(refusal, options.reasons) + "\n",
         Ok(answers) => {
-            let lines = answers.into_iter().map(|answer| answer_text(answer, options.reasons) + "\n");
-            format!("packets {}\n", bundle.packets.len()) + &lines.collect::<String>()
+            let records = if options.records { records_text(bundle.list) } else { String::new() };
+            let lines = answers.into_iter().zip(&bundle.packets).map(|(answer, &(mss, packet))| {
+                let raw = if options.raw_lines { raw_text(packet, mss, options.strict) } else { String::new() };
+                answer_text(answer, options.reasons) + &raw + "\n"
+            });
+            records + &format!("packets {}\n", bundle.packets.len()) + &lines.collect::<String>()
         }
     }
 }
@@ -213,11 +253,13 @@ fn main() -> ExitCode {
     let mut options = Options::default();
     for word in std::env::args().skip(1) {
         match word.as_str() {
+            "-l" => options.raw_lines = true,
             "-r" => options.reasons = true,
             "-s" => options.strict = true,
             "-u" => options.unchecked = true,
+            "-w" => options.records = true,
             _ => {
-                eprintln!("usage: gateway [-r] [-s] [-u] <BUNDLE");
+                eprintln!("usage: gateway [-l] [-r] [-s] [-u] [-w] <BUNDLE");
                 return ExitCode::from(2);
             }
         }

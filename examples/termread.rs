@@ -116,6 +116,32 @@ pub enum Answer {
     Refused(PacketRefusal),
 }
 
+/// What was seen of a packet, as p0f's raw line, which stands at the start of the buffer that was lent. Beside any other case than `Line`
+/// the buffer is as it was.
+#[derive(Clone, Copy, Debug, PartialEq, Eq)]
+pub enum RawLine<'a> {
+    Line { kind: Kind, line: &'a [u8] },
+    /// A good packet that is neither SYN nor SYN+ACK.
+    Nothing,
+    Refused(PacketRefusal),
+    /// The line is longer than the buffer.
+    BufferTooShort,
+}
+
+/// The most bytes of a raw line, and of a record's: a buffer of so many is never too short.
+pub const RAW_LINE_MOST: usize = 432;
+pub const RECORD_LINE_MOST: usize = 434;
+
+/// Why a record has no line: beside each the buffer is as it was.
+#[derive(Clone, Copy, Debug, PartialEq, Eq)]
+pub enum RecordLineRefusal {
+    List(ListRefusal),
+    /// The list has no record of this index.
+    NoSuchRecord,
+    /// The line is longer than the buffer.
+    BufferTooShort,
+}
+
 /// A signature list that was found well formed.
 #[derive(Clone, Copy, Debug)]
 pub struct List<'a>(&'a [u8]);
@@ -167,6 +193,29 @@ pub fn answer_in(packet: &[u8], peer_mss: Option<u16>, list: &[u8], mode: Mode) 
     given.answer_or_list_refusal()
 }
 
+/// What was seen of a packet, as p0f's raw line, written into the buffer. The peer's MSS does not change it.
+pub fn raw_line<'a>(buffer: &'a mut [u8], packet: &[u8], peer_mss: Option<u16>) -> RawLine<'a> {
+    let peer = peer_mss.unwrap_or(0);
+    // SAFETY: as above; the buffer is lent to be written, to no one else.
+    let given = unsafe { termread_raw_line(buffer.as_mut_ptr(), buffer.len(), packet.as_ptr(), packet.len(), peer) };
+    given.raw_line(buffer).unwrap_or_else(|| given.unknown())
+}
+
+/// The same in a mode.
+pub fn raw_line_in<'a>(buffer: &'a mut [u8], packet: &[u8], peer_mss: Option<u16>, mode: Mode) -> RawLine<'a> {
+    let (peer, mode) = (peer_mss.unwrap_or(0), mode.bits());
+    // SAFETY: as above.
+    let given = unsafe { termread_raw_line_in(buffer.as_mut_ptr(), buffer.len(), packet.as_ptr(), packet.len(), peer, mode) };
+    given.raw_line(buffer).unwrap_or_else(|| given.unknown())
+}
+
+/// A record of a list, counted from 0, as its signature line, written into the buffer. The list is checked each time.
+pub fn record_line<'a>(buffer: &'a mut [u8], list: &[u8], index: usize) -> Result<&'a [u8], RecordLineRefusal> {
+    // SAFETY: as above.
+    let given = unsafe { termread_record_line(buffer.as_mut_ptr(), buffer.len(), list.as_ptr(), list.len(), index) };
+    given.record_line(buffer).unwrap_or_else(|| given.unknown())
+}
+
 /// The answer as the library gives it: crates/gateway/specs/Parts.antt, and in C `termread_result`. Nothing reads `tolerated`, which is 0
 /// and kept for what is to come.
 #[repr(C)]
@@ -195,6 +244,9 @@ const FUZZY: u8 = 2;
 const NONE: u8 = 3;
 const NOTHING: u8 = 4;
 const REFUSED: u8 = 5;
+const LINE: u8 = 6;
+const BUFFER_TOO_SHORT: u8 = 15;
+const NO_SUCH_RECORD: u8 = 23;
 const OUT_OF_RANGE: u8 = 1;
 const GENERIC: u8 = 4;
 
@@ -259,6 +311,30 @@ impl Given {
         }
     }
 
+    /// The line at the buffer's start.
+    fn line(self, buffer: &[u8]) -> Option<&[u8]> {
+        buffer.get(..usize::from(self.value))
+    }
+
+    fn raw_line(self, buffer: &[u8]) -> Option<RawLine<'_>> {
+        Some(match (self.outcome, self.refusal) {
+            (LINE, _) => RawLine::Line { kind: self.kind()?, line: self.line(buffer)? },
+            (NOTHING, _) => RawLine::Nothing,
+            (REFUSED, BUFFER_TOO_SHORT) => RawLine::BufferTooShort,
+            (REFUSED, _) => RawLine::Refused(self.packet_refusal()?),
+            _ => return None,
+        })
+    }
+
+    fn record_line(self, buffer: &[u8]) -> Option<Result<&[u8], RecordLineRefusal>> {
+        Some(match (self.outcome, self.refusal) {
+            (LINE, _) => Ok(self.line(buffer)?),
+            (REFUSED, BUFFER_TOO_SHORT) => Err(RecordLineRefusal::BufferTooShort),
+            (REFUSED, NO_SUCH_RECORD) => Err(RecordLineRefusal::NoSuchRecord),
+            _ => Err(RecordLineRefusal::List(self.list_refusal()?)),
+        })
+    }
+
     /// The library promises that this is not reached; it would mean that another library was linked.
     fn unknown(self) -> ! {
         panic!("the linked terminal reader gave an unknown answer: {self:?}")
@@ -297,5 +373,27 @@ extern "C" {
         list: *const u8,
         list_length: usize,
         mode: u8,
+    ) -> Given;
+    fn termread_raw_line(
+        buffer: *mut u8,
+        buffer_length: usize,
+        packet: *const u8,
+        packet_length: usize,
+        peer_mss: u16,
+    ) -> Given;
+    fn termread_raw_line_in(
+        buffer: *mut u8,
+        buffer_length: usize,
+        packet: *const u8,
+        packet_length: usize,
+        peer_mss: u16,
+        mode: u8,
+    ) -> Given;
+    fn termread_record_line(
+        buffer: *mut u8,
+        buffer_length: usize,
+        list: *const u8,
+        list_length: usize,
+        index: usize,
     ) -> Given;
 }

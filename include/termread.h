@@ -1,11 +1,12 @@
 /* The terminal reader, for C: a terminal's operating system from the first TCP packets, and how sure the answer is.
 
-   Link target/staticlib/libgateway.a (x86-64; `rt staticlib gateway` proves and writes it). It needs no C library, allocates nothing,
-   keeps nothing between calls and only reads what it is lent, so that any number of threads may call it.
+   Link target/staticlib/libgateway.a (x86-64; `rt staticlib gateway` proves and writes it). Of a C library it needs memcpy
+   alone. It allocates nothing, keeps nothing between calls and only reads what it is lent, but for the buffer of a line, so that any number
+   of threads may call it.
 
    Nothing checks this file against the source: tools/link_examples compares what C and Rust programs get through it with what the
-   program `termread` prints, and in strict mode with what tools/ask answers. What the functions promise is in crates/gateway/src/lib.rt
-   and crates/gateway/specs/Parts.antt. */
+   program `termread` prints, and in strict mode with what tools/ask answers. What the functions promise is in crates/gateway/src/lib.rt,
+   crates/gateway/specs/Parts.antt and, of lines, crates/gateway/specs/Lines.antt. */
 #ifndef TERMREAD_H
 #define TERMREAD_H
 
@@ -19,18 +20,19 @@ extern "C" {
 /* ---- an answer
 
    Sixteen bytes, which come back in two registers. The outcome alone tells exact, fuzzy and none apart. No two different answers are
-   alike in all fields. A field that an answer does not have is 0; `tolerated` and the bits of `marks` that are not named, or named as
-   kept, are 0 in every answer, and kept for what is to come. */
+   alike in all fields; of a line the struct says how long it is, the buffer which it is. A field that an answer does not have is 0;
+   `tolerated` and the bits of `marks` that are not named, or named as kept, are 0 in every answer, and kept for what is to come. */
 typedef struct termread_result {
     uint8_t outcome;   /* one of the outcomes */
-    uint8_t kind;      /* of exact, fuzzy and none: TERMREAD_SYN or TERMREAD_SYNACK */
+    uint8_t kind;      /* of exact, fuzzy, none and a packet's line: TERMREAD_SYN or TERMREAD_SYNACK */
     uint8_t refusal;   /* of refused: its number */
     uint8_t tolerated; /* kept for what was tolerated of a fit: 0 */
     uint16_t label;    /* of exact and fuzzy: the label of the record */
     uint16_t number;   /* of exact and fuzzy: which record of the list it is, from 0 */
     uint16_t examined; /* of exact, fuzzy and none: how many records the search examined. Of exact by a specific record, which ends the
                           search: its position, from 1; else the size of the list */
-    uint16_t value;    /* of refusal 7: the flags byte; of refusal 10: the index of the first bad record, from 0 */
+    uint16_t value;    /* of refusal 7: the flags byte; of refusal 10: the index of the first bad record, from 0; of a line: how many
+                          bytes it has */
     uint8_t added;     /* of fuzzy: quirks that the packet shows and the record does not */
     uint8_t missing;   /* of fuzzy: quirks of the record that the packet does not show */
     uint8_t hops;      /* of fuzzy, if the TTL is out of the record's range: the hop distance */
@@ -47,10 +49,11 @@ enum {
     TERMREAD_FUZZY = 2,   /* a record fits, but for what `added`, `missing` and `hops` name; never to be stored as exact */
     TERMREAD_NONE = 3,    /* no record of the list fits */
     TERMREAD_NOTHING = 4, /* a good packet that is neither SYN nor SYN+ACK */
-    TERMREAD_REFUSED = 5  /* see `refusal` */
+    TERMREAD_REFUSED = 5, /* see `refusal` */
+    TERMREAD_LINE = 6     /* of the functions that write a line: it stands in the buffer, from its start, `value` bytes of it */
 };
 
-/* Kinds, of an exact, fuzzy or none. */
+/* Kinds, of an exact, fuzzy or none, and of a packet's line. */
 enum {
     TERMREAD_SYN = 1,
     TERMREAD_SYNACK = 2
@@ -69,7 +72,9 @@ enum {
     TERMREAD_REFUSED_LIST = 9,            /* the list's header or its areas do not fit */
     TERMREAD_REFUSED_RECORD = 10,         /* a record of the list is bad; the value is the index of the first, from 0 */
     TERMREAD_REFUSED_BUNDLE = 12,         /* of a bundle, which the caller reads itself: it does not fit */
-    TERMREAD_REFUSED_DATA_OFFSET = 14     /* strict only: TCP data offset under 5, or 4 times it past the end of the TCP part */
+    TERMREAD_REFUSED_DATA_OFFSET = 14,    /* strict only: TCP data offset under 5, or 4 times it past the end of the TCP part */
+    TERMREAD_REFUSED_BUFFER = 15,         /* of a line: it is longer than the buffer */
+    TERMREAD_REFUSED_INDEX = 23           /* of a record's line: the list has no record of this index */
 };
 
 /* The bits of `marks`. */
@@ -144,6 +149,38 @@ termread_result termread_answer_checked_in(const uint8_t *packet, size_t packet_
                                            size_t list_length, uint8_t mode);
 termread_result termread_answer_in(const uint8_t *packet, size_t packet_length, uint16_t peer_mss, const uint8_t *list,
                                    size_t list_length, uint8_t mode);
+
+/* ---- lines
+
+   A signature in p0f's text form, ver:ttl:olen:mss:window,scale:layout:quirks:payload, written into a buffer that the caller lends:
+   TERMREAD_LINE, `value` bytes from the buffer's start. No zero byte comes behind them: a line is no C string, and bytes of the buffer past
+   it stay as they were. Beside any other answer the whole buffer does. 15 comes last, exactly if the line is longer than the buffer; one of
+   the most bytes below never meets it. */
+enum {
+    TERMREAD_RAW_LINE_MOST = 432,
+    TERMREAD_RECORD_LINE_MOST = 434
+};
+
+/* What was seen of a packet, as p0f's raw line: TERMREAD_LINE with its kind, TERMREAD_NOTHING, or refusal 1 to 7, 14 (strict) or 15.
+     ver       4 or 6
+     ttl       the TTL byte: T+D where D hops seem behind it, at most 30; else T, and 0- for a byte of 0
+     olen      bytes of IP options (4) or extension headers (6)
+     mss       a number, or * where the packet has no such option
+     window    the number of the packet, never a multiple of MSS or MTU
+     scale     as mss
+     layout    the options in their order: nop, mss, ws, sok, sack, ts, eol+N with the bytes behind it, ?K of another kind; may be empty
+     quirks    those of df,id+,id-,ecn,0+,flow,seq-,ack+,ack-,uptr+,urgf+,pushf+,ts1-,ts2+,opt+,exws,bad that are shown, in this order; may
+               be empty
+     payload   0, or + if there is any
+   The peer's MSS does not change it. Read as a line of a list, it is a record that the packet fits exactly. */
+termread_result termread_raw_line(uint8_t *buffer, size_t buffer_length, const uint8_t *packet, size_t packet_length, uint16_t peer_mss);
+termread_result termread_raw_line_in(uint8_t *buffer, size_t buffer_length, const uint8_t *packet, size_t packet_length,
+                                     uint16_t peer_mss, uint8_t mode);
+
+/* A record of a list, counted from 0, as its signature line: TERMREAD_LINE with kind 0, or refusal 9 or 10 of the list, which is checked
+   each time, 23 or 15. A line has neither the label nor the generic byte. Here ver, window, scale and payload may be *, the TTL T+? or T-,
+   the window %N, mss*N or mtu*N. */
+termread_result termread_record_line(uint8_t *buffer, size_t buffer_length, const uint8_t *list, size_t list_length, size_t index);
 
 #ifdef __cplusplus
 }

@@ -73,10 +73,10 @@ static int scan_payload(Line *line, uint8_t *payload) {
     return *payload || scan_text(line, "0");
 }
 
-/* The multiplier follows from the rest: it may be absent, and what it says is not looked at. */
+/* The multiplier follows from the rest: it may be absent, and what it says up to a blank is not looked at. */
 static void pass_over_multiplier(Line *line) {
     if (!scan_text(line, " win=")) return;
-    while (line->at < line->end && *line->at != ' ') line->at++;
+    while (line->at < line->end && *line->at > ' ' && *line->at < 127) line->at++;
 }
 
 int scan_observation(Line *line, witness_observation *o) {

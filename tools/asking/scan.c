@@ -13,15 +13,22 @@ int scan_text(Line *line, const char *text) {
 }
 
 /* Decimal digits, one at least. */
-int scan_number(Line *line, uint32_t most, uint32_t *number) {
+int scan_long_number(Line *line, uint64_t most, uint64_t *number) {
     const char *start = line->at;
-    uint64_t value = 0;
-    for (; line->at < line->end && *line->at >= '0' && *line->at <= '9'; line->at++) {
-        value = 10 * value + (uint64_t)(*line->at - '0');
-        if (value > most) return 0;
+    uint64_t digit;
+    for (*number = 0; line->at < line->end && *line->at >= '0' && *line->at <= '9'; line->at++) {
+        digit = (uint64_t)(*line->at - '0');
+        if (digit > most || *number > (most - digit) / 10) return 0;
+        *number = 10 * *number + digit;
     }
-    *number = (uint32_t)value;
     return line->at > start;
+}
+
+int scan_number(Line *line, uint32_t most, uint32_t *number) {
+    uint64_t value;
+    int scanned = scan_long_number(line, most, &value);
+    *number = (uint32_t)value;
+    return scanned;
 }
 
 int scan_absent_or(Line *line, uint32_t most, uint8_t *present, uint32_t *number) {

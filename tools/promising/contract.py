@@ -4,7 +4,7 @@ import re
 from promising.source import NUMBERS, Unfit, type_module
 
 # A contract that is a relation of a lent buffer, the result and the buffer at exit, by its name; and what a line of demand 1 says of it.
-RELATIONS = {"Put": "BufferAnswers", "Paged": "PageAnswers"}
+RELATIONS = {"Put": "BufferAnswers", "Paged": "PageAnswers", "Writes": "LineAnswers"}
 FACT = re.compile(r"λ (\w+)\. ⌜ (.*) ⌝")
 ENTRY = re.compile(r"now \(«?(\w+)»? \.entry\)")
 EXIT = re.compile(r"\(now \(«?(\w+)»? \.exit\)\)")

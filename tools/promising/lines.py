@@ -22,7 +22,8 @@ BASE = {
     "both": "Rattle.basis.proofs.Unique",
     "left-with": "Rattle.text.specs.Written",
 }
-PROVES = {"equation": "answered", "part": "part-answered", "Put": "buffer-answered", "Paged": "page-answered"}
+PROVES = {"equation": "answered", "part": "part-answered", "Put": "buffer-answered", "Paged": "page-answered",
+          "Writes": "line-answered"}
 
 
 class Uses:

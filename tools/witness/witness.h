@@ -102,11 +102,18 @@ typedef struct {
     uint8_t guess; /* the hops up to 32, 64, 128 or 255, of every byte */
 } witness_ttl_entry;
 
+/* What writing a line answers: its length, or the refusal. */
+typedef struct {
+    uint64_t length;     /* bytes written from the buffer's start on; 0 beside a refusal */
+    uint32_t bad_record; /* of refusal 10 */
+    uint8_t refusal;     /* 9, 10, 11, 15 or 23, else 0 */
+} witness_wrote;
+
 /* As many bytes as the source's structs have, by C's layout on x86-64. */
 typedef char witness_structs_have_their_sizes[sizeof(witness_observation) == 120 && sizeof(witness_packet_read) == 128 &&
                                               sizeof(witness_options_read) == 96 && sizeof(witness_walk_read) == 120 &&
                                               sizeof(witness_search_read) == 24 && sizeof(witness_line_read) == 128 &&
-                                              sizeof(witness_ttl_entry) == 2 ? 1 : -1];
+                                              sizeof(witness_ttl_entry) == 2 && sizeof(witness_wrote) == 16 ? 1 : -1];
 
 /* The bits of a mode: none for the plain reading; what is not named here is not read. */
 enum {
@@ -140,6 +147,11 @@ uint8_t witness_hops(const uint8_t *ttls, size_t length);
 
 /* The reading of a line of p0f's text form, without its line end. */
 witness_line_read witness_line(const uint8_t *line, size_t length);
+
+/* The raw line of an observation; and the line of record `index` of a list. Bytes past the length, and all on a refusal, stay as they
+   were. */
+witness_wrote witness_raw(uint8_t *buffer, size_t room, witness_observation observation);
+witness_wrote witness_record(uint8_t *buffer, size_t room, const uint8_t *list, size_t length, size_t index);
 
 /* How far the output of a bundle is: the bytes of the page, and the packets that are left, by their number and the place of the first. */
 typedef struct {

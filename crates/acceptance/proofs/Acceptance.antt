@@ -3,6 +3,7 @@ use Rattle.acceptance.specs.Acceptance.{Acceptance}
 use Rattle.acceptance.proofs.Demand1.{demand1}
 use Rattle.acceptance.proofs.Demand2.{demand2}
 use Rattle.acceptance.proofs.Demand3.{demand3}
+use Rattle.acceptance.proofs.GatewayLines.{gateway-lines}
 use Rattle.acceptance.proofs.GenericLast.{generic-last}
 use Rattle.acceptance.proofs.Honesty.{honesty}
 use Rattle.acceptance.proofs.HowLong.{how-long}
@@ -15,6 +16,7 @@ use Rattle.acceptance.proofs.Stages.{stages}
 use Rattle.acceptance.proofs.TextLines.{text-lines}
 use Rattle.acceptance.proofs.TtlTable.{ttl-table}
 use Rattle.acceptance.proofs.Unchecked.{unchecked}
+use Rattle.acceptance.proofs.WrittenLines.{written-lines}
 
 pub acceptance : Acceptance
 acceptance =
@@ -34,4 +36,6 @@ acceptance =
       ttlTable = ttl-table;
       oneWalk = one-walk;
       howLong = how-long;
+      writtenLines = written-lines;
+      gatewayLines = gateway-lines;
     }

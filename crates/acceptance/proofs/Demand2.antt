@@ -33,7 +33,7 @@ use Rattle.sigrecord.specs.Record.{signatureOf, entryCount}
 use Rattle.siglist.specs.declared.ListAnswer.{ListAnswer}
 use Rattle.siglist.specs.declared.ListAnswer.the-variants as list
 use Rattle.siglist.specs.List.{recordCount, listFits, recordAt, entriesOf, recordGood, checkList}
-use Rattle.siglist.proofs.FirstBad.{does-not-fit, Checked, first-bad-named}
+use Rattle.siglist.proofs.FirstBad.{does-not-fit, each-good}
 use Rattle.found.specs.declared.Hit.{Hit}
 use Rattle.found.specs.declared.Found.{Found}
 use Rattle.found.specs.declared.Found.the-variants as found
@@ -100,11 +100,7 @@ module _ (l : List ℕ) (good : checkList l ≡ list.Good) where
       by-test false e = let other = does-not-fit l e in let z : _≡_ {A = ℕ} 0 1 = cc in absurd (omega arith)
 
   record-good : (j : ℕ) → j < recordCount l → recordGood l j ≡ true
-  record-good j h = by-check (first-bad-named l fits) good
-    where
-      by-check : {a : ListAnswer} → Checked l 0 (recordCount l) a → a ≡ list.Good → recordGood l j ≡ true
-      by-check (Checked.all-good all) e = all j (omega arith) (omega arith)
-      by-check (Checked.first-bad k b u bad before) e = let z : _≡_ {A = ℕ} 0 1 = cc in absurd (omega arith)
+  record-good j h = each-good l j good h
 
 single-fit : SingleFit
 unfolding searchList searched candidateAt fitAt

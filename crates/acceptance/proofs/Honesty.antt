@@ -3,6 +3,7 @@ use mathlib.Core.Path.{_≡_, refl, sym, _∙_, ap}
 use mathlib.Core.List.{List}
 use Prim.Native.Nat.{ℕ}
 use native.Mathlib.Omega.{arith}
+use Rattle.basis.specs.Bytes.{AllBytes}
 use Rattle.tcp.specs.declared.Mss.{Mss}
 use Rattle.refusals.specs.declared.PacketRefusal.{PacketRefusal}
 use Rattle.flow.specs.declared.Answer.the-variants as reading
@@ -18,7 +19,7 @@ use Rattle.packet_answer.specs.declared.PacketAnswer.{PacketAnswer}
 use Rattle.packet_answer.specs.declared.PacketAnswer.the-variants as packet
 use Rattle.packet_answer.specs.Packet.{peerOf, answerIn}
 use Rattle.gateway.specs.Parts.{GatewayAnswer, foundParts, searchedParts, packetParts, refusedList, partsOf, gatewayIn}
-use Rattle.gateway.specs.Decode.{AllBytes, answerFrom}
+use Rattle.gateway.specs.Decode.{answerFrom}
 use Rattle.gateway.specs.Zeros.{Zeros}
 use Rattle.gateway.proofs.Room.{PacketFits}
 use Rattle.gateway.proofs.ReadBack as back

@@ -9,6 +9,7 @@ pub mod Demand3
 pub mod Fails
 pub mod First
 pub mod Fit
+pub mod GatewayLines
 pub mod GenericLast
 pub mod Honesty
 pub mod HowLong
@@ -20,6 +21,8 @@ pub mod OnPaper
 pub mod OneWalk
 pub mod Outcome
 pub mod Overlap
+pub mod OwnFit
+pub mod OwnLine
 pub mod PacketGives
 pub mod PacketRefusals
 pub mod PaperRows
@@ -35,3 +38,4 @@ pub mod TextLines
 pub mod TtlTable
 pub mod Unchecked
 pub mod Values
+pub mod WrittenLines

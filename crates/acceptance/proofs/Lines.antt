@@ -7,7 +7,7 @@ use Prim.Native.Nat.{ℕ, _<_}
 use native.Mathlib.Omega.{arith}
 use lib.Dec.{eqb}
 use lib.ListN.{drop}
-use Rattle.basis.specs.Bytes.{byteAt}
+use Rattle.basis.specs.Bytes.{byteAt, AllBytes}
 use Rattle.tcp.specs.declared.Mss.{Mss}
 use Rattle.refusals.specs.declared.PacketRefusal.{PacketRefusal}
 use Rattle.refusals.specs.declared.PacketRefusal.the-variants as refusal
@@ -24,7 +24,6 @@ use Rattle.packet_answer.specs.Packet.{answerIn}
 use Rattle.bundle.specs.declared.BundleCheck.{BundleCheck}
 use Rattle.bundle.specs.declared.BundleCheck.the-variants as check
 use Rattle.bundle.specs.Bundle.{bundleVerdict, bundleRefusal}
-use Rattle.gateway.specs.Decode.{AllBytes}
 use Rattle.gateway.proofs.Room.{FoundFits, PacketFits}
 use Rattle.gateway.proofs.Fits.{packet-fits}
 use Rattle.text.specs.Decimal.{width, decimal, newline}

@@ -4,6 +4,7 @@ use mathlib.Core.List.{List}
 use Prim.Native.Nat.{ℕ, _<_}
 use native.Mathlib.Omega.{arith}
 use native.Mathlib.Nat.{mod-eq-of-lt}
+use Rattle.basis.specs.Bytes.{AllBytes}
 use Rattle.refusals.specs.declared.ListRefusal.{ListRefusal}
 use Rattle.refusals.specs.declared.ListRefusal.the-variants as why
 use Rattle.refusals.specs.Refusals.{listValue}
@@ -15,7 +16,6 @@ use Rattle.packet_answer.specs.declared.PacketAnswer.{PacketAnswer}
 use Rattle.packet_answer.specs.declared.PacketAnswer.the-variants as packet
 use Rattle.packet_answer.specs.Packet.{peerOf, answerIn}
 use Rattle.gateway.specs.Parts.{packetParts, refusedList, partsOf, afterList, gatewayIn, listParts}
-use Rattle.gateway.specs.Decode.{AllBytes}
 use Rattle.gateway.proofs.Given.{two-bytes}
 use Rattle.acceptance.specs.OnPaper.{packetPaper, listPaper, gatewayPaper, refusedStruct, Structs, OnPaper}
 use Rattle.acceptance.specs.Honesty.{structAt, checkedAnswer}

@@ -8,11 +8,11 @@ use contract.Lifetimes.{Lfts}
 use denote.Ref.{RefT, now}
 use denote.Signature as kit
 use Rattle.basis.specs.Unique.{ExactlyOne}
-use Rattle.text.specs.Written.{written, room}
+use Rattle.text.specs.Written.{written, room, Lined}
 use Rattle.report.specs.declared.Progress.{Progress}
 use Rattle.report.specs.Pages.{Page, progressOf}
 use Rattle.acceptance.specs.Lent.{writable}
-use Rattle.acceptance.specs.Promised.{Answers, PartAnswers, PageAnswers, BufferAnswers}
+use Rattle.acceptance.specs.Promised.{Answers, PartAnswers, PageAnswers, BufferAnswers, LineAnswers}
 
 -- A result and the bytes that a page or a buffer is left with.
 paired : {R : Type 0} {r r' : R} {t t' : List ℕ} → (r ≡ r') × (t ≡ t') → _≡_ {A = R × List ℕ} (r, t) (r', t')
@@ -59,3 +59,13 @@ module _ {A : Type 0} {signature : kit.Signature} {κs : Lfts (signature .lifeti
       → writable signature κs ≡ 0 ∷ []
       → BufferAnswers signature κs pre post a exit buffer at text
   buffer-answered asked u says lent = record { asks-nothing = asked; one = u; is = paired (says (u .meets)); writes-the-buffer = lent }
+
+  pub line-answered
+      : {E R : Type 0} {post : A → R → E → Type 0} {exit : List ℕ → E} {buffer : List ℕ} {writing : ℕ → Lined R}
+      → pre a
+      → (u : ExactlyOne (R × List ℕ) (λ (r : R × List ℕ). post a (r .0) (exit (r .1))))
+      → (post a (u .the .0) (exit (u .the .1))
+      → (u .the .0 ≡ writing (length buffer) .answer) × (u .the .1 ≡ written buffer 0 (writing (length buffer) .line)))
+      → writable signature κs ≡ 0 ∷ []
+      → LineAnswers signature κs pre post a exit buffer writing
+  line-answered asked u says lent = record { asks-nothing = asked; one = u; is = paired (says (u .meets)); writes-the-buffer = lent }

@@ -23,6 +23,8 @@ use Rattle.acceptance.proofs.Promises.search as search'
 use Rattle.acceptance.proofs.Promises.numerals as numerals'
 use Rattle.acceptance.proofs.Promises.one_field as one-field'
 use Rattle.acceptance.proofs.Promises.parse_tcp as parse-tcp'
+use Rattle.acceptance.proofs.Promises.display as display'
+use Rattle.acceptance.proofs.Promises.line_writer as line-writer'
 use Rattle.acceptance.proofs.Promises.packet_answer as packet-answer'
 use Rattle.acceptance.proofs.Promises.bundle as bundle'
 use Rattle.acceptance.proofs.Promises.report as report'
@@ -49,6 +51,8 @@ pub mod search
 pub mod numerals
 pub mod one_field
 pub mod parse_tcp
+pub mod display
+pub mod line_writer
 pub mod packet_answer
 pub mod bundle
 pub mod report
@@ -79,6 +83,8 @@ each-crate =
       numerals = numerals'.promises;
       one-field = one-field'.promises;
       parse-tcp = parse-tcp'.promises;
+      display = display'.promises;
+      line-writer = line-writer'.promises;
       packet-answer = packet-answer'.promises;
       bundle = bundle'.promises;
       report = report'.promises;

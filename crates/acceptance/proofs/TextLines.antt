@@ -1,6 +1,6 @@
 -- Signatures as text: each theorem in its place.
 use Rattle.signature_line.proofs.Accepted.{accepted, one-meaning, refused-exactly, nothing-beside}
-use Rattle.signature_line.proofs.EveryRecord.{every-record}
+use Rattle.written_line.proofs.EveryRecord.{every-record}
 use Rattle.signature_line.proofs.WellFormed.{well-formed}
 use Rattle.acceptance.specs.TextLines.{TextLines}
 use Rattle.signature_line.proofs.LineValues.{line-values}

@@ -3,6 +3,7 @@
 use Rattle.acceptance.specs.Demand1.{Demand1}
 use Rattle.acceptance.specs.Demand2.{Demand2}
 use Rattle.acceptance.specs.Demand3.{Demand3}
+use Rattle.acceptance.specs.GatewayLines.{GatewayLines}
 use Rattle.acceptance.specs.GenericLast.{GenericLast}
 use Rattle.acceptance.specs.Honesty.{Honesty}
 use Rattle.acceptance.specs.HowLong.{HowLong}
@@ -15,6 +16,7 @@ use Rattle.acceptance.specs.Stages.{Stages}
 use Rattle.acceptance.specs.TextLines.{TextLines}
 use Rattle.acceptance.specs.TtlTable.{TtlTable}
 use Rattle.acceptance.specs.Unchecked.{Unchecked}
+use Rattle.acceptance.specs.WrittenLines.{WrittenLines}
 
 pub record Acceptance : Type 1 where
   -- B: "Exact, fuzzy and none stay three answers."
@@ -44,3 +46,7 @@ pub record Acceptance : Type 1 where
   pub oneWalk : OneWalk
   -- D1: how many records a search examined (document 02, Wish 6).
   pub howLong : HowLong
+  -- D1: the text form written (document 02, Wish 7).
+  pub writtenLines : WrittenLines
+  -- and as a gateway in C or Rust gets it.
+  pub gatewayLines : GatewayLines

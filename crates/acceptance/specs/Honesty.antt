@@ -6,6 +6,7 @@ use mathlib.Core.Bool.{true, false}
 use mathlib.Core.List.{List, _++_}
 use mathlib.Core.Logic.{_↔_, _⊎_}
 use Prim.Native.Nat.{ℕ, _<_}
+use Rattle.basis.specs.Bytes.{AllBytes}
 use Rattle.tcp.specs.declared.Mss.{Mss}
 use Rattle.quirks.specs.Quirks.{isEmpty}
 use Rattle.observable.specs.declared.TcpObservation.{TcpObservation}
@@ -40,7 +41,7 @@ use Rattle.packet_answer.specs.declared.PacketAnswer.the-variants as packet
 use Rattle.packet_answer.specs.Packet.{peerOf, answerIn}
 use Rattle.gateway.specs.declared.TermreadResult.{TermreadResult}
 use Rattle.gateway.specs.Parts.{GatewayAnswer, packetParts, partsOf, gatewayIn, listParts}
-use Rattle.gateway.specs.Decode.{AllBytes, answerFrom}
+use Rattle.gateway.specs.Decode.{answerFrom}
 use Rattle.gateway.specs.Zeros.{Zeros}
 use Rattle.acceptance.specs.Outcome.{Outcome, FourOutcomes}
 

@@ -3,6 +3,7 @@ pub mod Corners
 pub mod Demand1
 pub mod Demand2
 pub mod Demand3
+pub mod GatewayLines
 pub mod GenericLast
 pub mod Honesty
 pub mod HowLong
@@ -14,6 +15,7 @@ pub mod OnPaper
 pub mod OneWalk
 pub mod Outcome
 pub mod Overlap
+pub mod OwnLine
 pub mod Promised
 pub mod Promises
 pub mod Refusals
@@ -22,3 +24,4 @@ pub mod TextLines
 pub mod TtlTable
 pub mod Unchecked
 pub mod Values
+pub mod WrittenLines

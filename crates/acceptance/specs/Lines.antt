@@ -5,6 +5,7 @@ use mathlib.Core.Bool.{Bool}
 use mathlib.Core.List.{List, [], _∷_}
 use mathlib.Core.Logic.{_↔_}
 use Prim.Native.Nat.{ℕ, _<_}
+use Rattle.basis.specs.Bytes.{AllBytes}
 use Rattle.basis.specs.Ascii.{ascii}
 use Rattle.tcp.specs.declared.Mss.{Mss}
 use Rattle.refusals.specs.declared.PacketRefusal.the-variants as refusal
@@ -19,7 +20,6 @@ use Rattle.packet_answer.specs.declared.PacketAnswer.the-variants as packet
 use Rattle.packet_answer.specs.Packet.{answerIn}
 use Rattle.bundle.specs.declared.BundleCheck.{BundleCheck}
 use Rattle.bundle.specs.Bundle.{bundleRefusal}
-use Rattle.gateway.specs.Decode.{AllBytes}
 use Rattle.report.specs.Text.{lineOf, headLine, refusedLine}
 
 -- ---- what a line prints

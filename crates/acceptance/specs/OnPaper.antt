@@ -5,6 +5,7 @@
 use mathlib.Core.Path.{_≡_}
 use mathlib.Core.List.{List, [], _∷_}
 use Prim.Native.Nat.{ℕ, _<_}
+use Rattle.basis.specs.Bytes.{AllBytes}
 use Rattle.tcp.specs.declared.Mss.{Mss}
 use Rattle.observable.specs.declared.TcpObservation.{TcpObservation}
 use Rattle.refusals.specs.declared.Refusal.{Refusal}
@@ -32,7 +33,6 @@ use Rattle.bundle.specs.declared.BundleCheck.{BundleCheck}
 use Rattle.bundle.specs.Bundle.{listOf, checkBundle, bundleVerdict}
 use Rattle.gateway.specs.declared.TermreadResult.{TermreadResult}
 use Rattle.gateway.specs.Parts.{GatewayAnswer, refused, gatewayIn, gatewayVerdict}
-use Rattle.gateway.specs.Decode.{AllBytes}
 use Rattle.acceptance.specs.Honesty.{structAt, checkedAnswer, checkedStruct, listStruct}
 use Rattle.acceptance.specs.Refusals.{First, PacketRow, packetOrder, FlagsByte, OptionsRow, FirstBad, ListRow, SearchRow, BundleRow}
 

@@ -7,7 +7,7 @@ use contract.Lifetimes.{Lfts}
 use denote.Ref.{RefT, now}
 use denote.Signature as kit
 use Rattle.basis.specs.Unique.{ExactlyOne}
-use Rattle.text.specs.Written.{written, room}
+use Rattle.text.specs.Written.{written, room, Lined}
 use Rattle.report.specs.declared.Progress.{Progress}
 use Rattle.report.specs.Pages.{Page, progressOf}
 use Rattle.acceptance.specs.Lent.{writable}
@@ -60,4 +60,16 @@ pub record BufferAnswers
     pub asks-nothing : pre arguments
     pub one : ExactlyOne (ℕ × List ℕ) (λ (r : ℕ × List ℕ). post arguments (r .0) (exit (r .1)))
     pub is : one .the ≡ (at + length (room buffer at text), written buffer at (room buffer at text))
+    pub writes-the-buffer : writable signature κs ≡ 0 ∷ []
+
+-- A function that writes a line from the start of a buffer of the caller's, its parameter 0, and writes to no other: exactly one answer and
+-- one content of the buffer meet its contract. Past the line the buffer is as it was; beside a refusal, all of it.
+pub record LineAnswers
+    {A E R : Type 0} (signature : kit.Signature) (κs : Lfts (signature .lifetimes))
+    (pre : A → Type 0) (post : A → R → E → Type 0) (arguments : A) (exit : List ℕ → E) (buffer : List ℕ) (writing : ℕ → Lined R)
+    : Type 0
+  where
+    pub asks-nothing : pre arguments
+    pub one : ExactlyOne (R × List ℕ) (λ (r : R × List ℕ). post arguments (r .0) (exit (r .1)))
+    pub is : one .the ≡ (writing (length buffer) .answer, written buffer 0 (writing (length buffer) .line))
     pub writes-the-buffer : writable signature κs ≡ 0 ∷ []

@@ -22,6 +22,8 @@ use Rattle.acceptance.specs.Promises.search as search'
 use Rattle.acceptance.specs.Promises.numerals as numerals'
 use Rattle.acceptance.specs.Promises.one_field as one-field'
 use Rattle.acceptance.specs.Promises.parse_tcp as parse-tcp'
+use Rattle.acceptance.specs.Promises.display as display'
+use Rattle.acceptance.specs.Promises.line_writer as line-writer'
 use Rattle.acceptance.specs.Promises.packet_answer as packet-answer'
 use Rattle.acceptance.specs.Promises.bundle as bundle'
 use Rattle.acceptance.specs.Promises.report as report'
@@ -48,6 +50,8 @@ pub mod search
 pub mod numerals
 pub mod one_field
 pub mod parse_tcp
+pub mod display
+pub mod line_writer
 pub mod packet_answer
 pub mod bundle
 pub mod report
@@ -76,6 +80,8 @@ pub record EachCrate : Type 0 where
   pub numerals : numerals'.Promises
   pub one-field : one-field'.Promises
   pub parse-tcp : parse-tcp'.Promises
+  pub display : display'.Promises
+  pub line-writer : line-writer'.Promises
   pub packet-answer : packet-answer'.Promises
   pub bundle : bundle'.Promises
   pub report : report'.Promises

@@ -7,7 +7,7 @@ use mathlib.Core.List.{List}
 use mathlib.Core.Logic.{_↔_}
 use Prim.Native.Nat.{ℕ, _≤_}
 use lib.ListN.{length}
-use Rattle.gateway.specs.Decode.{AllBytes}
+use Rattle.basis.specs.Bytes.{AllBytes}
 use Rattle.siglist.specs.List.{listFits, recordGood}
 use Rattle.signature_line.specs.declared.LineAnswer.the-variants as answer
 use Rattle.signature_line.specs.Line.{SignatureLine, longest, LineRefused}

@@ -1,5 +1,5 @@
 -- Bytes as lists of numbers: a byte, a big-endian number and a part of a string, each total on every list.
-use Prim.Native.Nat.{ℕ, _+_, _*_, _-_}
+use Prim.Native.Nat.{ℕ, _+_, _*_, _-_, _<_}
 use mathlib.Core.Bool.{Bool, false, not, _||_}
 use mathlib.Core.List.{List, [], _∷_}
 use lib.Dec.{eqb}
@@ -8,6 +8,10 @@ use lib.ListN.{getD, take, drop}
 -- The byte at a place, and 0 past the end.
 abbrev pub byteAt : List ℕ → ℕ → ℕ
 byteAt s i = getD s i 0
+
+-- What a lent byte string is: each of its numbers is a byte.
+abbrev pub AllBytes : List ℕ → Type 0
+AllBytes s = (i : ℕ) → byteAt s i < 256
 
 -- The two-byte number at a place, its high byte first (RFC 791, appendix B: network order).
 unfoldable pub be16 : List ℕ → ℕ → ℕ

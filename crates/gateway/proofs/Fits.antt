@@ -6,6 +6,7 @@ use Prim.Native.Nat.{ℕ, _+_, _<_}
 use native.Mathlib.Omega.{arith}
 use lib.Dec.{ltb}
 use borrow.Author.Tests.{ltb-true}
+use Rattle.basis.specs.Bytes.{AllBytes}
 use Rattle.basis.proofs.Tests.{and-left, and-right}
 use Rattle.tcp.specs.declared.Mss.{Mss}
 use Rattle.flow.specs.declared.Answer.{Answer}
@@ -31,7 +32,6 @@ use Rattle.search.proofs.Examined.{within}
 use Rattle.packet_answer.specs.declared.PacketAnswer.{PacketAnswer}
 use Rattle.packet_answer.specs.Packet.{peerOf, judged, answerIn}
 use Rattle.gateway.specs.Parts.{partsOf, afterList, gatewayIn}
-use Rattle.gateway.specs.Decode.{AllBytes}
 use Rattle.gateway.proofs.Room.{HitFits, FoundFits, SearchedFits, PacketFits, AnswerFits}
 use Rattle.gateway.proofs.ReadBack.{injective}
 use Rattle.gateway.proofs.Given.{part-bytes, two-bytes, RefusedFits, reading-fits}

@@ -5,7 +5,7 @@ use Prim.Native.Nat.{ℕ, zero, suc, _+_, _*_, _-_, _<_}
 use native.Mathlib.Omega.{arith}
 use lib.ListN.{take, drop}
 use lib.Seq.{getD-drop}
-use Rattle.basis.specs.Bytes.{byteAt, be16, part}
+use Rattle.basis.specs.Bytes.{byteAt, AllBytes, be16, part}
 use Rattle.rfc.specs.Rfc9293.{control}
 use Rattle.tcp.specs.declared.Mss.{Mss}
 use Rattle.observable.specs.declared.TcpObservation.{TcpObservation}
@@ -24,7 +24,6 @@ use Rattle.flow.specs.Strict.{contradictsItself, readTcpBy}
 use Rattle.flow.specs.Modes.{tcpStage, observationIn, readIn}
 use Rattle.flow.proofs.Stage.{stage-by}
 use Rattle.flow.specs.Reading.{tcpPart, afterIp}
-use Rattle.gateway.specs.Decode.{AllBytes}
 
 -- ---- byte strings
 

@@ -1,5 +1,6 @@
 pub mod Fits
 pub mod Given
+pub mod LineTold
 pub mod Marks
 pub mod ReadBack
 pub mod Room

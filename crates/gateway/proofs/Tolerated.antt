@@ -7,7 +7,7 @@ use native.Mathlib.Omega.{arith}
 use lib.Dec.{eqb, ltb}
 use lib.Bits.{bitAnd, and-le-r, and-shr, and-mask}
 use borrow.Author.Tests.{eqb-true}
-use Rattle.basis.specs.Bytes.{byteAt}
+use Rattle.basis.specs.Bytes.{byteAt, AllBytes}
 use Rattle.quirks.specs.declared.QuirkSet.{QuirkSet}
 use Rattle.quirks.specs.Quirks.{bitsOf, isEmpty, difference}
 use Rattle.quirks.specs.Named.{fuzzyDeletable, fuzzyAddable}
@@ -28,7 +28,6 @@ use Rattle.matching.specs.Gates.{layoutMatches}
 use Rattle.matching.specs.Tolerance.{maskedQuirks, quirksFit, judgeInRange, judge}
 use Rattle.matching.specs.Fit.{scalarGates, toleranceOf, fitOf}
 use Rattle.sigrecord.specs.Record.{ttlOf, signatureOf}
-use Rattle.gateway.specs.Decode.{AllBytes}
 use Rattle.gateway.proofs.Room.{ReasonFits}
 
 -- ---- the quirks

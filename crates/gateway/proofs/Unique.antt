@@ -5,7 +5,8 @@ use Prim.Native.Nat.{ℕ}
 use contract.Lifetimes.{Lfts}
 use denote.Ref.{RefT, now}
 use Rattle.basis.specs.Unique.{ExactlyOne}
-use Rattle.basis.proofs.Unique.{equation}
+use Rattle.basis.proofs.Unique.{both, equation}
+use Rattle.text.specs.Written.{left-with}
 use Rattle.flow.specs.Modes.{modeOf}
 use Rattle.siglist.specs.List.{checkList}
 use Rattle.packet_answer.specs.Packet.{answerIn, answerOf, peerOf}
@@ -16,6 +17,9 @@ use Rattle.gateway.proofs.termread_answer_checked.Reads as termread-ans
 use Rattle.gateway.proofs.termread_answer_checked_in.Reads as termread-answer-checked-in'
 use Rattle.gateway.proofs.termread_answer_in.Reads as termread-answer-in'
 use Rattle.gateway.proofs.termread_check_list.Reads as termread-check-list'
+use Rattle.gateway.proofs.termread_raw_line.Reads as termread-raw-line'
+use Rattle.gateway.proofs.termread_raw_line_in.Reads as termread-raw-line-in'
+use Rattle.gateway.proofs.termread_record_line.Reads as termread-record-line'
 
 pub termread-check-list-one
     : (κs : Lfts 1) (list : RefT (List ℕ))
@@ -47,3 +51,24 @@ pub termread-answer-in-one
     → ExactlyOne TermreadResult
     (λ (r : TermreadResult). termread-answer-in'.Post κs (packet, (peer, (list, (bits, tt)))) r (packet, (peer, (list, (bits, tt)))))
 termread-answer-in-one κs packet peer list bits = equation (partsOf (gatewayIn (modeOf bits) (now packet) peer (now list)))
+
+pub termread-raw-line-one
+    : (κs : Lfts 2) (buffer packet : RefT (List ℕ)) (peer : ℕ)
+    → ExactlyOne (TermreadResult × List ℕ)
+    (λ (r : TermreadResult × List ℕ). termread-raw-line'.Post κs (buffer, (packet, (peer, tt))) (r .0)
+    (left-with buffer (r .1), (packet, (peer, tt))))
+termread-raw-line-one κs buffer packet peer = both _ _
+
+pub termread-raw-line-in-one
+    : (κs : Lfts 2) (buffer packet : RefT (List ℕ)) (peer bits : ℕ)
+    → ExactlyOne (TermreadResult × List ℕ)
+    (λ (r : TermreadResult × List ℕ). termread-raw-line-in'.Post κs (buffer, (packet, (peer, (bits, tt)))) (r .0)
+    (left-with buffer (r .1), (packet, (peer, (bits, tt)))))
+termread-raw-line-in-one κs buffer packet peer bits = both _ _
+
+pub termread-record-line-one
+    : (κs : Lfts 2) (buffer list : RefT (List ℕ)) (index : ℕ)
+    → ExactlyOne (TermreadResult × List ℕ)
+    (λ (r : TermreadResult × List ℕ). termread-record-line'.Post κs (buffer, (list, (index, tt))) (r .0)
+    (left-with buffer (r .1), (list, (index, tt))))
+termread-record-line-one κs buffer list index = both _ _

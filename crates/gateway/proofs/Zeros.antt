@@ -73,7 +73,7 @@ found-zeros kind (found.Exact hit) examined =
 found-zeros kind (found.Fuzzy hit reason) examined = fuzzy-zeros kind hit reason examined
 
 -- Only refusals 7 and 10 return anything.
-packet-alone : (r : PacketRefusal) → (packetNumber r ≡ 7 → ⊥) → packetValue r ≡ 0
+pub packet-alone : (r : PacketRefusal) → (packetNumber r ≡ 7 → ⊥) → packetValue r ≡ 0
 packet-alone why.Version h = refl
 packet-alone why.TooShort h = refl
 packet-alone why.HeaderLength h = refl
@@ -84,7 +84,7 @@ packet-alone (why.InvalidTcpFlags byte) h = absurd (h refl)
 packet-alone why.DataOffset h = refl
 packet-alone why.ExtensionHeaders h = refl
 
-list-alone : (r : ListRefusal) → (listNumber r ≡ 10 → ⊥) → listValue r % 65536 ≡ 0
+pub list-alone : (r : ListRefusal) → (listNumber r ≡ 10 → ⊥) → listValue r % 65536 ≡ 0
 list-alone bad.DoesNotFit h = refl
 list-alone (bad.BadRecord i) h = absurd (h refl)
 

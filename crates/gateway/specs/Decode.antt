@@ -1,9 +1,7 @@
 -- An answer for C read back: which answer a struct stands for.
-use Prim.Native.Nat.{ℕ, _%_, _/_, _<_}
+use Prim.Native.Nat.{_%_, _/_}
 use mathlib.Core.Bool.{cond}
-use mathlib.Core.List.{List}
 use lib.Dec.{eqb}
-use Rattle.basis.specs.Bytes.{byteAt}
 use Rattle.quirks.specs.Quirks.{setOf}
 use Rattle.refusals.specs.declared.ListRefusal.the-variants as list
 use Rattle.refusals.specs.declared.Refusal.{Refusal}
@@ -48,7 +46,3 @@ answerFrom a =
     cond (eqb (a .outcome) 5) (refusedAs (refusalFrom (a .refusal) (a .value)))
     (cond (eqb (a .outcome) 4) (GatewayAnswer.answered packet.Nothing)
     (GatewayAnswer.answered (cond (eqb (a .kind) 1) (packet.Syn (searchedFrom a)) (packet.SynAck (searchedFrom a)))))
-
--- What a lent byte string is: each of its numbers is a byte.
-abbrev pub AllBytes : List ℕ → Type 0
-AllBytes s = (i : ℕ) → byteAt s i < 256

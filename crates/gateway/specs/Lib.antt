@@ -1,3 +1,5 @@
 pub mod Decode
+pub mod LineTold
+pub mod Lines
 pub mod Parts
 pub mod Zeros

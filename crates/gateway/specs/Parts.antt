@@ -44,13 +44,11 @@ plain outcome kind label number examined marks =
       marks = marks;
     }
 
--- `refusal`: its number in documents 01 and 02. `value`, what it returns beside it: of 7 the flags byte, of 10 the index of the first bad
--- record.
-abbrev pub refused : ℕ → ℕ → TermreadResult
-refused refusal value =
+abbrev pub valued : ℕ → ℕ → ℕ → ℕ → TermreadResult
+valued outcome kind refusal value =
     record {
-      outcome = 5;
-      kind = 0;
+      outcome = outcome;
+      kind = kind;
       refusal = refusal;
       tolerated = 0;
       label = 0;
@@ -62,6 +60,11 @@ refused refusal value =
       hops = 0;
       marks = 0;
     }
+
+-- `refusal`: its number in documents 01 and 02. `value`, what it returns beside it: of 7 the flags byte, of 10 the index of the first bad
+-- record.
+abbrev pub refused : ℕ → ℕ → TermreadResult
+refused refusal value = valued 5 0 refusal value
 
 -- The reason of a fuzzy answer, "the hop distance if out of range, the added and the missing quirks" (document 01, module 7): `added`
 -- and `missing`, a bit for each quirk; `hops`; and bit 0 of `marks`, which says that the TTL is out of range.

@@ -1,18 +1,26 @@
-// What a gateway in C or Rust links: each answer as a struct of sixteen bytes.
+// What a gateway in C or Rust links: each answer as a struct of sixteen bytes, and lines in a buffer that it lends.
 ghost use mathlib.Core.Path.{_≡_};
 ghost use Rattle.refusals.specs.Refusals.{packetNumber, packetValue};
 ghost use Rattle.siglist.specs.List.{checkList};
 ghost use Rattle.flow.specs.Modes.{modeOf};
 ghost use Rattle.packet_answer.specs.Packet.{peerOf, answerOf, answerIn};
-ghost use Rattle.gateway.specs.Parts.{plain, refused, hopsOf, genericMark, marksOf, fuzzy, searchedParts, packetParts};
+ghost use Rattle.gateway.specs.Parts.{plain, valued, refused, hopsOf, genericMark, marksOf, fuzzy, searchedParts, packetParts};
 ghost use Rattle.gateway.specs.Parts.{refusedList, partsOf, gatewayAnswer, gatewayIn, listParts};
+ghost use Rattle.text.specs.Written.{Writes};
+ghost use Rattle.gateway.specs.Lines.{lineParts, refusalParts, wroteParts, seenLine};
+ghost use Rattle.gateway.specs.Lines.{packetLineIn, rawLine, rawLineIn, recordParts};
+use flow::Answer;
 use flow::Mode;
 use flow::mode_of;
+use flow::read_packet_in;
 use found::Found;
 use found::Hit;
 use found::Searched;
+use line_writer::write_observation;
+use line_writer::write_record;
 use matching::FuzzyReason;
 use matching::Hops;
+use observable::TcpObservation;
 use packet_answer::PacketAnswer;
 use packet_answer::answer_packet_in;
 use packet_answer::peer_of;
@@ -24,6 +32,7 @@ use refusals::packet_value;
 use refusals::refusal_number;
 use siglist::ListAnswer;
 use siglist::check_list;
+use written_line::Wrote;
 
 // An answer for C: sixteen bytes, returned in two registers (specs/Parts.antt; include/termread.h has the same struct). What a later
 // request fills is 0 until then.
@@ -67,12 +76,12 @@ fn plain(outcome: u8, kind: u8, label: u16, number: u16, examined: u16, marks: u
     }
 }
 
-fn refused(refusal: u8, value: u16) -> TermreadResult
-    ensures { λ r. ⌜ r ≡ refused refusal value ⌝ }
+fn valued(outcome: u8, kind: u8, refusal: u8, value: u16) -> TermreadResult
+    ensures { λ r. ⌜ r ≡ valued outcome kind refusal value ⌝ }
 {
     TermreadResult {
-        outcome: 5,
-        kind: 0,
+        outcome,
+        kind,
         refusal,
         tolerated: 0,
         label: 0,
@@ -84,6 +93,12 @@ fn refused(refusal: u8, value: u16) -> TermreadResult
         hops: 0,
         marks: 0,
     }
+}
+
+fn refused(refusal: u8, value: u16) -> TermreadResult
+    ensures { λ r. ⌜ r ≡ refused refusal value ⌝ }
+{
+    valued(5, 0, refusal, value)
 }
 
 fn hops_of(hops: Hops) -> u8
@@ -189,6 +204,56 @@ fn answered(packet: &[u8], peer: u16, list: &[u8], mode: Mode) -> TermreadResult
     packet_parts(answer_packet_in(packet, peer_of(peer), list, mode))
 }
 
+// ---- lines
+
+// A line was written.
+fn line_parts(kind: u8, size: usize) -> TermreadResult
+    ensures { λ r. ⌜ r ≡ lineParts kind size ⌝ }
+{
+    valued(6, kind, 0, (size % 65536) as u16)
+}
+
+fn refusal_parts(refusal: Refusal) -> TermreadResult
+    ensures { λ r. ⌜ r ≡ refusalParts refusal ⌝ }
+{
+    match refusal {
+        Refusal::Packet(why) => refused_packet(why),
+        Refusal::List(why) => refused_list(why),
+        _ => refused(refusal_number(refusal), 0),
+    }
+}
+
+fn wrote_parts(kind: u8, wrote: Wrote) -> TermreadResult
+    ensures { λ r. ⌜ r ≡ wroteParts kind wrote ⌝ }
+{
+    match wrote {
+        Wrote::Line(size) => line_parts(kind, size),
+        Wrote::Refused(refusal) => refusal_parts(refusal),
+    }
+}
+
+// The raw line of what was seen.
+fn line_seen(buffer: &mut [u8], kind: u8, o: TcpObservation) -> TermreadResult
+    ensures { λ r. ⌜ Writes (now (buffer .entry)) (seenLine kind o) r (now (buffer .exit)) ⌝ }
+{
+    wrote_parts(kind, write_observation(buffer, o))
+}
+
+// The raw line of a packet, in any mode.
+fn packet_line(buffer: &mut [u8], packet: &[u8], peer: u16, mode: Mode) -> TermreadResult
+    ensures { λ r. ⌜ Writes (now (buffer .entry)) (packetLineIn mode (now (packet .entry)) peer) r (now (buffer .exit)) ⌝ }
+{
+    let reading = read_packet_in(packet, peer_of(peer), mode);
+    let answer = reading.answer;
+    let observation = reading.observation;
+    match answer {
+        Answer::Syn => line_seen(buffer, 1, observation),
+        Answer::SynAck => line_seen(buffer, 2, observation),
+        Answer::Nothing => plain(4, 0, 0, 0, 0, 0),
+        Answer::Refused(refusal) => refused_packet(refusal),
+    }
+}
+
 // ---- what is exported
 
 // Whether a list is well formed: outcome 0, or its refusal.
@@ -247,4 +312,38 @@ pub extern "C" fn termread_answer_in(
         ListAnswer::Good => answered(packet, peer, list, mode_of(bits)),
         ListAnswer::Refused(refusal) => refused_list(refusal),
     }
+}
+
+// The raw line of a packet, written from the buffer's start: outcome 6 with its length, nothing, or a refusal, 15 the last. Whatever is
+// answered, bytes past the line are as they were.
+#[no_mangle]
+pub extern "C" fn termread_raw_line(buffer: &mut [u8], packet: &[u8], peer: u16) -> TermreadResult
+    ensures { λ r. ⌜ Writes (now (buffer .entry)) (rawLine (now (packet .entry)) peer) r (now (buffer .exit)) ⌝ }
+{
+    packet_line(buffer, packet, peer, Mode::PLAIN)
+}
+
+// The same in any mode.
+#[no_mangle]
+pub extern "C" fn termread_raw_line_in(
+    buffer: &mut [u8],
+    packet: &[u8],
+    peer: u16,
+    bits: u8,
+) -> TermreadResult
+    ensures { λ r. ⌜ Writes (now (buffer .entry)) (rawLineIn bits (now (packet .entry)) peer) r (now (buffer .exit)) ⌝ }
+{
+    packet_line(buffer, packet, peer, mode_of(bits))
+}
+
+// The line of record `index` of a list, in the same way: refusals 9, 10, 23 and 15.
+#[no_mangle]
+pub extern "C" fn termread_record_line(
+    buffer: &mut [u8],
+    list: &[u8],
+    index: usize,
+) -> TermreadResult
+    ensures { λ r. ⌜ Writes (now (buffer .entry)) (recordParts (now (list .entry)) index) r (now (buffer .exit)) ⌝ }
+{
+    wrote_parts(0, write_record(buffer, list, index))
 }

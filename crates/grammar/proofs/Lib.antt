@@ -3,9 +3,13 @@ pub mod Exact
 pub mod Fields
 pub mod Join
 pub mod Judged
+pub mod LeadingZero
 pub mod Listed
 pub mod Numerals
+pub mod PlainDecimal
 pub mod Reading
+pub mod Spelling
+pub mod SpeltBack
 pub mod States
 pub mod Tables
 pub mod WordBytes

@@ -1,12 +1,12 @@
--- How long the lines are, and a line behind a word.
-use mathlib.Core.List.{List, _++_, append-assoc}
+-- How long the lines are.
+use mathlib.Core.List.{List, _++_}
 use Prim.Native.Nat.{ℕ, _+_, _-_, _≤_}
 use native.Mathlib.Omega.{arith}
 use lib.ListN.{length, length-append}
 use Rattle.text.specs.Decimal.{decimal, newline}
 use Rattle.text.specs.Written.{PutAll, Put}
 use Rattle.text.proofs.Decimal.{decimal-length}
-use Rattle.text.proofs.Writing.{both, put-all}
+use Rattle.text.proofs.Writing.{put-all}
 use Rattle.refusals.specs.Refusals.{packetNumber}
 use Rattle.found.specs.declared.Found.{Found}
 use Rattle.found.specs.declared.Found.the-variants as found
@@ -43,12 +43,3 @@ pub numbered-put
     → Put page at (word ++ decimal n ++ newline) next page'
     → PutAll page at (word ++ decimal n ++ newline) next page'
 numbered-put page page' word n at next room = put-all page page' _ at next (omega (arith, numbered-length word n))
-
--- A word, and a line behind it.
-pub lined
-    : (page page' page'' word line : List ℕ) (at next last : ℕ)
-    → Put page at word next page'
-    → Put page' next (line ++ newline) last page''
-    → Put page at (word ++ line ++ newline) last page''
-lined page page' page'' word line at next last first second =
-    rw (append-assoc word line newline) (both page page' page'' word (line ++ newline) at next last first second)

@@ -15,7 +15,7 @@ use numbers::be16;
 use refusals::Refusal;
 use refusals::refusal_number;
 
-mod lines;
+pub mod lines;
 
 // How far the output of a bundle is: the bytes of the page, and the packets that are left, by their number and the place of the
 // first.

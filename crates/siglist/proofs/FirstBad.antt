@@ -58,3 +58,23 @@ checked l i (suc n) = by-test (recordGood l i) refl (checked l (i + 1) n)
 pub first-bad-named : (l : List ℕ) → listFits l ≡ true → Checked l 0 (recordCount l) (checkList l)
 unfolding checkList
 first-bad-named l e = rw e (checked l 0 (recordCount l))
+
+-- A good list has a header.
+pub no-header : (l : List ℕ) → checkList l ≡ list.Good → listFits l ≡ false → ⊥
+no-header l e f = let no = sym e ∙ does-not-fit l f in let z : _≡_ {A = ℕ} 0 1 = cc in omega arith
+
+-- Nor does a good list lack areas that fit.
+pub good-fits : (l : List ℕ) → checkList l ≡ list.Good → listFits l ≡ true
+good-fits l e = by (listFits l) refl
+  where
+    by : (t : Bool) → listFits l ≡ t → t ≡ true
+    by true f = refl
+    by false f = absurd (no-header l e f)
+
+-- Every record of a good list is.
+pub each-good : (l : List ℕ) (i : ℕ) → checkList l ≡ list.Good → i < recordCount l → recordGood l i ≡ true
+each-good l i e h = by (checkList l) (first-bad-named l (good-fits l e)) e
+  where
+    by : (x : ListAnswer) → Checked l 0 (recordCount l) x → x ≡ list.Good → recordGood l i ≡ true
+    by x (all-good all) f = all i (omega arith) (omega arith)
+    by x (first-bad k a b bad before) f = let z : _≡_ {A = ℕ} 0 1 = cc in absurd (omega arith)

@@ -104,7 +104,7 @@ Each P [] = Unit
 Each P (v ∷ vs) = P v × Each P vs
 
 module _ {A : Type 0} (F : List ℕ → A → Type 0) (c : ℕ) (P : A → Type 0) (holds : (w : List ℕ) (v : A) → F w v → P v) where
-  more-each : (n : ℕ) (w : List ℕ) (vs : List A) → More F c n w vs → Each P vs × (length vs ≤ n)
+  pub more-each : (n : ℕ) (w : List ℕ) (vs : List A) → More F c n w vs → Each P vs × (length vs ≤ n)
   more-each zero w vs m = rw (m .1) (tt, omega arith)
   more-each (suc n) w vs (inl m) = rw (m .1) (tt, omega arith)
   more-each (suc n) [] vs (inr m) = absurd m

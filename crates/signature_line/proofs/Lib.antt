@@ -1,13 +1,7 @@
 pub mod Accepted
 pub mod Arrays
-pub mod EveryRecord
 pub mod FieldsGood
-pub mod FieldWords
-pub mod LayoutRow
 pub mod LineValues
 pub mod Line
-pub mod QuirkRow
-pub mod RecordLine
-pub mod Spelled
 pub mod WellFormed
 pub mod Zeros

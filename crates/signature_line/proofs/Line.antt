@@ -8,6 +8,7 @@ use native.Mathlib.Decide.{decLe}
 use lib.Dec.{leb, ltb}
 use borrow.Author.Tests.{ne-eqb, lt-leb}
 use Rattle.basis.specs.Tests.{allBelow}
+use Rattle.grammar.specs.LeadingZero.{isDigit}
 use Rattle.grammar.specs.Language.{GoesOn, Then}
 use Rattle.grammar.specs.States.{done, tableRead}
 use Rattle.grammar.specs.Table.{Said, Choice}
@@ -149,9 +150,6 @@ unfolding quirkWord done
 quirk-empty = table-empty quirkWord refl
 
 -- ---- a TTL: its number is digits, and its form begins with none
-
-abbrev isDigit : ℕ → Bool
-isDigit b = leb 48 b && ltb b 58
 
 byte-digits : Words isDigit (Choice bareByte)
 unfolding bareByte rowsWithin allBelow

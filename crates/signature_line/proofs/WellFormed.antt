@@ -92,7 +92,7 @@ module _ (f : Fields) (g : FieldsGood f) where
       four n = omega arith
 
   -- The header's four numbers, and the length.
-  one-record : recordCount l ≡ 1
+  pub one-record : recordCount l ≡ 1
   unfolding listOfOne be16
   one-record = refl
 
@@ -125,11 +125,11 @@ module _ (f : Fields) (g : FieldsGood f) where
       )
 
   -- The record and its entries, where the header says that they are.
-  record-there : recordAt l 0 ≡ rawOf f
+  pub record-there : recordAt l 0 ≡ rawOf f
   unfolding listOfOne rawOf be16
   record-there = refl
 
-  entries-there : entriesFrom l 0 (length (f .layout)) ≡ inTurn (f .layout)
+  pub entries-there : entriesFrom l 0 (length (f .layout)) ≡ inTurn (f .layout)
   unfolding listOfOne rawOf be16
   entries-there =
       let n = length (f .layout) in
@@ -153,7 +153,7 @@ module _ (f : Fields) (g : FieldsGood f) where
   unfolding recordGood
   record-good = rw (record-there, scalars) lies-there
 
-  list-good : checkList l ≡ answer.Good
+  pub list-good : checkList l ≡ answer.Good
   unfolding checkList recordsFrom
   list-good = rw (fits, one-record, record-good)
 

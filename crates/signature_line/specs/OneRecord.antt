@@ -60,10 +60,8 @@ pub record WellFormedLine (m : LineMeaning) : Type 0 where
   pub kindsBytes : (i : ℕ) → byteAt (m .layout .kinds) i < 256
   pub bytesBytes : (i : ℕ) → byteAt (m .layout .bytes) i < 256
 
--- Record i of a list has a line that means it, but for the place of its layout (bytes 18 and 19), byte 21 and its label (22 and 23).
-pub record HasLine (l : List ℕ) (i : ℕ) : Type 0 where
-  -- The line, and what it means.
-  pub line : List ℕ
+-- A line means record i of a list, but for the place of its layout (bytes 18 and 19), byte 21 and its label (22 and 23).
+pub record MeansRecord (l : List ℕ) (i : ℕ) (line : List ℕ) : Type 0 where
   pub meaning : LineMeaning
   pub says : SignatureLine line meaning
   -- It is short enough to be read.
@@ -76,3 +74,8 @@ pub record HasLine (l : List ℕ) (i : ℕ) : Type 0 where
   pub signature : signatureOf (meaning .raw) ≡ signatureOf (recordAt l i)
   -- The layout's entries are the record's, wherever these lie in the list.
   pub entries : entriesIn (meaning .layout) ≡ entriesOf l (recordAt l i)
+
+-- Record i of a list has a line.
+pub record HasLine (l : List ℕ) (i : ℕ) : Type 0 where
+  pub line : List ℕ
+  pub means : MeansRecord l i line

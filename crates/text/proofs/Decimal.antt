@@ -12,7 +12,7 @@ use Rattle.text.specs.Written.{Put}
 use Rattle.text.specs.Decimal.{newline, width, fiveDigits, decimal}
 
 -- What holds of a number's last digits, as many as it has, holds of its decimal.
-by-width
+pub by-width
     : (P : List ℕ → Type 0) (n : ℕ)
     → (n < 10 → P (drop 4 (fiveDigits n)))
     → (10 ≤ n → n < 100 → P (drop 3 (fiveDigits n)))
@@ -42,6 +42,15 @@ by-width P n one two three four five = by-tests (ltb n 10) refl (ltb n 100) refl
 pub decimal-length : (n : ℕ) → length (decimal n) ≤ 5
 unfolding decimal
 decimal-length n = rw (length-drop) (omega arith)
+
+pub decimal-short : (n : ℕ) → n < 1000 → length (decimal n) ≤ 3
+decimal-short n h =
+    by-width (λ (s : List ℕ). length s ≤ 3) n
+    (λ b. omega arith)
+    (λ a b. omega arith)
+    (λ a b. omega arith)
+    (λ a b. omega arith)
+    (λ a. omega arith)
 
 -- No decimal but that of 0 begins with the digit 0.
 pub no-leading-zero : (n : ℕ) → 0 < n → n < 100000 → 48 < byteAt (decimal n) 0

@@ -48,6 +48,29 @@ put-nothing buffer text at h =
     let none : length buffer - at ≡ 0 = omega arith in
     rw none (omega arith, sym (nothing-written buffer at))
 
+-- So every text is put there as any other.
+nowhere : (b b' t : List ℕ) (at n : ℕ) → length b ≤ at → Put b at t n b' → (n ≡ at) × (b' ≡ b)
+unfolding room
+nowhere b b' t at n h put =
+    let none : length b - at ≡ 0 = omega arith in
+    let end : n ≡ at + 0 = rw none at (put .0) in
+    let same : b' ≡ written b at [] = rw none at (put .1) in
+    (end ∙ add-zero at, same ∙ nothing-written b at)
+
+pub any-text
+    : (b b' b'' t u v : List ℕ) (at next n : ℕ) → length b ≤ at → Put b at t next b' → Put b' next u n b'' → Put b at v n b''
+any-text b b' b'' t u v at next n h first second =
+    let one = nowhere b b' t at next h first in
+    let two = nowhere b' b'' u next n (rw (one .0, one .1) h) second in
+    rw (two .0 ∙ one .0, two .1 ∙ one .1) (put-nothing b v at h)
+
+-- Nothing is put, wherever.
+pub put-none : (buffer : List ℕ) (at : ℕ) → Put buffer at [] at buffer
+unfolding room
+put-none buffer at =
+    let none : take (length buffer - at) [] ≡ [] = take-nil {A = ℕ} (length buffer - at) in
+    rw none (omega arith, sym (nothing-written buffer at))
+
 pub put-one : (buffer : List ℕ) (at byte : ℕ) → at < length buffer → Put buffer at (byte ∷ []) (at + 1) (set buffer at byte)
 unfolding written
 put-one buffer at byte h =

@@ -24,3 +24,15 @@ Put buffer at text next buffer' = PutAll buffer at (room buffer at text) next bu
 -- The caller's buffer is left with other bytes: the same reference.
 abbrev pub left-with : RefT (List ℕ) → List ℕ → RefT (List ℕ)
 left-with buffer bytes = record { ptr = buffer .ptr; name = buffer .name; now = bytes }
+
+-- ---- a line, or a refusal
+
+-- What is answered, and the line that is written from the buffer's start on: none beside a refusal.
+pub record Lined (R : Type 0) : Type 0 where
+  pub answer : R
+  pub line : List ℕ
+
+-- Of a buffer of so many bytes: so it is answered, and the buffer has the line at its start; bytes past the line are as they were.
+abbrev pub Writes : {R : Type 0} → List ℕ → (ℕ → Lined R) → R → List ℕ → Type 0
+Writes buffer writing r buffer' =
+    (r ≡ writing (length buffer) .answer) × (buffer' ≡ written buffer 0 (writing (length buffer) .line))

@@ -89,3 +89,22 @@ pub fn put_decimal(buffer: &mut [u8], at: usize, n: u16) -> usize
     }
     put_long(buffer, at, n)
 }
+
+// How many digits a number has in decimal.
+pub fn decimal_length(n: u16) -> usize
+    ensures { λ r. ⌜ r ≡ length (decimal n) ⌝ }
+{
+    if n <= 9 {
+        return 1;
+    }
+    if n <= 99 {
+        return 2;
+    }
+    if n <= 999 {
+        return 3;
+    }
+    if n <= 9999 {
+        return 4;
+    }
+    5
+}

@@ -19,6 +19,7 @@ use Rattle.witness.specs.declared.PlainProgress.{PlainProgress}
 use Rattle.witness.specs.declared.PlainSearch.{PlainSearch}
 use Rattle.witness.specs.declared.PlainTtl.{PlainTtl}
 use Rattle.witness.specs.declared.PlainWalk.{PlainWalk}
+use Rattle.witness.specs.declared.PlainWrote.{PlainWrote}
 use Rattle.witness.specs.Lined.{lineRead}
 use Rattle.witness.specs.Taken.{hopsRead, searchRead}
 use Rattle.witness.specs.Walked.{walkRead}
@@ -29,6 +30,8 @@ use Rattle.witness.proofs.witness_line.Reads as witness-line'
 use Rattle.witness.proofs.witness_next_page.Reads as witness-next-page'
 use Rattle.witness.proofs.witness_options.Reads as witness-options'
 use Rattle.witness.proofs.witness_packet.Reads as witness-packet'
+use Rattle.witness.proofs.witness_raw.Reads as witness-raw'
+use Rattle.witness.proofs.witness_record.Reads as witness-record'
 use Rattle.witness.proofs.witness_search.Reads as witness-search'
 use Rattle.witness.proofs.witness_ttl.Reads as witness-ttl'
 use Rattle.witness.proofs.witness_walk.Reads as witness-walk'
@@ -54,6 +57,19 @@ pub witness-line-one
     : (κs : Lfts 1) (line : RefT (List ℕ))
     → ExactlyOne PlainLine (λ (r : PlainLine). witness-line'.Post κs (line, tt) r (line, tt))
 witness-line-one κs line = equation (lineRead (now line))
+
+pub witness-raw-one
+    : (κs : Lfts 1) (buffer : RefT (List ℕ)) (observation : PlainObservation)
+    → ExactlyOne (PlainWrote × List ℕ)
+    (λ (r : PlainWrote × List ℕ). witness-raw'.Post κs (buffer, (observation, tt)) (r .0) (left-with buffer (r .1), (observation, tt)))
+witness-raw-one κs buffer observation = both _ _
+
+pub witness-record-one
+    : (κs : Lfts 2) (buffer list : RefT (List ℕ)) (index : ℕ)
+    → ExactlyOne (PlainWrote × List ℕ)
+    (λ (r : PlainWrote × List ℕ). witness-record'.Post κs (buffer, (list, (index, tt))) (r .0)
+    (left-with buffer (r .1), (list, (index, tt))))
+witness-record-one κs buffer list index = both _ _
 
 pub witness-search-one
     : (κs : Lfts 1) (observation : PlainObservation) (list : RefT (List ℕ))

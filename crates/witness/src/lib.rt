@@ -1,10 +1,14 @@
 // Outside witnesses: the answers as structs of numbers, for C drivers (tools/witness/witness.h); not part of the product.
 ghost use mathlib.Core.Path.{_≡_};
+ghost use Rattle.text.specs.Written.{Writes};
 ghost use Rattle.witness.specs.Written.{packetRead, optionsRead, ttlRead, plainProgress, firstOf, nextOf, Paged};
 ghost use Rattle.witness.specs.Taken.{searchRead, hopsRead};
 ghost use Rattle.witness.specs.Lined.{lineRead};
 ghost use Rattle.witness.specs.Walked.{walkRead};
+ghost use Rattle.witness.specs.Wrote.{rawLine, lineAt};
 use flow::mode_of;
+use line_writer::write_observation;
+use line_writer::write_record;
 use lined::plain_line;
 use packet_answer::peer_of;
 use quirks::QuirkSet;
@@ -17,12 +21,14 @@ use walked::plain_walk;
 use walked::stop_of;
 use written::plain_options;
 use written::plain_packet;
+use wrote::plain_wrote;
 
 mod lined;
 mod searched;
 mod taken;
 mod walked;
 pub mod written;
+mod wrote;
 
 // An observation. A value that is absent is 0, and so is its `has_`.
 #[repr(C)]
@@ -106,6 +112,14 @@ pub struct PlainLine {
     pub bytes: [u8; 40],
 }
 
+// What writing a line answers: its length, or the refusal.
+#[repr(C)]
+pub struct PlainWrote {
+    pub length: usize,
+    pub bad_record: u32,
+    pub refusal: u8,
+}
+
 #[repr(C)]
 pub struct PlainSearch {
     pub added: u32,
@@ -160,6 +174,22 @@ pub extern "C" fn witness_line(line: &[u8]) -> PlainLine
     ensures { λ r. ⌜ r ≡ lineRead (now (line .entry)) ⌝ }
 {
     plain_line(parse_tcp::parse_tcp_signature(line))
+}
+
+// The raw line of an observation, into a lent buffer.
+#[no_mangle]
+pub extern "C" fn witness_raw(buffer: &mut [u8], observation: PlainObservation) -> PlainWrote
+    ensures { λ r. ⌜ Writes (now (buffer .entry)) (rawLine observation) r (now (buffer .exit)) ⌝ }
+{
+    plain_wrote(write_observation(buffer, observation_of(observation)))
+}
+
+// The line of a list's record, by its number from 0, into a lent buffer.
+#[no_mangle]
+pub extern "C" fn witness_record(buffer: &mut [u8], list: &[u8], index: usize) -> PlainWrote
+    ensures { λ r. ⌜ Writes (now (buffer .entry)) (lineAt (now (list .entry)) index) r (now (buffer .exit)) ⌝ }
+{
+    plain_wrote(write_record(buffer, list, index))
 }
 
 #[no_mangle]

@@ -13,6 +13,7 @@ mod packets;
 mod port;
 mod rows;
 mod window;
+mod written;
 
 fn main() {
     let arguments: Vec<String> = std::env::args().skip(1).collect();
@@ -26,8 +27,10 @@ fn main() {
     }
     match &arguments[1..] {
         [] => {
+            let every = [&lines[..], &lists::section(&text, "tcp:response").0].concat();
             rows::all(&lines, &kinds);
-            lines::all(&[&lines[..], &lists::section(&text, "tcp:response").0].concat());
+            lines::all(&every);
+            written::all(&every);
             modes::all(&lines);
         }
         [word, count, file] if word == "bundle" => {

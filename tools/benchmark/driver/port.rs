@@ -1,7 +1,9 @@
-//! The port: the static library of the crate `counted`, and that of the crate `gateway`, which ships.
+//! The port: the static library of the crate `counted`, that of the crate `witness` for lines that are written, and that of the crate
+//! `gateway`, which ships.
 
 /// `witness::PlainObservation`: an observation as numbers (tools/witness/witness.h).
 #[repr(C)]
+#[derive(Clone, Copy)]
 pub struct Observation {
     pub count: u64,
     pub quirks: u32,
@@ -24,6 +26,21 @@ pub struct Observation {
     pub has_peer_mss: u8,
     pub kinds: [u8; 40],
     pub bytes: [u8; 40],
+}
+
+impl Default for Observation {
+    fn default() -> Self {
+        // Numbers alone: all of them 0.
+        unsafe { std::mem::zeroed() }
+    }
+}
+
+/// `witness_wrote` of tools/witness/witness.h: a length or a refusal, in two registers.
+#[repr(C)]
+pub struct Wrote {
+    pub length: u64,
+    pub bad_record: u32,
+    pub refusal: u8,
 }
 
 /// `witness::PlainPacket`: a reading, without the window's multiplier.
@@ -70,6 +87,8 @@ unsafe extern "C" {
     fn counted_observe_in(packet: *const u8, size: usize, peer: u16, mode: u8) -> Reading;
     fn counted_read(packet: *const u8, size: usize, peer: u16) -> u8;
     fn counted_answer(packet: *const u8, size: usize, peer: u16, list: *const u8, length: usize) -> u64;
+    fn witness_raw(buffer: *mut u8, room: usize, observation: Observation) -> Wrote;
+    fn witness_record(buffer: *mut u8, room: usize, list: *const u8, length: usize, index: usize) -> Wrote;
     fn termread_answer(packet: *const u8, size: usize, peer: u16, list: *const u8, length: usize) -> Given;
     fn termread_answer_in(packet: *const u8, size: usize, peer: u16, list: *const u8, length: usize, mode: u8) -> Given;
     fn termread_answer_checked(packet: *const u8, size: usize, peer: u16, list: *const u8, length: usize) -> Given;
@@ -113,6 +132,17 @@ pub fn parts(answer: u64) -> (u64, u64) {
 #[inline(always)]
 pub fn line(text: &[u8]) -> Line {
     unsafe { counted_line(text.as_ptr(), text.len()) }
+}
+
+/// The raw line of an observation, and the line of a record of a list.
+#[inline(always)]
+pub fn raw(buffer: &mut [u8], observation: Observation) -> Wrote {
+    unsafe { witness_raw(buffer.as_mut_ptr(), buffer.len(), observation) }
+}
+
+#[inline(always)]
+pub fn record(buffer: &mut [u8], list: &[u8], index: usize) -> Wrote {
+    unsafe { witness_record(buffer.as_mut_ptr(), buffer.len(), list.as_ptr(), list.len(), index) }
 }
 
 /// What the library answers against a list that was checked before, and the same in a mode.

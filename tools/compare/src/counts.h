@@ -5,7 +5,7 @@
 #include "linetext.h"
 #include "tally.h"
 
-enum { FAMILIES = 64, ANSWERS = 25, MOST = 4096 };
+enum { FAMILIES = 80, ANSWERS = 27, MOST = 4096 };
 
 typedef struct {
     const char *name;
@@ -13,6 +13,9 @@ typedef struct {
     uint64_t inputs, differences, answers[ANSWERS], classes[LINE_CLASSES];
     uint64_t walks, damage[4]; /* walks that were compared; option strings that are sound, have one past the end, one too short, both */
     uint64_t strict, refused_14; /* what was asked in the strict mode too; of it, what is refused by 14 there, of a pair both */
+    uint64_t calls, refused_15;  /* of writing a line: calls, of them those that are refused by 15 */
+    uint64_t multiples[3];       /* lines by the original's window: as here, a multiple of the MSS, of the MTU */
+    size_t shortest, longest;
 } Family;
 
 typedef struct {

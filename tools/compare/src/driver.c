@@ -6,12 +6,17 @@
 #include <stdlib.h>
 #include <string.h>
 
+static void written_families(unsigned share) {
+    raw_line_families(share);
+    record_line_families(share);
+}
+
 static const struct {
     const char *name;
     void (*run)(unsigned share);
 } families[] = {
     {"packets", packet_families}, {"options", option_families}, {"searches", search_families}, {"pairs", pair_families},
-    {"lines", line_families},
+    {"lines", line_families},     {"written", written_families},
 };
 
 int main(int argc, char **argv) {

@@ -9,6 +9,8 @@ void option_families(unsigned share);
 void search_families(unsigned share);
 void pair_families(unsigned share);
 void line_families(unsigned share);
+void raw_line_families(unsigned share);
+void record_line_families(unsigned share);
 
 /* An option string by every walk, beside the original's answer to it (places.c). */
 void try_places(const uint8_t *s, size_t size, const Numbers *original);

@@ -9,6 +9,10 @@
             1 index of refusal 10   2 hops   3 added   4 missing   5 the number of the record, from 0   6 whether it is generic
             7 how many records were examined: up to the specific exact one that ended the search, else all; 0 beside a refusal
    line     0 answer (1 read, 13 refused)   1 offset   2 to 4 the record   20 to 30 layout
+   written  0 answer (1 written, or the refusal)   1 length   2 index of refusal 10   3 the bytes of the line as one number
+            4 the same of a buffer of the line's length   5 to 7 answer there, in one of a byte less, of some bytes less
+            8 how many bytes were changed that should not have been   9 whether the line is read (1, or 13)
+            10 to 12 the record that is read of it   20 to 30 layout
    hops     0 the hop distance that is reported for two TTLs of three bytes
    ttl      0 the form of a byte's reading (0 value, 1 distance, 3 bad)   1 its byte   2 its distance   3 the byte's guess */
 #ifndef NUMBERS_H

@@ -1,6 +1,5 @@
 /* The port's answers in the common numbering. */
-#include "numbers.h"
-#include "../../witness/witness.h"
+#include "written.h"
 
 #include <string.h>
 
@@ -61,18 +60,6 @@ void port_walk(const uint8_t *s, size_t size, uint8_t stop, int syn, Numbers *ou
     layout_numbers(read.count, read.kinds, read.bytes, out);
 }
 
-/* An observation from its bytes (tools/original/oracle/original.h). */
-static witness_observation observation_of(const uint8_t *b) {
-    witness_observation o = {0};
-    o.version = b[0], o.ttl_form = b[1], o.ttl = b[2], o.hops = b[3], o.olen = b[4];
-    o.has_mss = b[5], o.mss = (uint16_t)be16_at(b + 6), o.wsize = (uint16_t)be16_at(b + 8), o.tot_hdr = (uint16_t)be16_at(b + 10);
-    o.has_wscale = b[12], o.wscale = b[13], o.count = b[14], o.quirks = be32_at(b + 95), o.pclass = b[99];
-    o.has_peer_mss = b[100], o.peer_mss = (uint16_t)be16_at(b + 101), o.tos = b[103];
-    memcpy(o.kinds, b + 15, sizeof o.kinds);
-    memcpy(o.bytes, b + 55, sizeof o.bytes);
-    return o;
-}
-
 void port_search(const uint8_t *observation, const uint8_t *list, size_t size, Numbers *out) {
     witness_search_read read = witness_search(observation_of(observation), list, size);
     memset(out, 0, sizeof *out);
@@ -112,4 +99,50 @@ void port_line(const uint8_t *s, size_t size, Numbers *out) {
     out->n[1] = read.offset;
     for (i = 0; i < 3; i++) out->n[2 + i] = word_at(read.raw + 8 * i);
     layout_numbers(read.count, read.kinds, read.bytes, out);
+}
+
+/* ---- lines that are written */
+
+enum { GUARD = 64, BUFFER = TEXT_MOST + GUARD };
+
+/* No byte of a line is over 127. */
+static uint8_t pattern(size_t i) { return (uint8_t)(128 + i * 37 % 128); }
+
+/* A call, with a buffer that was filled before; adds how many bytes were changed that should not have been. */
+static witness_wrote call(const Asked *a, size_t room, uint8_t *buffer, uint64_t *touched) {
+    witness_wrote wrote;
+    size_t i;
+    for (i = 0; i < BUFFER; i++) buffer[i] = pattern(i);
+    wrote = a->observation ? witness_raw(buffer, room, *a->observation) : witness_record(buffer, room, a->list, a->size, a->index);
+    for (i = wrote.refusal ? 0 : wrote.length; i < BUFFER; i++) *touched += buffer[i] != pattern(i);
+    return wrote;
+}
+
+static uint64_t answer_of(witness_wrote wrote) { return wrote.refusal ? wrote.refusal : 1; }
+
+void port_written(const Asked *a, const Written *e, Numbers *out, uint64_t *calls, uint64_t *short_ones) {
+    uint8_t buffer[BUFFER];
+    size_t most = e->refusal ? TEXT_MOST : e->length, some = (size_t)(mixed(e->text, e->length) ^ a->size ^ a->index) % most;
+    size_t rooms[4] = {TEXT_MOST, 0, 1, some};
+    uint64_t touched = 0;
+    witness_line_read read;
+    witness_wrote wrote;
+    int i;
+    if (!e->refusal) rooms[1] = e->length, rooms[2] = e->length - 1;
+    memset(out, 0, sizeof *out);
+    for (i = 3; i >= 0; i--) {
+        wrote = call(a, rooms[i], buffer, &touched);
+        out->n[4 * (i > 0) + i] = answer_of(wrote);
+        *short_ones += wrote.refusal == 15;
+        if (i == 1 && !wrote.refusal) out->n[4] = mixed(buffer, e->length);
+    }
+    *calls += 4;
+    out->n[1] = wrote.length;
+    out->n[2] = wrote.bad_record;
+    out->n[8] = touched;
+    if (wrote.refusal) return;
+    out->n[3] = mixed(buffer, e->length);
+    read = witness_line(buffer, wrote.length < BUFFER ? wrote.length : BUFFER);
+    out->n[9] = read.refusal ? read.refusal : 1;
+    reading_numbers(read.raw, read.count, read.kinds, read.bytes, out);
 }

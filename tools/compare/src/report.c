@@ -6,7 +6,7 @@
 static const char *const answer_names[ANSWERS] = {
     "SYN", "SYN+ACK", "nothing", "refused 1", "refused 2", "refused 3", "refused 4", "refused 5", "refused 6", "refused 7",
     "parsed", "malformed", "refused 8", "specific exact", "generic exact", "fuzzy", "none", "refused 9", "refused 10", "refused 11",
-    "pairs", "hops", "line", "refused 13", "TTL bytes",
+    "pairs", "hops", "line", "refused 13", "TTL bytes", "written", "refused 23",
 };
 
 static const char *const class_names[LINE_CLASSES] = {
@@ -23,6 +23,7 @@ static void hex(const char *name, const uint8_t *p, size_t size) {
 static void show_difference(int kind, int which, const Difference *d) {
     static const char *const names[KINDS] = {"packet (peer MSS before it)", "options", "search (observation, list)", "pair",
                                              "hops (two TTLs)", "line (the grammar's answer for the original's)", "TTL byte",
+                                             "raw line (observation)", "record's line (number of the record before its list)",
                                              "packet in strict mode (peer MSS before it; what is expected for the original's)",
                                              "pair in strict mode", "walk (what is expected for the original's)",
                                              "pair, the walks of their options"};
@@ -84,6 +85,20 @@ static void report_damage(void) {
         printf("| %s |", f->name);
         for (j = 0; j < 4; j++) printf(" %llu |", (unsigned long long)f->damage[j]);
         printf(" %llu |\n", (unsigned long long)f->walks);
+    }
+}
+
+/* Lines that are written, by family: how the original writes the window, and the calls with their refusals by 15. */
+static void report_written(void) {
+    int i, j;
+    printf("\n| Written lines | Window as the original's | There a multiple of the MSS | of the MTU | Bytes | Calls | Refused 15 |\n");
+    printf("|---|---|---|---|---|---|---|\n");
+    for (i = 0; i < counts.used; i++) {
+        const Family *f = &counts.families[i];
+        if (!f->calls) continue;
+        printf("| %s |", f->name);
+        for (j = 0; j < 3; j++) printf(" %llu |", (unsigned long long)f->multiples[j]);
+        printf(" %zu to %zu | %llu | %llu |\n", f->shortest, f->longest, (unsigned long long)f->calls, (unsigned long long)f->refused_15);
     }
 }
 
@@ -151,15 +166,17 @@ uint64_t report(void) {
         wrong += f->differences;
     }
     printf("\npackets %llu, option strings %llu, searches %llu, pairs %llu, hop distances %llu, lines %llu, TTL bytes %llu, "
-           "differences %llu\n",
+           "raw lines %llu, records' lines %llu, differences %llu\n",
            (unsigned long long)all[PACKET], (unsigned long long)all[OPTIONS], (unsigned long long)all[SEARCH],
            (unsigned long long)all[PAIR], (unsigned long long)all[HOPS], (unsigned long long)all[LINE],
-           (unsigned long long)all[TTL], (unsigned long long)wrong);
+           (unsigned long long)all[TTL], (unsigned long long)all[RAW_LINE], (unsigned long long)all[RECORD_LINE],
+           (unsigned long long)wrong);
     for (j = 0; j < ANSWERS; j++) printf("%s %llu%s", answer_names[j], (unsigned long long)sums[j], j + 1 < ANSWERS ? ", " : "\n");
     if (all[PACKET] || all[PAIR]) report_strict();
     report_counts();
     if (all[OPTIONS] || all[PAIR]) report_damage();
     if (all[LINE]) report_lines();
+    if (all[RAW_LINE] || all[RECORD_LINE]) report_written();
     for (i = 0; i < KINDS; i++)
         for (j = 0; j < NUMBERS; j++)
             if (counts.differences[i][j]) show_difference(i, j, counts.differences[i][j]);

@@ -6,6 +6,8 @@
 #include "make.h"
 #include "original.h"
 #include "storedlines.h"
+#include "storedwritten.h"
+#include "written.h"
 
 #include <inttypes.h>
 #include <stdio.h>
@@ -19,23 +21,6 @@ static void write_bytes(const uint8_t *bytes, size_t size) {
     size_t i;
     if (size == 0) putchar('-');
     for (i = 0; i < size; i++) printf("%02x", (unsigned)bytes[i]);
-}
-
-/* The original's bytes of an observation (original.h) as those that tools/ask writes out. */
-static witness_observation observation_of(const uint8_t *o) {
-    witness_observation w;
-    memset(&w, 0, sizeof w);
-    w.version = o[0], w.ttl_form = o[1], w.ttl = o[2], w.hops = o[3], w.olen = o[4];
-    w.has_mss = o[5], w.mss = (uint16_t)be16_at(o + 6);
-    w.wsize = (uint16_t)be16_at(o + 8), w.tot_hdr = (uint16_t)be16_at(o + 10);
-    w.has_wscale = o[12], w.wscale = o[13];
-    w.count = o[14];
-    memcpy(w.kinds, o + 15, sizeof w.kinds);
-    memcpy(w.bytes, o + 55, sizeof w.bytes);
-    w.quirks = be32_at(o + 95), w.pclass = o[99];
-    w.has_peer_mss = o[100], w.peer_mss = (uint16_t)be16_at(o + 101);
-    w.tos = o[103], w.multiple_of = o[104], w.multiple = (uint16_t)be16_at(o + 105);
-    return w;
 }
 
 static void write_packet_answer(const Numbers *answer, const uint8_t *o) {
@@ -182,11 +167,12 @@ static void searches(void) {
 }
 
 int main(void) {
-    unsigned lines = stored_lines();
+    unsigned lines = stored_lines(), written_lines = stored_written();
     packets();
     options();
     searches();
-    fprintf(stderr, "lines %u, packets %u, options %u, searches %u\n", lines, written[0], written[1], written[2]);
+    fprintf(stderr, "lines %u, written ones %u, packets %u, options %u, searches %u\n", lines, written_lines, written[0], written[1],
+            written[2]);
     cover_report();
     return fflush(stdout) != 0 || ferror(stdout);
 }

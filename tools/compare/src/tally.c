@@ -1,7 +1,7 @@
 #include "counts.h"
 #include "damage.h"
 #include "original.h"
-#include "../../witness/witness.h"
+#include "written.h"
 
 #include <stdlib.h>
 #include <string.h>
@@ -25,6 +25,7 @@ static int answer_of(Kind kind, const Numbers *a) {
     if (kind == HOPS) return 21;
     if (kind == LINE) return n == 13 ? 23 : 22;
     if (kind == TTL) return 24;
+    if (kind == RAW_LINE || kind == RECORD_LINE) return n == 1 ? 25 : n == 23 ? 26 : (int)n + 8;
     if (kind == OPTIONS) return n == 8 ? 12 : a->n[1] ? 11 : 10;
     if (kind == SEARCH) return n >= 196608 ? 15 : n >= 131072 ? 13 + (int)a->n[6] : n == 65536 ? 16 : (int)n + 8;
     return n < 256 ? (int)n - 1 : (int)(n / 256) + 2;
@@ -244,4 +245,52 @@ void try_walk_pair(const Numbers *a, const Numbers *b, const uint8_t *p, size_t 
     tried()->walks++;
     count_places(a);
     hold(WALK_PAIR, p, size, a, b);
+}
+
+static void try_written(Kind kind, const Asked *asked, const Written *expected, const uint8_t *input, size_t size) {
+    Family *f = tried();
+    Numbers port, wanted;
+    written_numbers(expected, &wanted);
+    port_written(asked, expected, &port, &f->calls, &f->refused_15);
+    settle(kind, input, size, &port, &wanted);
+    if (expected->refusal) return;
+    f->multiples[expected->multiple]++;
+    if (!f->longest || expected->length < f->shortest) f->shortest = expected->length;
+    if (expected->length > f->longest) f->longest = expected->length;
+}
+
+void try_raw_of(const uint8_t *o, const witness_observation *given, unsigned window) {
+    Written expected;
+    Asked asked = {given, NULL, 0, 0};
+    oracle_raw(o, window, &expected);
+    try_written(RAW_LINE, &asked, &expected, o, OBSERVATION);
+}
+
+void try_raw(const uint8_t *o, unsigned window) {
+    witness_observation given = observation_of(o);
+    try_raw_of(o, &given, window);
+}
+
+static void try_stated(const uint8_t *list, size_t size, size_t index, const Written *expected) {
+    Asked asked = {NULL, list, size, index};
+    uint8_t input[MOST];
+    size_t i;
+    for (i = 0; i < 8; i++) input[i] = (uint8_t)(index >> (56 - 8 * i));
+    memcpy(input + 8, list, size < MOST - 8 ? size : MOST - 8);
+    try_written(RECORD_LINE, &asked, expected, input, (size < MOST - 8 ? size : MOST - 8) + 8);
+}
+
+void try_record(const uint8_t *list, size_t size, size_t index) {
+    Written expected;
+    oracle_record(list, size, index, &expected);
+    try_stated(list, size, index, &expected);
+}
+
+void try_text(const uint8_t *list, size_t size, const uint8_t *text, size_t length) {
+    Written expected;
+    oracle_record(list, size, 0, &expected);
+    if (length > TEXT_MOST) exit(2);
+    memcpy(expected.text, text, length);
+    expected.length = length;
+    try_stated(list, size, 0, &expected);
 }

@@ -6,7 +6,9 @@
 
 /* The last kinds are of differences alone: packets and pairs are also asked in the strict mode, option strings by every walk, and counted
    beside. */
-typedef enum { PACKET, OPTIONS, SEARCH, PAIR, HOPS, LINE, TTL, STRICT_PACKET, STRICT_PAIR, WALK, WALK_PAIR, KINDS } Kind;
+typedef enum {
+    PACKET, OPTIONS, SEARCH, PAIR, HOPS, LINE, TTL, RAW_LINE, RECORD_LINE, STRICT_PACKET, STRICT_PAIR, WALK, WALK_PAIR, KINDS
+} Kind;
 
 void family(const char *name, Kind kind);
 

@@ -58,4 +58,11 @@ int original_parse_signature(const uint8_t *line, size_t length, uint8_t record[
    name, three rows of room bytes, of as many entries as there is room for. Where it is not read all is zero. */
 int original_line(const uint8_t *line, size_t length, uint8_t record[24], uint8_t *rows, size_t room, size_t *count);
 
+/* The text of an observation, by the original's Display; bytes from 104 on are not read. length is the text's, text holds as much of it
+   as there is room for. Gives 0, or 1 (and length 0) if the observation holds a code that is not listed, or over 40 entries. */
+int original_write_observation(const uint8_t observation[110], uint8_t *text, size_t room, size_t *length);
+
+/* The text of a record: the Displays of its parts, with an observation's separators; entries as for original_fit. Gives 0 or 1 as above. */
+int original_write_record(const uint8_t record[24], const uint8_t *entries, uint8_t *text, size_t room, size_t *length);
+
 #endif

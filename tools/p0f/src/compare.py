@@ -1,5 +1,6 @@
-"""p0f beside the port: compare.py P0F LIST PORT READER PARSER OWN NEVER FOLDER. Ends with 1 if a difference has no explanation."""
+"""p0f beside the port: compare.py P0F LIST PORT READER AGAIN PARSER OWN NEVER FOLDER. Ends with 1 if a difference has no explanation."""
 
+import functools
 import os
 import sys
 from collections import Counter
@@ -14,26 +15,29 @@ import table
 from lines import list_of, read_lines, relabelled, repaired
 from make import cases_for
 from packets import packet_of, with_openings
-from reading import observe, text_of
+from reading import observe, raw_of, text_of
 from rules import ALL, NONE
 from search import by_layout, search
-from witnesses import p0f_says, port_says
+from witnesses import p0f_says, port_says, text_fields
 
 
 def modelled(index, packet, case, rules):
-    """The raw signature and the answer; none of both if there is no reading."""
+    """The signature in its fields with the window's multiple, the answer, the raw line; nothing if there is no reading."""
     o = observe(packet, case.peer, rules)
     if o is None:
-        return None, None
-    return text_of(o, case.syn, rules), search(index, case.syn, o, rules)
+        return None, None, None
+    return text_of(o, case.syn, rules), search(index, case.syn, o, rules), raw_of(o, case.syn, rules)
 
 
 def least(wanted, say):
-    """Rules that are all needed for what p0f says: of all rules those whose loss, one after the other, would change it."""
-    kept = set(ALL)
-    for rule in sorted(ALL):
-        if say(frozenset(kept - {rule})) == wanted:
-            kept.remove(rule)
+    """Rules that are all needed for what p0f says: of all rules those whose loss, one after the other, would change it; again of what is
+    left, until none can be lost: one rule may hide that another is not needed."""
+    kept, before = set(ALL), set()
+    while kept != before:
+        before = set(kept)
+        for rule in sorted(before):
+            if say(frozenset(kept - {rule})) == wanted:
+                kept.remove(rule)
     return kept
 
 
@@ -43,22 +47,23 @@ class Run:
     def __init__(self, name, lines, cases):
         self.name, self.lines, self.index = name, lines, by_layout(lines)
         self.numbered = with_openings(cases)
-        self.counts, self.texts, self.answers = Counter(), Counter(), Counter()
+        self.counts, self.texts, self.answers, self.raws = Counter(), Counter(), Counter(), Counter()
         self.unexplained, self.examples = [], []
 
     def lists(self):
         return [list_of([line for line in self.lines if line.request == request]) for request in (True, False)]
 
     def explain(self, case, packet, ours, theirs):
+        @functools.cache
         def say(rules):
             return modelled(self.index, packet, case, rules)
 
-        needed = [least(theirs[i], lambda rules, i=i: say(rules)[i]) if ours[i] != theirs[i] else set() for i in (0, 1)]
-        self.texts.update(needed[0])
-        self.answers.update(needed[1])
+        needed = [least(theirs[i], lambda rules, i=i: say(rules)[i]) if ours[i] != theirs[i] else set() for i in (0, 1, 2)]
+        for counted, rules in zip((self.texts, self.answers, self.raws), needed):
+            counted.update(rules)
         if case.rule:
             self.examples.append((case, packet, ours, theirs))
-            if case.rule not in needed[0] | needed[1]:
+            if case.rule not in set().union(*needed):
                 self.unexplained.append(("example", case.rule, packet.hex(), needed))
         if case.agreed and not ours.answer == theirs.answer == case.agreed:
             self.unexplained.append(("agreed", case.agreed, packet.hex(), ours, theirs))
@@ -67,7 +72,7 @@ class Run:
         """Without a rule of p0f's the model must say what the port says, with all of them what p0f says."""
         for who, said, rules in (("port", ours, NONE), ("p0f", theirs, ALL)):
             model = modelled(self.index, packet, case, rules)
-            if model != (said.text, said.answer):
+            if model != said[:3]:
                 self.unexplained.append((who, case.family, case.line, packet.hex(), case.peer, said, model))
                 return False
         return True
@@ -75,14 +80,16 @@ class Run:
     def count(self, case, ours, theirs):
         self.counts["family", case.family] += 1
         self.counts["text", ours.text == theirs.text] += 1
+        self.counts["raw", ours.raw == theirs.raw] += 1
         one, other = (said.answer[0] if said.answer else "no reading" for said in (ours, theirs))
         self.counts["answer", one, other, ours.answer == theirs.answer] += 1
         if one == other == "exact" and ours.answer != theirs.answer:
             self.counts["pair", ours.answer[1], theirs.answer[1]] += 1
         if ours.text and theirs.text:
             self.counts["tos", ours.tos == theirs.tos] += 1
-            for name, mine, their in zip(table.FIELDS, ours.text, theirs.text):
+            for name, mine, their, written in zip(table.FIELDS, ours.text, theirs.text, text_fields(ours.raw)):
                 self.counts[name, "same" if mine == their else "other"] += 1
+                self.counts[name, "written", "same" if written == their else "other"] += 1
             if ours.answer == theirs.answer and ours.answer[1]:
                 self.counts["hops", ours.hops == theirs.hops] += 1
 
@@ -122,7 +129,7 @@ def same_names(run, p0f, named):
 
 
 def main():
-    p0f, database, port, reader, parser, own, unfit, folder = sys.argv[1:]
+    p0f, database, port, reader, again, parser, own, unfit, folder = sys.argv[1:]
     lines, owned = read_lines(database), read_lines(own)
     table.print_versions(p0f, database)
     shipped = Run("p0f.fp", lines, [c for line in lines for c in cases_for(line)] + probes.random_cases(lines, 20000))
@@ -132,7 +139,7 @@ def main():
     same_names(shipped, said, p0f_says(p0f, database, folder, "named", shipped.numbered))
     wrong = [shipped.compare(ask_port(port, shipped, folder), said)]
     wrong.append(ours.compare(ask_port(port, ours, folder), ask_p0f(p0f, ours, folder)))
-    idle = [rule for rule in ALL if not any(run.texts[rule] + run.answers[rule] for run in (shipped, ours))]
+    idle = [rule for rule in ALL if not any(run.texts[rule] + run.answers[rule] + run.raws[rule] for run in (shipped, ours))]
     print(f"rules that explain nothing: {len(idle)}", *idle)
 
     mended = Run("p0f.fp, repaired", [repaired(line) for line in lines], [])
@@ -146,6 +153,8 @@ def main():
     for who, program in (("the port", reader), ("the original", parser)):
         for name, each in (("p0f.fp", lines), ("own.fp and never.fp", owned + read_lines(unfit))):
             wrong.append(parsed.print_parsed(who, program, name, each))
+    for name, each in (("p0f.fp", lines), ("own.fp and never.fp", owned + read_lines(unfit))):
+        wrong.append(parsed.print_again(again, reader, name, each))
     wrong.append(loads.print_loads(p0f, reader, folder))
     print("\ndifferences without an explanation:", "yes" if any(wrong) or idle else "none")
     sys.exit(1 if any(wrong) or idle else 0)

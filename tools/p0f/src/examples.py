@@ -23,6 +23,8 @@ def examples():
         example("ttl text", replace(A, ttl=65)),
         example("ttl text", replace(A, ttl=0)),
         example("echoed mss", optioned("02040533", ANSWER), 1460),
+        example("window text", A),
+        example("window text", replace(A, window=1500)),
         example("mss absent", optioned("")),
         example("scale absent", A),
         example("scale absent", optioned("020405b401010101")),

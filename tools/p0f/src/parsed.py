@@ -3,7 +3,8 @@
 import subprocess
 from dataclasses import replace
 
-from lines import record_of
+from lines import ANY, QUIRKS, record_of
+from reading import option_text
 
 
 def asked(program, texts):
@@ -29,4 +30,31 @@ def print_parsed(who, program, name, lines):
             wrong += 1
             print(f"line {line.number}: {who} reads {row}, lines.py {said(line)}")
     print(f"\n== text of {name}, {who}: {len(lines)} lines, {len(lines) - wrong} read as lines.py reads them, {wrong} otherwise")
+    return bool(wrong)
+
+
+def written_form(line):
+    """The line as it is written of its record: no zero before a number, each quirk once, in the order of QUIRKS."""
+    ttl = (f"{line.ttl}", f"{line.ttl}+{line.hops}", f"{line.ttl}+?", f"{line.ttl}-")[line.ttl_form]
+    window = "*" if line.window_form == ANY else ("", "%", "mss*", "mtu*")[line.window_form - 1] + str(line.window)
+    mss, scale = ("*" if number is None else str(number) for number in (line.mss, line.scale))
+    layout = ",".join(option_text(*entry) for entry in line.layout)
+    quirks = ",".join(name for name, bit in QUIRKS.items() if line.quirks & bit)
+    return f"{line.version or '*'}:{ttl}:{line.olen}:{mss}:{window},{scale}:{layout}:{quirks}:{'0+*'[line.payload]}"
+
+
+def print_again(program, reader, name, lines):
+    """Lines read and written again: True if one is not as written_form has it, or is then read otherwise."""
+    written = asked(program, [line.text for line in lines])
+    read = asked(reader, written)
+    wrong = kept = 0
+    for line, text, row in zip(lines, written, read, strict=True):
+        kept += text == line.text
+        if text != written_form(line) or row != said(line):
+            wrong += 1
+            print(f"line {line.number}: {line.text} is written as {text}, read again as {row}")
+        elif text != line.text:
+            print(f"line {line.number}: {line.text} is written as {text}")
+    print(f"\n== text of {name}, read and written again: {len(lines)} lines, {kept} as they were, {len(lines) - kept - wrong} in written "
+          f"form, {wrong} otherwise")
     return bool(wrong)

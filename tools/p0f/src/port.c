@@ -1,7 +1,8 @@
 /* The port's answers for cases of standard input, a row of numbers each: port LISTS <cases.
    LISTS: signature lists, each after its length (4). A case: number of its list (2), the peer's MSS (2), size (2), the packet.
    A row: of the reading its answer, version, TTL (form, value, hops), option length, tos, quirks, MSS, window, scale, payload, multiplier;
-   of the search outcome and label; the hop distance that is reported for the record found; the layout's entries, kind and byte each.
+   of the search outcome and label; the hop distance that is reported for the record found; the layout's entries, kind and byte each; the
+   raw line, or `-` if there is none.
    A value that may be absent, and the multiplier, is its presence times 65536 and the value (tools/witness/witness.h). */
 #include "../../witness/witness.h"
 
@@ -49,6 +50,15 @@ static unsigned hops(const witness_observation *o, const uint8_t *list, unsigned
 
 static unsigned present(uint8_t has, unsigned value) { return has * 65536u + value; }
 
+/* The raw line of an observation, with a zero behind it. */
+static const char *raw_line(witness_observation o) {
+    static char text[512];
+    witness_wrote wrote = witness_raw((uint8_t *)text, sizeof text - 1, o);
+    if (wrote.refusal) fail("a raw line is refused");
+    text[wrote.length] = 0;
+    return text;
+}
+
 static void answer(const uint8_t *packet, size_t size, unsigned list, uint16_t peer) {
     witness_packet_read read = witness_packet(packet, size, peer, WITNESS_PLAIN);
     const witness_observation *o = &read.observation;
@@ -60,7 +70,7 @@ static void answer(const uint8_t *packet, size_t size, unsigned list, uint16_t p
     printf("%u %u %u ", present(o->multiple_of, o->multiple), found.outcome, found.label);
     printf("%u", found.outcome == 1 || found.outcome == 2 ? hops(o, lists[list].at, found.number) : 0);
     for (i = 0; i < o->count; i++) printf(" %u %u", o->kinds[i], o->bytes[i]);
-    printf("\n");
+    printf(" %s\n", read.answer <= 2 ? raw_line(*o) : "-");
 }
 
 int main(int argc, char **argv) {

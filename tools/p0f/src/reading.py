@@ -185,6 +185,17 @@ def option_text(kind, left):
     return f"eol+{left}" if kind == 0 else NAMES.get(kind, f"?{kind}")
 
 
+def joined(text):
+    """The nine fields as one line."""
+    return ":".join((*text[:4], ",".join(text[4:6]), *text[6:]))
+
+
+def raw_of(o, syn, rules):
+    """The raw line, as it is written: the window as a number, or as a multiple by p0f's rule."""
+    text = text_of(o, syn, rules)
+    return joined(text if "window text" in rules else (*text[:4], str(o.window), *text[5:]))
+
+
 def text_of(o, syn, rules):
     """The nine fields of a raw signature."""
     mss = "*" if o.mss is None or (o.mss == 1331 and not syn and "echoed mss" in rules) else str(o.mss)

@@ -3,6 +3,7 @@
 TEXT = {
     "ttl text": "a guess of up to 35 hops is printed, a longer one as ?",
     "echoed mss": "an MSS of 1331 in a SYN+ACK is printed as *",
+    "window text": "a window that is a multiple is printed as one: mss*N, mtu*N",
 }
 READING = {
     "mss absent": "an absent MSS is 0",

@@ -4,6 +4,7 @@ import hashlib
 import re
 import subprocess
 
+from reading import joined
 from rules import READING, SEARCH, TEXT
 
 FIELDS = ("version", "TTL", "option length", "MSS", "window", "scale", "layout", "quirks", "payload")
@@ -20,18 +21,20 @@ def print_run(run):
     counts = run.counts
     print(f"\n== {run.name}: {len(run.lines)} lines, {len(run.numbered)} packets")
     print("families: " + ", ".join(f"{key[1]} {n}" for key, n in sorted(counts.items(), key=str) if key[0] == "family"))
-    print(f"raw signatures: {counts['text', True]} equal, {counts['text', False]} not; where both have one, field by field:")
+    print(f"raw signatures: {counts['text', True]} equal, {counts['text', False]} not; as raw lines {counts['raw', True]} equal, "
+          f"{counts['raw', False]} not; where both have one, field by field, then as it is written in the raw line:")
     for name in FIELDS:
-        print(f"  {name:16} {counts[name, 'same']:7} equal {counts[name, 'other']:7} not")
+        print(f"  {name:16} {counts[name, 'same']:7} equal {counts[name, 'other']:7} not"
+              f" {counts[name, 'written', 'same']:7} equal {counts[name, 'written', 'other']:7} not")
     print(f"hop distance, where the line is the same: {counts['hops', True]} equal, {counts['hops', False]} not")
     print(f"tos, where both have a reading: {counts['tos', True]} equal, {counts['tos', False]} not")
     print_answers(counts)
-    print("rules that explain the differences (packets whose raw signature needs it, packets whose answer needs it):")
+    print("rules that explain the differences (packets whose raw signature needs it, whose answer does, whose raw line does):")
     for rule, words in {**TEXT, **READING, **SEARCH}.items():
-        print(f"  {rule:16} {run.texts[rule]:7} {run.answers[rule]:7}   {words}")
+        print(f"  {rule:16} {run.texts[rule]:7} {run.answers[rule]:7} {run.raws[rule]:7}   {words}")
     for case, packet, ours, theirs in run.examples:
         print(f"example of {case.rule}: {packet.hex()} peer {case.peer}")
-        print(f"  here {show(ours)}   p0f {show(theirs)}")
+        print(f"  here {show(ours)}   p0f {show(theirs)}   the raw line here {ours.raw}")
     print(f"unexplained: {len(run.unexplained)}")
     for row in run.unexplained[:8]:
         print("  ", *row)
@@ -49,5 +52,4 @@ def print_answers(counts):
 def show(said):
     if not said.text:
         return "no reading"
-    window = ",".join(said.text[4:6])
-    return ":".join((*said.text[:4], window, *said.text[6:])) + " " + " ".join(map(str, said.answer))
+    return joined(said.text) + " " + " ".join(map(str, said.answer))

@@ -10,8 +10,8 @@ from lines import QUIRKS
 from packets import packet_of, write_capture
 from reading import option_text
 
-Said = namedtuple("Said", "text answer hops tos")
-SILENT = Said(None, None, None, None)
+Said = namedtuple("Said", "text answer raw hops tos")
+SILENT = Said(None, None, None, None, None)
 
 
 # ---- p0f
@@ -60,7 +60,8 @@ def read_log(rows):
             if key in said:
                 raise SystemExit(f"p0f said two things of {key}")
             tos = re.search(r"tos:0x([0-9a-f]+)", entry["params"])
-            said[key] = Said(text_fields(entry["raw_sig"]), answer_of(entry), int(entry["dist"].split()[-1]), int(tos[1], 16) if tos else 0)
+            raw, hops = entry["raw_sig"], int(entry["dist"].split()[-1])
+            said[key] = Said(text_fields(raw), answer_of(entry), raw, hops, int(tos[1], 16) if tos else 0)
     return said
 
 
@@ -97,14 +98,15 @@ def found(outcome, label):
 
 def said_by_port(row):
     """The numbers of a row, as port.c has them."""
+    *numbers, raw = row.split()
     answer, version, form, ttl, hops, olen, tos, quirks, mss, window, scale, payload, multiple, outcome, label, reported, *entries = (
-        int(n) for n in row.split())
+        int(n) for n in numbers)
     if answer not in (1, 2):
         return SILENT
     text = (
         str(version), ttl_of(form, ttl, hops), str(olen), present(mss), window_text(window, multiple), present(scale), layout_text(entries),
         ",".join(name for name, bit in QUIRKS.items() if quirks & bit), "0+"[payload])
-    return Said(text, found(outcome, label), reported, tos)
+    return Said(text, found(outcome, label), raw, reported, tos)
 
 
 def port_says(program, lists, folder, asked):

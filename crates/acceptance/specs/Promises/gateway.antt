@@ -4,16 +4,21 @@ use mathlib.Core.List.{List}
 use Prim.Native.Nat.{ℕ}
 use contract.Lifetimes.{Lfts}
 use denote.Ref.{RefT, now}
+use Rattle.text.specs.Written.{left-with}
 use Rattle.flow.specs.Modes.{modeOf}
 use Rattle.siglist.specs.List.{checkList}
 use Rattle.packet_answer.specs.Packet.{answerIn, answerOf, peerOf}
+use Rattle.gateway.specs.Lines.{rawLine, rawLineIn, recordParts}
 use Rattle.gateway.specs.Parts.{gatewayAnswer, gatewayIn, listParts, packetParts, partsOf}
 use Rattle.gateway.proofs.termread_answer as termread-answer'
 use Rattle.gateway.proofs.termread_answer_checked as termread-answer-checked'
 use Rattle.gateway.proofs.termread_answer_checked_in as termread-answer-checked-in'
 use Rattle.gateway.proofs.termread_answer_in as termread-answer-in'
 use Rattle.gateway.proofs.termread_check_list as termread-check-list'
-use Rattle.acceptance.specs.Promised.{Answers}
+use Rattle.gateway.proofs.termread_raw_line as termread-raw-line'
+use Rattle.gateway.proofs.termread_raw_line_in as termread-raw-line-in'
+use Rattle.gateway.proofs.termread_record_line as termread-record-line'
+use Rattle.acceptance.specs.Promised.{Answers, LineAnswers}
 
 pub record Promises : Type 0 where
   pub termread-check-list-one
@@ -37,3 +42,16 @@ pub record Promises : Type 0 where
       : (κs : Lfts 2) (packet : RefT (List ℕ)) (peer : ℕ) (list : RefT (List ℕ)) (bits : ℕ)
       → Answers termread-answer-in'.signature κs (termread-answer-in'.Reads.Pre κs) (termread-answer-in'.Reads.Post κs)
       (packet, (peer, (list, (bits, tt)))) (partsOf (gatewayIn (modeOf bits) (now packet) peer (now list)))
+  pub termread-raw-line-one
+      : (κs : Lfts 2) (buffer packet : RefT (List ℕ)) (peer : ℕ)
+      → LineAnswers termread-raw-line'.signature κs (termread-raw-line'.Reads.Pre κs) (termread-raw-line'.Reads.Post κs)
+      (buffer, (packet, (peer, tt))) (λ bytes. (left-with buffer bytes, (packet, (peer, tt)))) (now buffer) (rawLine (now packet) peer)
+  pub termread-raw-line-in-one
+      : (κs : Lfts 2) (buffer packet : RefT (List ℕ)) (peer bits : ℕ)
+      → LineAnswers termread-raw-line-in'.signature κs (termread-raw-line-in'.Reads.Pre κs) (termread-raw-line-in'.Reads.Post κs)
+      (buffer, (packet, (peer, (bits, tt)))) (λ bytes. (left-with buffer bytes, (packet, (peer, (bits, tt))))) (now buffer)
+      (rawLineIn bits (now packet) peer)
+  pub termread-record-line-one
+      : (κs : Lfts 2) (buffer list : RefT (List ℕ)) (index : ℕ)
+      → LineAnswers termread-record-line'.signature κs (termread-record-line'.Reads.Pre κs) (termread-record-line'.Reads.Post κs)
+      (buffer, (list, (index, tt))) (λ bytes. (left-with buffer bytes, (list, (index, tt)))) (now buffer) (recordParts (now list) index)

@@ -150,3 +150,42 @@ pub unsafe extern "C" fn original_line(
     unsafe { *count = entries };
     answer
 }
+
+/// A text for C: its first `room` bytes, and its whole length.
+unsafe fn hand_over(said: &str, text: *mut u8, room: usize, length: *mut usize) {
+    let held = said.len().min(room);
+    if held > 0 {
+        unsafe { write(text, held) }.copy_from_slice(&said.as_bytes()[..held]);
+    }
+    unsafe { *length = said.len() };
+}
+
+#[unsafe(no_mangle)]
+pub unsafe extern "C" fn original_write_observation(
+    observation: *const u8,
+    text: *mut u8,
+    room: usize,
+    length: *mut usize,
+) -> i32 {
+    let mut said = String::new();
+    let observed = observation_of(unsafe { read(observation, OBSERVATION) });
+    let written = observed.is_some_and(|o| write_observation(&mut said, &o).is_ok());
+    unsafe { hand_over(&said, text, room, length) };
+    i32::from(!written)
+}
+
+#[unsafe(no_mangle)]
+pub unsafe extern "C" fn original_write_record(
+    record: *const u8,
+    entries: *const u8,
+    text: *mut u8,
+    room: usize,
+    length: *mut usize,
+) -> i32 {
+    let mut said = String::new();
+    let record = unsafe { read(record, RECORD) };
+    let signature = signature_of(record, unsafe { read(entries, 2 * usize::from(record[20])) });
+    let written = signature.is_some_and(|s| write_signature(&mut said, &s).is_ok());
+    unsafe { hand_over(&said, text, room, length) };
+    i32::from(!written)
+}

@@ -19,6 +19,7 @@ use pnet::packet::Packet;
 use pnet::packet::ipv4::Ipv4Packet;
 use pnet::packet::ipv6::Ipv6Packet;
 use pnet::packet::tcp::TcpPacket;
+use std::fmt::{self, Display, Write};
 
 #[derive(Debug, Clone, Copy, PartialEq, Eq)]
 pub enum Refusal {
@@ -155,4 +156,33 @@ pub fn read_line(line: &[u8]) -> LineRead {
         Err(_) => LineRead::NotText,
         Ok(text) => parse_signature(text).map_or(LineRead::Refused, LineRead::Read),
     }
+}
+
+/// The text of an observation: the original's own Display.
+pub fn write_observation(out: &mut String, observed: &TcpObservation) -> fmt::Result {
+    write!(out, "{observed}")
+}
+
+fn write_or_star(out: &mut String, number: Option<impl Display>) -> fmt::Result {
+    match number {
+        Some(number) => write!(out, "{number}"),
+        None => out.write_str("*"),
+    }
+}
+
+/// The text of a signature: the original's Displays of its parts, put together as the one of an observation puts them. That of the
+/// signature itself is not in the text.
+pub fn write_signature(out: &mut String, s: &Signature) -> fmt::Result {
+    write!(out, "{}:{}:{}:", s.version, s.ittl, s.olen)?;
+    write_or_star(out, s.mss)?;
+    write!(out, ":{},", s.wsize)?;
+    write_or_star(out, s.wscale)?;
+    out.write_str(":")?;
+    for (i, option) in s.olayout.iter().enumerate() {
+        if i > 0 {
+            out.write_str(",")?;
+        }
+        write!(out, "{option}")?;
+    }
+    write!(out, ":{}:{}", s.quirks, s.pclass)
 }

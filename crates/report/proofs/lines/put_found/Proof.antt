@@ -1,5 +1,3 @@
-use Rattle.text.specs.Decimal.{decimal}
-use Rattle.report.proofs.Writing.{lined}
 use Rattle.report.specs.Text.{foundText}
 use borrow.Author.Needs.{needs}
 use Rattle.report.proofs.lines.put_found.Statement.{statement}
@@ -11,21 +9,15 @@ returns c = rw (c .before .before .before .before .before .enum-told .given .1) 
 
 returns-2 : tie.Need-returns-2
 unfolding foundText
-returns-2 c =
-    let word = c .before .before .before .before .before .before in
-    rw (word .before .before .before .before .found .given .1)
-    (lined _ _ _ _ (decimal _) _ _ _ (word .put-word2 .ensures) (c .before .before .put-number .ensures))
+returns-2 c = rw (c .before .before .before .before .before .before .found .given .1) (c .before .before .put-number .ensures)
 
 returns-3 : tie.Need-returns-3
 unfolding foundText
-returns-3 c =
-    let word = c .before .before .before .before .before .before in
-    rw (word .before .before .before .before .found2 .given .1)
-    (lined _ _ _ _ (decimal _) _ _ _ (word .put-word3 .ensures) (c .before .before .put-number2 .ensures))
+returns-3 c = rw (c .before .before .before .before .before .before .found2 .given .1) (c .before .before .put-number2 .ensures)
 
 pub put-found-spec : {M : Type 1} → statement M
 put-found-spec =
     tie.close
     (tie.spec (λ c. search needs) (λ c. search needs) (λ c κs. search needs) (λ c. search needs) (λ c. search needs)
-    (λ c κs. search needs) (λ c κs. search needs) (λ c. search needs) (λ c. search needs) (λ c κs. search needs)
-    (λ c κs. search needs) (λ c. search needs) returns (λ c. search needs) returns-2 (λ c. search needs) returns-3)
+    (λ c κs. search needs) (λ c. search needs) (λ c. search needs) (λ c κs. search needs)
+    (λ c. search needs) returns (λ c. search needs) returns-2 (λ c. search needs) returns-3)

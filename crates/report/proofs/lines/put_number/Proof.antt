@@ -5,8 +5,8 @@ use Rattle.report.proofs.lines.put_number.Tie as tie
 
 returns : tie.Need-returns
 returns c =
-    let number = c .before .before .before .before .before .before in
-    both _ _ _ _ _ _ _ _ (number .put-decimal .ensures) (c .before .before .put-byte .ensures)
+    let first = c .before .before .before .before .before .before in
+    both _ _ _ _ _ _ _ _ (first .put-word .ensures) (c .before .before .put-decimal .ensures)
 
 pub put-number-spec : {M : Type 1} → statement M
 put-number-spec =

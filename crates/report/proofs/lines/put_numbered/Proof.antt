@@ -1,13 +1,12 @@
-use Rattle.text.specs.Decimal.{decimal}
-use Rattle.report.proofs.Writing.{lined}
+use Rattle.text.proofs.Writing.{both}
 use borrow.Author.Needs.{needs}
 use Rattle.report.proofs.lines.put_numbered.Statement.{statement}
 use Rattle.report.proofs.lines.put_numbered.Tie as tie
 
 returns : tie.Need-returns
 returns c =
-    let word = c .before .before .before .before .before .before in
-    lined _ _ _ _ (decimal _) _ _ _ (word .put-word .ensures) (c .before .before .put-number .ensures)
+    let first = c .before .before .before .before .before .before in
+    both _ _ _ _ _ _ _ _ (first .put-number .ensures) (c .before .before .put-byte .ensures)
 
 pub put-numbered-spec : {M : Type 1} → statement M
 put-numbered-spec =

@@ -49,4 +49,8 @@ fn main() {
     };
     assert_eq!(named.olayout, [TcpOption::Unknown(2), TcpOption::Unknown(0)]);
     println!("SYN+ACK with peer MSS 12: synack {answer}");
+    let (mut seen, mut stated) = (String::new(), String::new());
+    write_observation(&mut seen, &a).expect("a String takes all");
+    write_signature(&mut stated, &signature).expect("a String takes all");
+    assert_eq!((&seen[..], &stated[..]), ("4:64+0:0:1460:mss*4,*:mss:df:0", "*:64:0:*:mss*4,*:mss:df:0"));
 }

@@ -1,0 +1,2 @@
+pub mod GoodRecord
+pub mod Rows

@@ -1,0 +1,2 @@
+pub mod Observed
+pub mod ObservedWalk

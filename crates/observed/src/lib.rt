@@ -1,0 +1,1 @@
+// No code: what the packet reader gives of any packet, as a record of a signature list may have it.

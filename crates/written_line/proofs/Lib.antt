@@ -1,0 +1,17 @@
+pub mod Answers
+pub mod Back
+pub mod EveryRecord
+pub mod FieldWords
+pub mod FieldsBack
+pub mod LayoutRow
+pub mod LineFits
+pub mod LongestLines
+pub mod Observed
+pub mod QuirkRow
+pub mod QuirksBack
+pub mod RecordLine
+pub mod RecordSaid
+pub mod Reproduced
+pub mod SignatureBack
+pub mod SignatureLine
+pub mod Spelled
