@@ -1,10 +1,10 @@
 -- The text form written: each theorem in its place.
 use mathlib.Core.Path.{_≡_, refl, ap, _∙_}
-use mathlib.Core.List.{List, _++_}
+use mathlib.Core.List.{List}
 use Prim.Native.Nat.{ℕ, _+_, _≤_}
 use native.Mathlib.Nat.{zero-add}
 use native.Mathlib.Omega.{arith}
-use lib.ListN.{length, take, drop}
+use lib.ListN.{length, drop}
 use lib.Seq.{take-at, drop-at}
 use Rattle.basis.specs.Bytes.{AllBytes}
 use Rattle.refusals.specs.declared.Refusal.the-variants as refusal

@@ -1,7 +1,7 @@
 -- A line that finds room, and one that does not; the entries of a list's good record, and of an observation.
-use mathlib.Core.Path.{_≡_, refl, sym, _∙_, ap, ap₂, subst}
-use mathlib.Core.Bool.{Bool, true, false, cond, _&&_, false≢true}
-use mathlib.Core.List.{List, []}
+use mathlib.Core.Path.{_≡_, refl, sym, _∙_, ap}
+use mathlib.Core.Bool.{true}
+use mathlib.Core.List.{List}
 use Prim.Native.Nat.{ℕ, _+_, _*_, _-_, _<_, _≤_}
 use native.Mathlib.Nat.{sub-zero}
 use native.Mathlib.Omega.{arith}
@@ -10,22 +10,20 @@ use lib.ListN.{length, take}
 use borrow.Author.Tests.{lt-ltb, le-ltb, leb-true}
 use Rattle.basis.specs.Bytes.{part}
 use Rattle.basis.proofs.Tests.{and-left, and-right}
-use Rattle.text.specs.Written.{written, Put, PutAll, Lined, Writes}
+use Rattle.text.specs.Written.{written, Put, Writes}
 use Rattle.text.proofs.Writing.{nothing-written, put-all}
 use Rattle.observable.specs.declared.TcpObservation.{TcpObservation}
 use Rattle.refusals.specs.declared.ListRefusal.{ListRefusal}
-use Rattle.refusals.specs.declared.ListRefusal.the-variants as list-refusal
 use Rattle.refusals.specs.declared.Refusal.{Refusal}
 use Rattle.refusals.specs.declared.Refusal.the-variants as refusal
 use Rattle.sigrecord.specs.Record.{firstEntry, entryCount, signatureOf}
 use Rattle.sigrecord.specs.WellFormed.{scalarsGood}
 use Rattle.siglist.specs.declared.Areas.{Areas}
-use Rattle.siglist.specs.declared.ListAnswer.{ListAnswer}
 use Rattle.siglist.specs.declared.ListAnswer.the-variants as list
-use Rattle.siglist.specs.List.{recordCount, layoutCount, listFits, AreasFit, recordAt, recordOf, entriesFrom, entriesLie}
+use Rattle.siglist.specs.List.{recordCount, layoutCount, recordAt, recordOf, entriesFrom, entriesLie}
 use Rattle.siglist.specs.List.{layoutLies, recordGood, checkList}
 use Rattle.sigrecord.specs.Layout.{entriesGood}
-use Rattle.siglist.proofs.List.{record-of-list, list-fits}
+use Rattle.siglist.proofs.List.{record-of-list}
 use Rattle.signature_line.specs.OneRecord.{entriesIn}
 use Rattle.written_line.specs.declared.Wrote.{Wrote}
 use Rattle.written_line.specs.declared.Wrote.the-variants as wrote
