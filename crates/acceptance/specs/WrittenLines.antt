@@ -7,7 +7,9 @@ use mathlib.Core.List.{List, []}
 use Prim.Native.Nat.{ℕ, _≤_}
 use lib.ListN.{length, take, drop}
 use Rattle.basis.specs.Bytes.{AllBytes}
+use Rattle.refusals.specs.declared.ListRefusal.{ListRefusal}
 use Rattle.refusals.specs.declared.Refusal.the-variants as refusal
+use Rattle.refusals.specs.Refusals.{listNumber, numberOf}
 use Rattle.text.specs.Written.{written}
 use Rattle.observable.specs.declared.TcpObservation.{TcpObservation}
 use Rattle.siglist.specs.List.{listFits, recordGood}
@@ -17,7 +19,7 @@ use Rattle.written_line.specs.LineText.{recordText, observationText}
 use Rattle.written_line.specs.Longest.{LongestLines}
 use Rattle.written_line.specs.Numbers.{ObservationHeld}
 use Rattle.written_line.specs.RoundTrip.{ReadAgain, Reproduced}
-use Rattle.written_line.specs.Writing.{observationLine, recordLine}
+use Rattle.written_line.specs.Writing.{observationLine, recordLine, wroteVerdict}
 use Rattle.written_line.specs.WrittenForm.{WrittenForm}
 use Rattle.acceptance.specs.OwnLine.{OwnLine}
 
@@ -57,6 +59,11 @@ pub record WrittenLines : Type 0 where
   -- What is answered and written, and when, on every input.
   pub observation : (o : TcpObservation) (room : ℕ) → ObservationAnswer o room (observationLine o room)
   pub record-line : (l : List ℕ) (i room : ℕ) → RecordAnswer l i room (recordLine l i room)
+  -- These refusals by their numbers; those of a list are 9 and 10, as everywhere.
+  pub eleven : numberOf (wroteVerdict (wrote.Refused refusal.LayoutTooLong)) ≡ 11
+  pub fifteen : numberOf (wroteVerdict (wrote.Refused refusal.BufferTooShort)) ≡ 15
+  pub twenty-three : numberOf (wroteVerdict (wrote.Refused refusal.NoSuchRecord)) ≡ 23
+  pub of-list : (r : ListRefusal) → numberOf (wroteVerdict (wrote.Refused (refusal.List r))) ≡ listNumber r
   -- A line that finds room stands in the buffer, and the bytes past it are as they were; beside a refusal, which has no line, all are.
   pub in-buffer : (buffer s : List ℕ) → length s ≤ length buffer → InBuffer buffer s
   pub nothing-written : (buffer : List ℕ) → written buffer 0 [] ≡ buffer
