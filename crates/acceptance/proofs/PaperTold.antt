@@ -17,6 +17,8 @@ use Rattle.siglist.specs.declared.ListAnswer.the-variants as list
 use Rattle.siglist.specs.List.{headerVerdict, listVerdict}
 use Rattle.signature_line.specs.declared.LineAnswer.the-variants as line
 use Rattle.signature_line.specs.Answer.{lineVerdict}
+use Rattle.written_line.specs.declared.Wrote.the-variants as wrote
+use Rattle.written_line.specs.Writing.{wroteVerdict}
 use Rattle.search.specs.declared.SearchAnswer.the-variants as search
 use Rattle.search.specs.Search.{searchVerdict}
 use Rattle.packet_answer.specs.declared.PacketAnswer.the-variants as packet
@@ -67,6 +69,10 @@ line-again : Again (λ r. line.Refused (valueOf (returned r))) lineVerdict
 line-again line.Read = tt
 line-again (line.Refused at) = refl
 
+wrote-again : Again wrote.Refused wroteVerdict
+wrote-again (wrote.Line size) = tt
+wrote-again (wrote.Refused r) = refl
+
 -- One whose refusals are a list's, and one more or none.
 abbrev ofList : {A : Type 0} → (ListRefusal → A) → A → Refusal → A
 ofList refused other r = byKind (λ why. other) refused other r
@@ -102,6 +108,7 @@ told =
       header = by-again (λ r. header.DoesNotFit) headerVerdict header-again;
       list = by-again (ofList list.Refused list.Good) listVerdict list-again;
       line = by-again (λ r. line.Refused (valueOf (returned r))) lineVerdict line-again;
+      wrote = by-again wrote.Refused wroteVerdict wrote-again;
       search = by-again (ofList search.List search.LayoutTooLong) searchVerdict search-again;
       bundle = by-again (ofList bundle.List bundle.DoesNotFit) bundleVerdict bundle-again;
       packet-answer = by-again (ofPacket packet.Refused) packetVerdict packet-again;

@@ -25,6 +25,8 @@ use Rattle.signature_line.specs.declared.LineAnswer.{LineAnswer}
 use Rattle.signature_line.specs.Line.{LineRefused}
 use Rattle.signature_line.specs.Answer.{lineVerdict}
 use Rattle.signature_line.specs.LineReader.{readLine}
+use Rattle.written_line.specs.declared.Wrote.{Wrote}
+use Rattle.written_line.specs.Writing.{wroteVerdict}
 use Rattle.search.specs.declared.SearchAnswer.{SearchAnswer}
 use Rattle.search.specs.Search.{searchList, searchVerdict}
 use Rattle.packet_answer.specs.declared.PacketAnswer.{PacketAnswer}
@@ -78,6 +80,10 @@ listPaper a = paperOf (listVerdict a)
 -- `parse_tcp_signature`'s answer.
 abbrev pub linePaper : LineAnswer → Paper
 linePaper a = paperOf (lineVerdict a)
+
+-- `write_observation`'s and `write_record`'s answer.
+abbrev pub wrotePaper : Wrote → Paper
+wrotePaper a = paperOf (wroteVerdict a)
 
 abbrev pub searchPaper : SearchAnswer → Paper
 searchPaper a = paperOf (searchVerdict a)
@@ -205,6 +211,7 @@ pub record Told : Type 0 where
   pub header : ToldApart headerPaper
   pub list : ToldApart listPaper
   pub line : ToldApart linePaper
+  pub wrote : ToldApart wrotePaper
   pub search : ToldApart searchPaper
   pub bundle : ToldApart bundlePaper
   pub packet-answer : ToldApart packetPaper
