@@ -1,9 +1,9 @@
 use mathlib.Core.Path.{sym}
 use Rattle.text.proofs.Writing.{put-none}
-use Rattle.rawlines.proofs.Laws.{seen-within, seen-line, none-seen}
+use Rattle.packet_line.proofs.Laws.{seen-within, seen-line, none-seen}
 use borrow.Author.Needs.{needs}
-use Rattle.rawlines.proofs.put_seen.Statement.{statement}
-use Rattle.rawlines.proofs.put_seen.Tie as tie
+use Rattle.packet_line.proofs.put_seen.Statement.{statement}
+use Rattle.packet_line.proofs.put_seen.Tie as tie
 
 part-put-word-end : tie.Need-part-put-word-end
 part-put-word-end c =

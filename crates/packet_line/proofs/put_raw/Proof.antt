@@ -1,6 +1,6 @@
 use borrow.Author.Needs.{needs}
-use Rattle.rawlines.proofs.put_raw.Statement.{statement}
-use Rattle.rawlines.proofs.put_raw.Tie as tie
+use Rattle.packet_line.proofs.put_raw.Statement.{statement}
+use Rattle.packet_line.proofs.put_raw.Tie as tie
 
 returns : tie.Need-returns
 returns c = rw (c .before .before .before .before .enum-told .given .1) (c .before .before .put-seen .ensures)
