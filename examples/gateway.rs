@@ -5,6 +5,8 @@
 //! usage: gateway [-l] [-r] [-s] [-u] [-w] <BUNDLE, as examples/gateway.c. Built and run by tools/link_examples:
 //!     rustc --edition 2021 -O -o gateway examples/gateway.rs -C link-arg=target/staticlib/libgateway.a
 
+// All of it is called here but what compiles a list.
+#[allow(dead_code)]
 mod termread;
 
 use std::fs::File;

@@ -1,7 +1,7 @@
 //! The terminal reader for Rust: a safe wrapper over libgateway.a, to be copied. include/termread.h has the same in C.
 //!
 //! Nothing checks the declarations below against the library's source: tools/link_examples compares the answers that come through
-//! them with what the program `termread` prints.
+//! them with what the program `termread` prints, and the list of a keeper's file with that of tests/keeper.py.
 
 /// Of which packet an answer is.
 #[derive(Clone, Copy, Debug, PartialEq, Eq)]
@@ -142,6 +142,21 @@ pub enum RecordLineRefusal {
     BufferTooShort,
 }
 
+/// Why a keeper's file has no list. Lines are counted from 1, those that are passed over too; line and offset are told modulo 2^32.
+#[derive(Clone, Copy, Debug, PartialEq, Eq)]
+pub enum FileRefused {
+    /// The first line that is neither passed over nor a signature, and the first byte of it, from 0, at which none goes on: the line's
+    /// length if it only ends too soon.
+    BadLine { line: u32, offset: u32 },
+    /// The line with which there are more than 65,535 signatures.
+    TooManySignatures { line: u32 },
+    /// The line with which the layouts have more than 32,763 options, counted together.
+    TooManyEntries { line: u32 },
+}
+
+/// The most bytes of the list of a keeper's file.
+pub const LIST_MOST: usize = 1638374;
+
 /// A signature list that was found well formed.
 #[derive(Clone, Copy, Debug)]
 pub struct List<'a>(&'a [u8]);
@@ -214,6 +229,21 @@ pub fn record_line<'a>(buffer: &'a mut [u8], list: &[u8], index: usize) -> Resul
     // SAFETY: as above.
     let given = unsafe { termread_record_line(buffer.as_mut_ptr(), buffer.len(), list.as_ptr(), list.len(), index) };
     given.record_line(buffer).unwrap_or_else(|| given.unknown())
+}
+
+/// The signature list that a keeper's file says (docs/FORMATS.md). It is well formed: `List::new` does not refuse it.
+pub fn compile_list(file: &[u8]) -> Result<Vec<u8>, FileRefused> {
+    // No list has more bytes than 8 and twice its file's, so that the buffer is never too short.
+    let mut list = vec![0; file.len().saturating_mul(2).saturating_add(8).min(LIST_MOST)];
+    // SAFETY: as above.
+    let given = unsafe { termread_compile_list(list.as_mut_ptr(), list.len(), file.as_ptr(), file.len()) };
+    match given.refused() {
+        Some(refused) => Err(refused),
+        None => {
+            list.truncate(given.length as usize);
+            Ok(list)
+        }
+    }
 }
 
 /// The answer as the library gives it: crates/gateway/specs/Parts.antt, and in C `termread_result`. Nothing reads `tolerated`, which is 0
@@ -341,6 +371,31 @@ impl Given {
     }
 }
 
+/// What comes of a keeper's file, as the library gives it: in C `termread_compiled`.
+#[repr(C)]
+#[derive(Clone, Copy, Debug)]
+struct GivenCompiled {
+    length: u32,
+    line: u32,
+    offset: u32,
+    refusal: u32,
+}
+
+const _: () = assert!(std::mem::size_of::<GivenCompiled>() == 16);
+
+impl GivenCompiled {
+    fn refused(self) -> Option<FileRefused> {
+        match self.refusal {
+            0 => None,
+            13 => Some(FileRefused::BadLine { line: self.line, offset: self.offset }),
+            24 => Some(FileRefused::TooManySignatures { line: self.line }),
+            25 => Some(FileRefused::TooManyEntries { line: self.line }),
+            // The library promises that this is not reached; it would mean that another library was linked.
+            _ => panic!("the linked terminal reader gave an unknown answer: {self:?}"),
+        }
+    }
+}
+
 // A slice goes as its pointer and its length.
 extern "C" {
     fn termread_check_list(list: *const u8, list_length: usize) -> Given;
@@ -396,4 +451,10 @@ extern "C" {
         list_length: usize,
         index: usize,
     ) -> Given;
+    fn termread_compile_list(
+        buffer: *mut u8,
+        buffer_length: usize,
+        file: *const u8,
+        file_length: usize,
+    ) -> GivenCompiled;
 }

@@ -1,12 +1,13 @@
 /* The terminal reader, for C: a terminal's operating system from the first TCP packets, and how sure the answer is.
 
    Link target/staticlib/libgateway.a (x86-64; `rt staticlib gateway` proves and writes it). Of a C library it needs memcpy
-   alone. It allocates nothing, keeps nothing between calls and only reads what it is lent, but for the buffer of a line, so that any number
-   of threads may call it.
+   alone. It allocates nothing, keeps nothing between calls and only reads what it is lent, but for the buffer of a line or a list, so that
+   any number of threads may call it.
 
    Nothing checks this file against the source: tools/link_examples compares what C and Rust programs get through it with what the
-   program `termread` prints, and in strict mode with what tools/ask answers. What the functions promise is in crates/gateway/src/lib.rt,
-   crates/gateway/specs/Parts.antt and, of lines, crates/gateway/specs/Lines.antt. */
+   program `termread` prints, in strict mode with what tools/ask answers, and the list of a keeper's file with that of tests/keeper.py. What
+   the functions promise is in crates/gateway/src/lib.rt, crates/gateway/specs/Parts.antt, of lines in crates/gateway/specs/Lines.antt, of a
+   keeper's file in crates/keeper_file/specs/CompileAnswers.antt. */
 #ifndef TERMREAD_H
 #define TERMREAD_H
 
@@ -60,7 +61,7 @@ enum {
 };
 
 /* Refusals, by the numbers of documents 01 and 02, whose tests come in the order 1 to 6, 14, 7. 8, 11 and 12 are met by option strings,
-   observations and bundles only, 13 by signature lines. */
+   observations and bundles only. 13, 24 and 25 are met by keeper's files only; the last two are numbers of our own. */
 enum {
     TERMREAD_REFUSED_VERSION = 1,         /* empty, or neither IPv4 nor IPv6 */
     TERMREAD_REFUSED_TOO_SHORT = 2,       /* under 20 bytes (IPv4) or 40 (IPv6) */
@@ -72,9 +73,12 @@ enum {
     TERMREAD_REFUSED_LIST = 9,            /* the list's header or its areas do not fit */
     TERMREAD_REFUSED_RECORD = 10,         /* a record of the list is bad; the value is the index of the first, from 0 */
     TERMREAD_REFUSED_BUNDLE = 12,         /* of a bundle, which the caller reads itself: it does not fit */
+    TERMREAD_REFUSED_LINE = 13,           /* of a keeper's file: a line that is neither passed over nor a signature */
     TERMREAD_REFUSED_DATA_OFFSET = 14,    /* strict only: TCP data offset under 5, or 4 times it past the end of the TCP part */
-    TERMREAD_REFUSED_BUFFER = 15,         /* of a line: it is longer than the buffer */
-    TERMREAD_REFUSED_INDEX = 23           /* of a record's line: the list has no record of this index */
+    TERMREAD_REFUSED_BUFFER = 15,         /* of a line, or of the list of a keeper's file: it is longer than the buffer */
+    TERMREAD_REFUSED_INDEX = 23,          /* of a record's line: the list has no record of this index */
+    TERMREAD_REFUSED_SIGNATURES = 24,     /* of a keeper's file: more than 65,535 signatures */
+    TERMREAD_REFUSED_ENTRIES = 25         /* of a keeper's file: layouts of more than 32,763 options, counted together */
 };
 
 /* The bits of `marks`. */
@@ -181,6 +185,36 @@ termread_result termread_raw_line_in(uint8_t *buffer, size_t buffer_length, cons
    each time, 23 or 15. A line has neither the label nor the generic byte. Here ver, window, scale and payload may be *, the TTL T+? or T-,
    the window %N, mss*N or mtu*N. */
 termread_result termread_record_line(uint8_t *buffer, size_t buffer_length, const uint8_t *list, size_t list_length, size_t index);
+
+/* ---- a list from a keeper's file
+
+   A keeper's file is a text of signatures, one a line: a label, a blank, `g` and a blank if the signature is generic, and a line as above;
+   docs/FORMATS.md has it in full. Empty lines and those that begin with `;` are passed over. A line ends with LF or CR LF, the last one
+   with or without. */
+
+/* What comes of it; sixteen bytes, in two registers. */
+typedef struct termread_compiled {
+    uint32_t length;  /* how many bytes of the buffer, from its start, are the list; 0 if the file is refused */
+    uint32_t line;    /* of refused: the number of the line, from 1, those that are passed over counted too; 0 of refusal 15 */
+    uint32_t offset;  /* of refusal 13: the first byte of the line, from 0, at which no signature goes on; the line's length if it only ends
+                         too soon; where the signature line starts plus 512 if that has over 512 bytes. Else 0 */
+    uint32_t refusal; /* 0 if there is a list; else its number: 13, 24, 25 or 15 */
+} termread_compiled;
+
+typedef char termread_compiled_has_sixteen_bytes[sizeof(termread_compiled) == 16 ? 1 : -1];
+
+/* The most bytes of such a list, 8 + 2 x 32763 + 24 x 65535: a buffer of so many never meets 15. Nor does one of 8 + 2 x file_length bytes:
+   a signature that has 24 bytes in the list, and 2 for each option of its layout, has at least 17 in the file, and one more for each. */
+enum {
+    TERMREAD_LIST_MOST = 1638374
+};
+
+/* The signature list that a keeper's file says, written into a buffer that the caller lends: one record for each signature, in order. It is
+   well formed, and need not be checked again. Bytes of the buffer past it stay as they were; on a refusal the whole buffer does. The first
+   line that meets 13 is told before any other refusal; then the first with which signatures or options are too many, 24 before 25 on the
+   same one; 15 comes last, exactly if the list is longer than the buffer. Line and offset are told modulo 2^32, which a file of less than
+   4 GiB does not show. The buffer and the file do not overlap. */
+termread_compiled termread_compile_list(uint8_t *buffer, size_t buffer_length, const uint8_t *file, size_t file_length);
 
 #ifdef __cplusplus
 }

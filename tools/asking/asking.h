@@ -36,7 +36,7 @@ int scan_last_bytes(Line *line, Bytes *bytes);
 int scan_escaped(Line *line, Bytes *bytes);
 int scan_observation(Line *line, witness_observation *observation);
 
-/* A buffer to be written into, of a pattern; it holds until the next one is lent. So many bytes are lent at most. */
+/* A buffer to be written into, of a pattern; it holds until the next one is lent. So many bytes are lent at most for a line. */
 enum { ROOM_MOST = 1000000 };
 uint8_t *lend(size_t room);
 

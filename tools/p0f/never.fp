@@ -1,4 +1,4 @@
-; Lines that no packet fits by the port's rules, one for each reason that src/never.py knows. p0f itself refuses some of them.
+; Lines that no packet fits by the port's rules, one for each reason that src/reasons.py knows. p0f itself refuses some of them.
 
 [tcp:request]
 

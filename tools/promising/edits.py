@@ -41,7 +41,10 @@ def edits(crate="*"):
 
 def program_functions(crate):
     """Of a program, which has no public functions, every function."""
-    return {name for file in files(crate) if file.stem == "main" for name in re.findall(r"^\s*fn (\w+)", file.text, re.M)}
+    own = files(crate)
+    if all(file.stem != "main" for file in own):
+        return set()
+    return {name for file in own for name in re.findall(r"^\s*(?:pub\(crate\) )?fn (\w+)", file.text, re.M)}
 
 
 def stands(crate, sides, name):

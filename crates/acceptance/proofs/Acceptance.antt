@@ -7,6 +7,7 @@ use Rattle.acceptance.proofs.GatewayLines.{gateway-lines}
 use Rattle.acceptance.proofs.GenericLast.{generic-last}
 use Rattle.acceptance.proofs.Honesty.{honesty}
 use Rattle.acceptance.proofs.HowLong.{how-long}
+use Rattle.acceptance.proofs.KeepersFile.{keepers-file}
 use Rattle.acceptance.proofs.Lines.{lines}
 use Rattle.acceptance.proofs.Modes.{modes}
 use Rattle.acceptance.proofs.OnPaper.{on-paper}
@@ -38,4 +39,5 @@ acceptance =
       howLong = how-long;
       writtenLines = written-lines;
       gatewayLines = gateway-lines;
+      keepersFile = keepers-file;
     }

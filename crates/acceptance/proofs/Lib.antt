@@ -13,6 +13,7 @@ pub mod GatewayLines
 pub mod GenericLast
 pub mod Honesty
 pub mod HowLong
+pub mod KeepersFile
 pub mod Lines
 pub mod Modes
 pub mod NotFree

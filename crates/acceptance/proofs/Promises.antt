@@ -25,9 +25,13 @@ use Rattle.acceptance.proofs.Promises.one_field as one-field'
 use Rattle.acceptance.proofs.Promises.parse_tcp as parse-tcp'
 use Rattle.acceptance.proofs.Promises.display as display'
 use Rattle.acceptance.proofs.Promises.line_writer as line-writer'
+use Rattle.acceptance.proofs.Promises.keeper_line as keeper-line'
+use Rattle.acceptance.proofs.Promises.list_compiler as list-compiler'
+use Rattle.acceptance.proofs.Promises.file_writer as file-writer'
 use Rattle.acceptance.proofs.Promises.packet_answer as packet-answer'
 use Rattle.acceptance.proofs.Promises.bundle as bundle'
 use Rattle.acceptance.proofs.Promises.report as report'
+use Rattle.acceptance.proofs.Promises.packet_line as packet-line'
 use Rattle.acceptance.proofs.Promises.gateway as gateway'
 pub mod refusals
 pub mod numbers
@@ -53,9 +57,13 @@ pub mod one_field
 pub mod parse_tcp
 pub mod display
 pub mod line_writer
+pub mod keeper_line
+pub mod list_compiler
+pub mod file_writer
 pub mod packet_answer
 pub mod bundle
 pub mod report
+pub mod packet_line
 pub mod gateway
 
 pub each-crate : EachCrate
@@ -85,8 +93,12 @@ each-crate =
       parse-tcp = parse-tcp'.promises;
       display = display'.promises;
       line-writer = line-writer'.promises;
+      keeper-line = keeper-line'.promises;
+      list-compiler = list-compiler'.promises;
+      file-writer = file-writer'.promises;
       packet-answer = packet-answer'.promises;
       bundle = bundle'.promises;
       report = report'.promises;
+      packet-line = packet-line'.promises;
       gateway = gateway'.promises;
     }

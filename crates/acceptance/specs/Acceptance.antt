@@ -7,6 +7,7 @@ use Rattle.acceptance.specs.GatewayLines.{GatewayLines}
 use Rattle.acceptance.specs.GenericLast.{GenericLast}
 use Rattle.acceptance.specs.Honesty.{Honesty}
 use Rattle.acceptance.specs.HowLong.{HowLong}
+use Rattle.acceptance.specs.KeepersFile.{KeepersFile}
 use Rattle.acceptance.specs.Lines.{Lines}
 use Rattle.acceptance.specs.Modes.{Modes}
 use Rattle.acceptance.specs.OnPaper.{OnPaper}
@@ -50,3 +51,5 @@ pub record Acceptance : Type 1 where
   pub writtenLines : WrittenLines
   -- and as a gateway in C or Rust gets it.
   pub gatewayLines : GatewayLines
+  -- D1: a keeper's file of such lines compiled into a list, and the way back.
+  pub keepersFile : KeepersFile

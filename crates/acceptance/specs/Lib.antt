@@ -7,6 +7,7 @@ pub mod GatewayLines
 pub mod GenericLast
 pub mod Honesty
 pub mod HowLong
+pub mod KeepersFile
 pub mod Lent
 pub mod Lines
 pub mod Modes

@@ -180,6 +180,8 @@ TheTable =
     ∷ alone 21
     ∷ alone 22
     ∷ alone 23
+    ∷ alone 24
+    ∷ alone 25
     ∷ []
 
 -- A gateway gets a refusal by its number and its value.

@@ -24,9 +24,13 @@ use Rattle.acceptance.specs.Promises.one_field as one-field'
 use Rattle.acceptance.specs.Promises.parse_tcp as parse-tcp'
 use Rattle.acceptance.specs.Promises.display as display'
 use Rattle.acceptance.specs.Promises.line_writer as line-writer'
+use Rattle.acceptance.specs.Promises.keeper_line as keeper-line'
+use Rattle.acceptance.specs.Promises.list_compiler as list-compiler'
+use Rattle.acceptance.specs.Promises.file_writer as file-writer'
 use Rattle.acceptance.specs.Promises.packet_answer as packet-answer'
 use Rattle.acceptance.specs.Promises.bundle as bundle'
 use Rattle.acceptance.specs.Promises.report as report'
+use Rattle.acceptance.specs.Promises.packet_line as packet-line'
 use Rattle.acceptance.specs.Promises.gateway as gateway'
 pub mod refusals
 pub mod numbers
@@ -52,9 +56,13 @@ pub mod one_field
 pub mod parse_tcp
 pub mod display
 pub mod line_writer
+pub mod keeper_line
+pub mod list_compiler
+pub mod file_writer
 pub mod packet_answer
 pub mod bundle
 pub mod report
+pub mod packet_line
 pub mod gateway
 
 pub record EachCrate : Type 0 where
@@ -82,7 +90,11 @@ pub record EachCrate : Type 0 where
   pub parse-tcp : parse-tcp'.Promises
   pub display : display'.Promises
   pub line-writer : line-writer'.Promises
+  pub keeper-line : keeper-line'.Promises
+  pub list-compiler : list-compiler'.Promises
+  pub file-writer : file-writer'.Promises
   pub packet-answer : packet-answer'.Promises
   pub bundle : bundle'.Promises
   pub report : report'.Promises
+  pub packet-line : packet-line'.Promises
   pub gateway : gateway'.Promises

@@ -1,6 +1,7 @@
 pub mod Fits
 pub mod Given
 pub mod LineTold
+pub mod ListTold
 pub mod Marks
 pub mod ReadBack
 pub mod Room

@@ -10,6 +10,7 @@ use Rattle.text.specs.Written.{left-with}
 use Rattle.flow.specs.Modes.{modeOf}
 use Rattle.siglist.specs.List.{checkList}
 use Rattle.packet_answer.specs.Packet.{answerIn, answerOf, peerOf}
+use Rattle.gateway.specs.declared.TermreadCompiled.{TermreadCompiled}
 use Rattle.gateway.specs.declared.TermreadResult.{TermreadResult}
 use Rattle.gateway.specs.Parts.{gatewayAnswer, gatewayIn, listParts, packetParts, partsOf}
 use Rattle.gateway.proofs.termread_answer.Reads as termread-answer'
@@ -17,6 +18,7 @@ use Rattle.gateway.proofs.termread_answer_checked.Reads as termread-ans
 use Rattle.gateway.proofs.termread_answer_checked_in.Reads as termread-answer-checked-in'
 use Rattle.gateway.proofs.termread_answer_in.Reads as termread-answer-in'
 use Rattle.gateway.proofs.termread_check_list.Reads as termread-check-list'
+use Rattle.gateway.proofs.termread_compile_list.Reads as termread-compile-list'
 use Rattle.gateway.proofs.termread_raw_line.Reads as termread-raw-line'
 use Rattle.gateway.proofs.termread_raw_line_in.Reads as termread-raw-line-in'
 use Rattle.gateway.proofs.termread_record_line.Reads as termread-record-line'
@@ -72,3 +74,9 @@ pub termread-record-line-one
     (λ (r : TermreadResult × List ℕ). termread-record-line'.Post κs (buffer, (list, (index, tt))) (r .0)
     (left-with buffer (r .1), (list, (index, tt))))
 termread-record-line-one κs buffer list index = both _ _
+
+pub termread-compile-list-one
+    : (κs : Lfts 2) (buffer file : RefT (List ℕ))
+    → ExactlyOne (TermreadCompiled × List ℕ)
+    (λ (r : TermreadCompiled × List ℕ). termread-compile-list'.Post κs (buffer, (file, tt)) (r .0) (left-with buffer (r .1), (file, tt)))
+termread-compile-list-one κs buffer file = both _ _

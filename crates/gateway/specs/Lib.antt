@@ -1,3 +1,4 @@
+pub mod Compiled
 pub mod Decode
 pub mod LineTold
 pub mod Lines

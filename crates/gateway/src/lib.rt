@@ -1,4 +1,4 @@
-// What a gateway in C or Rust links: each answer as a struct of sixteen bytes, and lines in a buffer that it lends.
+// What a gateway in C or Rust links: each answer as a struct of sixteen bytes, and lines and lists in a buffer that it lends.
 ghost use mathlib.Core.Path.{_≡_};
 ghost use Rattle.refusals.specs.Refusals.{packetNumber, packetValue};
 ghost use Rattle.siglist.specs.List.{checkList};
@@ -9,6 +9,8 @@ ghost use Rattle.gateway.specs.Parts.{refusedList, partsOf, gatewayAnswe
 ghost use Rattle.text.specs.Written.{Writes};
 ghost use Rattle.gateway.specs.Lines.{lineParts, refusalParts, wroteParts, seenLine};
 ghost use Rattle.gateway.specs.Lines.{packetLineIn, rawLine, rawLineIn, recordParts};
+ghost use Rattle.gateway.specs.Compiled.{compileParts};
+use compiled::compiled_parts;
 use flow::Answer;
 use flow::Mode;
 use flow::mode_of;
@@ -18,6 +20,7 @@ use found::Hit;
 use found::Searched;
 use line_writer::write_observation;
 use line_writer::write_record;
+use list_compiler::compile_list;
 use matching::FuzzyReason;
 use matching::Hops;
 use observable::TcpObservation;
@@ -33,6 +36,8 @@ use refusals::refusal_number;
 use siglist::ListAnswer;
 use siglist::check_list;
 use written_line::Wrote;
+
+mod compiled;
 
 // An answer for C: sixteen bytes, returned in two registers (specs/Parts.antt; include/termread.h has the same struct). What a later
 // request fills is 0 until then.
@@ -50,6 +55,15 @@ pub struct TermreadResult {
     pub missing: u8,
     pub hops: u8,
     pub marks: u8,
+}
+
+// What compiling a list answers, sixteen bytes too.
+#[repr(C)]
+pub struct TermreadCompiled {
+    pub length: u32,
+    pub line: u32,
+    pub offset: u32,
+    pub refusal: u32,
 }
 
 // ---- the fields
@@ -346,4 +360,12 @@ pub extern "C" fn termread_record_line(
     ensures { λ r. ⌜ Writes (now (buffer .entry)) (recordParts (now (list .entry)) index) r (now (buffer .exit)) ⌝ }
 {
     wrote_parts(0, write_record(buffer, list, index))
+}
+
+// A keeper's file compiled into a list, from the buffer's start on: its length, or a refusal, 13, 24, 25 or 15, with the line.
+#[no_mangle]
+pub extern "C" fn termread_compile_list(buffer: &mut [u8], file: &[u8]) -> TermreadCompiled
+    ensures { λ r. ⌜ Writes (now (buffer .entry)) (compileParts (now (file .entry))) r (now (buffer .exit)) ⌝ }
+{
+    compiled_parts(compile_list(buffer, file))
 }

@@ -32,7 +32,7 @@ join-words D F T f t w v j =
     rw (j .splits)
     (within-append D (j .left) (j .right) (f (j .left) (v .0) (j .first)) (t (j .right) (v .1) (j .second)))
 
-behind-words : {A : Type 0} (D : ℕ → Bool) (c : ℕ) → D c ≡ true → (L : List ℕ → A → Type 0) → Words D L → Words D (Behind c L)
+pub behind-words : {A : Type 0} (D : ℕ → Bool) (c : ℕ) → D c ≡ true → (L : List ℕ → A → Type 0) → Words D L → Words D (Behind c L)
 behind-words D c e L h [] v l = absurd l
 behind-words D c e L h (b ∷ w) v l = inside {b = b} (rw (l .0) e) (h w v (l .1))
 

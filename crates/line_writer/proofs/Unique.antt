@@ -9,6 +9,7 @@ use Rattle.basis.proofs.Unique.{both}
 use Rattle.text.specs.Written.{left-with}
 use Rattle.observable.specs.declared.TcpObservation.{TcpObservation}
 use Rattle.written_line.specs.declared.Wrote.{Wrote}
+use Rattle.line_writer.proofs.write_listed.Reads as write-listed'
 use Rattle.line_writer.proofs.write_observation.Reads as write-observation'
 use Rattle.line_writer.proofs.write_record.Reads as write-record'
 
@@ -17,6 +18,12 @@ pub write-observation-one
     → ExactlyOne (Wrote × List ℕ)
     (λ (r : Wrote × List ℕ). write-observation'.Post κs (buffer, (o, tt)) (r .0) (left-with buffer (r .1), (o, tt)))
 write-observation-one κs buffer o = both _ _
+
+pub write-listed-one
+    : (κs : Lfts 2) (buffer list : RefT (List ℕ)) (index : ℕ)
+    → ExactlyOne (Wrote × List ℕ)
+    (λ (r : Wrote × List ℕ). write-listed'.Post κs (buffer, (list, (index, tt))) (r .0) (left-with buffer (r .1), (list, (index, tt))))
+write-listed-one κs buffer list index = both _ _
 
 pub write-record-one
     : (κs : Lfts 2) (buffer list : RefT (List ℕ)) (index : ℕ)

@@ -6,8 +6,7 @@ ghost use lib.ListN.{length};
 ghost use Rattle.text.specs.Written.{Put, Writes};
 ghost use Rattle.written_line.specs.LineText.{signatureText};
 ghost use Rattle.written_line.specs.Signature.{versionSeen, payloadSeen, signatureSeen};
-ghost use Rattle.line_writer.specs.GoodRecord.{GoodRecord};
-ghost use Rattle.written_line.specs.Writing.{signatureLine, goodLine, observationLine, recordLine};
+ghost use Rattle.written_line.specs.Writing.{signatureLine, observationLine, recordLine, listedLine};
 use display::lengths::mss_length;
 use display::lengths::ttl_length;
 use display::lengths::window_length;
@@ -25,7 +24,6 @@ use rows::layout_length;
 use rows::put_layout;
 use rows::put_quirks;
 use rows::quirks_length;
-use siglist::Areas;
 use siglist::Header;
 use siglist::ListAnswer;
 use siglist::check_list;
@@ -165,11 +163,16 @@ pub fn write_observation(buffer: &mut [u8], o: TcpObservation) -> Wrote
 
 // ---- a record
 
-// The line of a record that is well formed, in a list whose areas fit.
-fn write_good(buffer: &mut [u8], list: &[u8], areas: Areas, index: usize) -> Wrote
-    requires { ⌜ GoodRecord (now list) areas index ⌝ }
-    ensures { λ r. ⌜ Writes (now (buffer .entry)) (goodLine (now (list .entry)) index) r (now (buffer .exit)) ⌝ }
+// The line of record `index` of a list that was checked before; 23 for what no list so checked could have.
+pub fn write_listed(buffer: &mut [u8], list: &[u8], index: usize) -> Wrote
+    ensures { λ r. ⌜ Writes (now (buffer .entry)) (listedLine (now (list .entry)) index) r (now (buffer .exit)) ⌝ }
 {
+    let Header::Fits(areas) = read_header(list) else {
+        return Wrote::Refused(Refusal::NoSuchRecord);
+    };
+    if areas.records as usize <= index {
+        return Wrote::Refused(Refusal::NoSuchRecord);
+    }
     let raw = record_at(list, areas, index);
     let first = first_entry(raw);
     let count = entry_count(raw);
@@ -187,14 +190,6 @@ pub fn write_record(buffer: &mut [u8], list: &[u8], index: usize) -> Wrote
 {
     match check_list(list) {
         ListAnswer::Refused(refusal) => Wrote::Refused(Refusal::List(refusal)),
-        ListAnswer::Good => match read_header(list) {
-            Header::DoesNotFit => Wrote::Refused(Refusal::NoSuchRecord),
-            Header::Fits(areas) => {
-                if areas.records as usize <= index {
-                    return Wrote::Refused(Refusal::NoSuchRecord);
-                }
-                write_good(buffer, list, areas, index)
-            }
-        },
+        ListAnswer::Good => write_listed(buffer, list, index),
     }
 }

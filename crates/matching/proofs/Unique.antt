@@ -7,18 +7,21 @@ use contract.Lifetimes.{Lfts}
 use denote.Ref.{RefT, now}
 use Rattle.basis.specs.Unique.{ExactlyOne}
 use Rattle.basis.proofs.Unique.{equation}
+use Rattle.tcp.specs.declared.IpVersion.{IpVersion}
 use Rattle.tcp.specs.declared.Mss.{Mss}
 use Rattle.tcp.specs.declared.Wscale.{Wscale}
 use Rattle.quirks.specs.declared.QuirkSet.{QuirkSet}
 use Rattle.observable.specs.declared.TcpObservation.{TcpObservation}
+use Rattle.sigrecord.specs.declared.SigVersion.{SigVersion}
 use Rattle.sigrecord.specs.Record.{signatureOf}
 use Rattle.matching.specs.declared.Features.{Features}
 use Rattle.matching.specs.declared.QuirksFit.{QuirksFit}
 use Rattle.matching.specs.declared.SignatureFit.{SignatureFit}
 use Rattle.matching.specs.Fit.{featuresOf, passes, toleranceOf}
 use Rattle.matching.specs.Gates.{goodLayoutFits, mssMatches, olenMatches, scaleMatches}
-use Rattle.matching.specs.Tolerance.{quirksFit}
+use Rattle.matching.specs.Tolerance.{maskedQuirks, quirksFit}
 use Rattle.matching.proofs.features_of.Reads as features-of'
+use Rattle.matching.proofs.mask_signature_quirks.Reads as mask-signature-quirks'
 use Rattle.matching.proofs.mss_matches.Reads as mss-matches'
 use Rattle.matching.proofs.olayout_matches.Reads as olayout-matches'
 use Rattle.matching.proofs.olen_matches.Reads as olen-matches'
@@ -53,6 +56,12 @@ pub passes-gates-one
     : (κs : Lfts 1) (observed : Features) (raw : RefT (List ℕ))
     → ExactlyOne Bool (λ (r : Bool). passes-gates'.Post κs (observed, (raw, tt)) r (observed, (raw, tt)))
 passes-gates-one κs observed raw = equation (passes observed (now raw))
+
+pub mask-signature-quirks-one
+    : (quirks : QuirkSet) (signature : SigVersion) (observed : IpVersion)
+    → ExactlyOne QuirkSet
+    (λ (r : QuirkSet). mask-signature-quirks'.Post tt (quirks, (signature, (observed, tt))) r (quirks, (signature, (observed, tt))))
+mask-signature-quirks-one quirks signature observed = equation (maskedQuirks quirks signature observed)
 
 pub quirks-fit-one
     : (observed signature : QuirkSet)

@@ -173,7 +173,11 @@ pub fn passes_gates(observed: Features, raw: &[u8]) -> bool
 // ---- what may be tolerated
 
 // A signature of any version drops the quirks that only the other version has.
-fn mask_signature_quirks(quirks: QuirkSet, signature: SigVersion, observed: IpVersion) -> QuirkSet
+pub fn mask_signature_quirks(
+    quirks: QuirkSet,
+    signature: SigVersion,
+    observed: IpVersion,
+) -> QuirkSet
     ensures { λ r. ⌜ r ≡ maskedQuirks quirks signature observed ⌝ }
 {
     match signature {

@@ -82,7 +82,7 @@ fn read_fields(line: &[u8]) -> LineFields
 }
 
 // Refusal 13: beside its offset nothing is given.
-fn refused_at(at: usize) -> SignatureRead
+pub fn refused_at(at: usize) -> SignatureRead
     ensures { λ r. ⌜ r ≡ refusedAt at ⌝ }
 {
     let raw = [0u8; 24];

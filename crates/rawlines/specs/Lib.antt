@@ -1,1 +1,1 @@
-pub mod RawLine
+pub mod PacketRead

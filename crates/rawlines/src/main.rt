@@ -1,83 +1,39 @@
 // rawlines: what the terminals showed. A bundle on standard input (document 01, "The bundle program"); on standard output what `termread`
 // prints, and behind each packet's answer its raw line, or `-` where nothing was seen (document 02, Wish 7). What is read and what is
-// written is the library's. Streams that do not wait are not tried again: a call that would have to wait has failed.
+// written is the library's.
 ghost use mathlib.Core.Path.{_≡_};
 ghost use Prim.Native.Nat.{_+_, _≤_};
 ghost use lib.ListN.{length};
-ghost use Rattle.basis.specs.Bytes as bytes;
-ghost use Rattle.flow.specs.Reading.{readPacket};
-ghost use Rattle.packet_answer.specs.Packet.{peerOf};
-ghost use Rattle.text.specs.Written.{Put};
-ghost use Rattle.rawlines.specs.RawLine.{PacketWithin, seenText, rawText, rawLine};
+ghost use Rattle.rawlines.specs.PacketRead.{PacketWithin, readingAt};
 use bundle::BundleCheck;
 use bundle::PacketAt;
 use bundle::check_bundle;
 use bundle::packet_at;
-use flow::Answer;
 use flow::Reading;
 use flow::read_packet;
-use libc::STDERR_FILENO;
 use libc::STDIN_FILENO;
 use libc::STDOUT_FILENO;
-use line_writer::write_observation;
 use numbers::be16;
-use observable::TcpObservation;
-use packet_answer::PacketAnswer;
 use packet_answer::peer_of;
+use packet_line::put_packet;
 use refusals::Refusal;
 use refusals::refusal_number;
-use report::lines::put_answer;
 use report::lines::put_numbered;
-use tcp::Mss;
-use text::put_byte;
-use text::put_word;
-use written_line::Wrote;
-
-// The longest raw line of an observation.
-const RAW: usize = 432;
+use streams::Ending;
+use streams::ends_as;
+use streams::say;
 
 // The longest line: `synack exact 65535`, or `fuzzy`, a blank, a raw line, and the line's end.
 const LINE: usize = 452;
 
-// ---- a packet's line
-
-// The raw line of an observation.
-fn put_seen(line: &mut [u8], at: usize, observation: TcpObservation) -> usize
-    ensures { λ r. ⌜ Put (now (line .entry)) at (seenText observation) r (now (line .exit)) ⌝ }
-{
-    let mut raw = [0u8; RAW];
-    match write_observation(&mut raw, observation) {
-        Wrote::Line(size) => put_word(line, at, &raw[0..size]),
-        Wrote::Refused(_) => at,
-    }
-}
-
-// What a reading shows: the raw line of its observation, or `-`.
-fn put_raw(line: &mut [u8], at: usize, reading: Reading) -> usize
-    ensures { λ r. ⌜ Put (now (line .entry)) at (rawText (reading .answer) (reading .observation)) r (now (line .exit)) ⌝ }
-{
-    let answer = reading.answer;
-    let observation = reading.observation;
-    match answer {
-        Answer::Syn => put_seen(line, at, observation),
-        Answer::SynAck => put_seen(line, at, observation),
-        Answer::Nothing => put_byte(line, at, b'-'),
-        Answer::Refused(_) => put_byte(line, at, b'-'),
-    }
-}
-
-// The line of a packet that starts and ends at these places, and was answered so.
-fn put_packet(line: &mut [u8], bundle: &[u8], at: usize, end: usize, answer: PacketAnswer) -> usize
+// What is read of the packet that starts and ends at these places.
+fn reading_at(bundle: &[u8], at: usize, end: usize) -> Reading
     requires { ⌜ PacketWithin at end (length (now bundle)) ⌝ }
-    ensures { λ r. ⌜ Put (now (line .entry)) 0 (rawLine (now (bundle .entry)) at end answer) r (now (line .exit)) ⌝ }
+    ensures { λ r. ⌜ r ≡ readingAt (now (bundle .entry)) at end ⌝ }
 {
     let start = at + 4;
     let peer = peer_of(be16(bundle[at], bundle[at + 1]));
-    let reading = read_packet(&bundle[start..end], peer);
-    let blank = put_answer(line, 0, answer);
-    let next = put_byte(line, blank, b' ');
-    let behind = put_raw(line, next, reading);
-    put_byte(line, behind, b'\n')
+    read_packet(&bundle[start..end], peer)
 }
 
 // ---- the output: whether all of it was taken
@@ -90,7 +46,8 @@ fn write_packets(bundle: &[u8], offset: usize, count: usize) -> bool {
         let PacketAt::Packet(answer, end) = packet_at(bundle, at) else {
             return true;
         };
-        let filled = put_packet(&mut line, bundle, at, end, answer);
+        let reading = reading_at(bundle, at, end);
+        let filled = put_packet(&mut line, 0, answer, reading);
         if !io::write_all(STDOUT_FILENO, &line[0..filled]) {
             return false;
         }
@@ -132,36 +89,6 @@ fn write_output(bundle: &[u8]) -> bool {
 }
 
 // ---- the streams
-
-// How the input ends behind what was read.
-enum Ending {
-    Whole,
-    // The buffer is full, and the input goes on.
-    Longer,
-    // A read failed.
-    Failed,
-}
-
-// What a reading that stops early is: one read more tells whether the input ended, or a read failed before.
-fn ends_as(full: bool) -> Ending {
-    let mut one = [0u8; 1];
-    let got = libc::read(STDIN_FILENO, &mut one);
-    if got == 0 {
-        return Ending::Whole;
-    }
-    if got < 0 {
-        return Ending::Failed;
-    }
-    if full {
-        return Ending::Longer;
-    }
-    Ending::Failed
-}
-
-// A message, on standard error.
-fn say(text: &[u8]) {
-    io::write_all(STDERR_FILENO, text);
-}
 
 fn tell(whole: bool) {
     if !whole {

@@ -33,6 +33,8 @@ back refusal.CaptureEndsEarly = refl
 back refusal.RowTooShort = refl
 back refusal.RowDiffers = refl
 back refusal.NoSuchRecord = refl
+back refusal.TooManySignatures = refl
+back refusal.TooManyEntries = refl
 
 -- So no two refusals share both.
 same : (r s : Refusal) → number r ≡ number s → returned r ≡ returned s → r ≡ s
@@ -65,6 +67,8 @@ numbered refusal.CaptureEndsEarly = (omega arith, omega arith)
 numbered refusal.RowTooShort = (omega arith, omega arith)
 numbered refusal.RowDiffers = (omega arith, omega arith)
 numbered refusal.NoSuchRecord = (omega arith, omega arith)
+numbered refusal.TooManySignatures = (omega arith, omega arith)
+numbered refusal.TooManyEntries = (omega arith, omega arith)
 
 -- What holds of an answer's refusal, if it is one.
 abbrev pub IfRefused : (Refusal → Type 0) → Verdict → Type 0

@@ -6,10 +6,11 @@ use Rattle.basis.proofs.Unique.{equation}
 use Rattle.refusals.specs.declared.ListRefusal.{ListRefusal}
 use Rattle.refusals.specs.declared.PacketRefusal.{PacketRefusal}
 use Rattle.refusals.specs.declared.Refusal.{Refusal}
-use Rattle.refusals.specs.Refusals.{listValue, number, packetValue}
+use Rattle.refusals.specs.Refusals.{listValue, number, packetValue, value}
 use Rattle.refusals.proofs.list_value.Reads as list-value'
 use Rattle.refusals.proofs.packet_value.Reads as packet-value'
 use Rattle.refusals.proofs.refusal_number.Reads as refusal-number'
+use Rattle.refusals.proofs.refusal_value.Reads as refusal-value'
 
 pub refusal-number-one : (refusal : Refusal) → ExactlyOne ℕ (λ (r : ℕ). refusal-number'.Post tt (refusal, tt) r (refusal, tt))
 refusal-number-one refusal = equation (number refusal)
@@ -19,3 +20,6 @@ packet-value-one refusal = equation (packetValue refusal)
 
 pub list-value-one : (refusal : ListRefusal) → ExactlyOne ℕ (λ (r : ℕ). list-value'.Post tt (refusal, tt) r (refusal, tt))
 list-value-one refusal = equation (listValue refusal)
+
+pub refusal-value-one : (refusal : Refusal) → ExactlyOne ℕ (λ (r : ℕ). refusal-value'.Post tt (refusal, tt) r (refusal, tt))
+refusal-value-one refusal = equation (value refusal)

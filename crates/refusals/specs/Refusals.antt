@@ -1,4 +1,5 @@
--- The refusals of documents 01 ("Refusal numbers") and 02: the number of each, what each returns beside it, and the way back from both.
+-- The refusals of documents 01 ("Refusal numbers") and 02, and of a keeper's file where these have none: the number of each, what each
+-- returns beside it, and the way back from both.
 -- An answer's refusal is a `Verdict`, whose number is read off here: no other definition of an answer has one.
 use Prim.Native.Nat.{ℕ}
 use mathlib.Core.Bool.{cond}
@@ -66,6 +67,10 @@ number refusal.RowTooShort = 20
 number refusal.RowDiffers = 21
 -- Wish 7: "an index not in it"
 number refusal.NoSuchRecord = 23
+-- A keeper's file: "more signatures .. than a header can count"
+number refusal.TooManySignatures = 24
+-- "more .. entries than a header can count"
+number refusal.TooManyEntries = 25
 
 -- ---- the column "Also returns"
 
@@ -106,6 +111,8 @@ returned refusal.CaptureEndsEarly = Returned.nothing
 returned refusal.RowTooShort = Returned.nothing
 returned refusal.RowDiffers = Returned.nothing
 returned refusal.NoSuchRecord = Returned.nothing
+returned refusal.TooManySignatures = Returned.nothing
+returned refusal.TooManyEntries = Returned.nothing
 
 -- What is returned, as a number; 0 is nothing.
 abbrev pub valueOf : Returned → ℕ
@@ -119,6 +126,9 @@ packetValue r = valueOf (packetReturned r)
 
 abbrev pub listValue : ListRefusal → ℕ
 listValue r = valueOf (listReturned r)
+
+abbrev pub value : Refusal → ℕ
+value r = valueOf (returned r)
 
 -- ---- the way back
 
@@ -148,11 +158,13 @@ everyRefusal value =
     ∷ refusal.RowDiffers
     ∷ refusal.Packet packet.ExtensionHeaders
     ∷ refusal.NoSuchRecord
+    ∷ refusal.TooManySignatures
+    ∷ refusal.TooManyEntries
     ∷ []
 
 -- The first of a list with this number.
 unfoldable pub firstNumbered : ℕ → List Refusal → Refusal
-firstNumbered n [] = refusal.NoSuchRecord
+firstNumbered n [] = refusal.TooManyEntries
 firstNumbered n (r ∷ rest) = cond (eqb (number r) n) r (firstNumbered n rest)
 
 -- The refusal of a number and a value; of a number that no refusal has, the last.
@@ -175,6 +187,8 @@ byKind ofPacket ofList other refusal.CaptureEndsEarly = other
 byKind ofPacket ofList other refusal.RowTooShort = other
 byKind ofPacket ofList other refusal.RowDiffers = other
 byKind ofPacket ofList other refusal.NoSuchRecord = other
+byKind ofPacket ofList other refusal.TooManySignatures = other
+byKind ofPacket ofList other refusal.TooManyEntries = other
 
 -- ---- an answer's refusal
 

@@ -1,6 +1,7 @@
-// The refusals of documents 01 and 02 by name: the number of each, and what each gives beside it.
+// The refusals of documents 01 and 02, and those of a keeper's file that have none there, by name: the number of each, and what each gives
+// beside it.
 ghost use mathlib.Core.Path.{_≡_};
-ghost use Rattle.refusals.specs.Refusals.{packetNumber, listNumber, number, packetValue, listValue};
+ghost use Rattle.refusals.specs.Refusals.{packetNumber, listNumber, number, packetValue, listValue, value};
 
 // Why a packet is refused.
 pub enum PacketRefusal {
@@ -30,7 +31,7 @@ pub enum ListRefusal {
     BadRecord(usize),
 }
 
-// Every refusal of both documents, also those that only a wish of document 02 will give.
+// Every refusal of both documents, also those that only a wish of document 02 will give; behind them what both leave to a keeper's file.
 pub enum Refusal {
     Packet(PacketRefusal),
     // An option string over 40 bytes.
@@ -56,6 +57,10 @@ pub enum Refusal {
     RowDiffers,
     // An index past its list (Wish 7).
     NoSuchRecord,
+    // A keeper's file of more signatures than a list's header can count.
+    TooManySignatures,
+    // One of more layout entries than a list can have before its records.
+    TooManyEntries,
 }
 
 // ---- the numbers
@@ -104,6 +109,8 @@ pub fn refusal_number(refusal: Refusal) -> u8
         Refusal::RowTooShort => 20,
         Refusal::RowDiffers => 21,
         Refusal::NoSuchRecord => 23,
+        Refusal::TooManySignatures => 24,
+        Refusal::TooManyEntries => 25,
     }
 }
 
@@ -133,5 +140,29 @@ pub fn list_value(refusal: ListRefusal) -> usize
     match refusal {
         ListRefusal::DoesNotFit => 0,
         ListRefusal::BadRecord(index) => index,
+    }
+}
+
+// Any refusal gives one of these, the offset of a bad line, or nothing.
+pub fn refusal_value(refusal: Refusal) -> usize
+    ensures { λ r. ⌜ r ≡ value refusal ⌝ }
+{
+    match refusal {
+        Refusal::Packet(why) => packet_value(why) as usize,
+        Refusal::OptionsTooLong => 0,
+        Refusal::List(why) => list_value(why),
+        Refusal::LayoutTooLong => 0,
+        Refusal::BundleDoesNotFit => 0,
+        Refusal::BadLine(at) => at,
+        Refusal::BufferTooShort => 0,
+        Refusal::NoRoomForKey => 0,
+        Refusal::NotACapture => 0,
+        Refusal::FrameTooLong => 0,
+        Refusal::CaptureEndsEarly => 0,
+        Refusal::RowTooShort => 0,
+        Refusal::RowDiffers => 0,
+        Refusal::NoSuchRecord => 0,
+        Refusal::TooManySignatures => 0,
+        Refusal::TooManyEntries => 0,
     }
 }

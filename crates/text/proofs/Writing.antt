@@ -196,3 +196,8 @@ both b b' b'' t u at next last first second =
     let same : t' ++ room b' next u ≡ room b at (t ++ u) =
     ap₂ (λ (k m : ℕ). t' ++ take (k - m) u) kept (first .0) ∙ sym (room-after b t u at) in
     subst (λ (s : List ℕ). PutAll b at s last b'') same (all-both b b' b'' t' (room b' next u) at next last within first second)
+
+-- A text that is put from within a buffer ends within it.
+pub put-within : (b b' t : List ℕ) (at next : ℕ) → at ≤ length b → Put b at t next b' → next ≤ length b
+unfolding room
+put-within b b' t at next inside put = omega (arith, put .0, length-take (length b - at) t)

@@ -26,6 +26,8 @@ fn bad_record(refusal: Refusal) -> u32
         Refusal::RowTooShort => 0,
         Refusal::RowDiffers => 0,
         Refusal::NoSuchRecord => 0,
+        Refusal::TooManySignatures => 0,
+        Refusal::TooManyEntries => 0,
     }
 }
 

@@ -20,7 +20,7 @@ use Rattle.written_line.specs.RoundTrip.{wholeLine}
 use Rattle.written_line.specs.Writing.{refusing, lineInto, observationLine, recordLineOf, recordLine}
 
 -- A line that finds room, or not.
-into
+pub into
     : (P : Lined Wrote → Type 0) (s : List ℕ) (room : ℕ) → (room < length s → P (refusing refusal.BufferTooShort))
     → (length s ≤ room → P (wholeLine s))
     → P (lineInto s room)

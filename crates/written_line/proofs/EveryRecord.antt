@@ -39,7 +39,7 @@ take-bytes (suc n) [] all k = omega arith
 take-bytes (suc n) (b ∷ s) all zero = all 0
 take-bytes (suc n) (b ∷ s) all (suc k) = take-bytes n s (λ j. all (suc j)) k
 
-part-bytes : (start end : ℕ) (s : List ℕ) → AllBytes s → AllBytes (part start end s)
+pub part-bytes : (start end : ℕ) (s : List ℕ) → AllBytes s → AllBytes (part start end s)
 part-bytes start end s all = take-bytes (end - start) (drop start s) (λ k. rw getD-drop (all (start + k)))
 
 -- ---- a record of a list

@@ -5,8 +5,10 @@ pub mod FieldWords
 pub mod FieldsBack
 pub mod LayoutRow
 pub mod LineFits
+pub mod Listed
 pub mod LongestLines
 pub mod Observed
+pub mod OwnBuffer
 pub mod QuirkRow
 pub mod QuirksBack
 pub mod RecordLine

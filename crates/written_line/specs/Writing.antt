@@ -1,6 +1,6 @@
 -- What writing a line into a buffer of so many bytes answers, and which line is written (document 02, Wish 7).
 use Prim.Native.Nat.{ℕ}
-use mathlib.Core.Bool.{cond}
+use mathlib.Core.Bool.{cond, _&&_}
 use mathlib.Core.List.{List, []}
 use lib.Dec.{ltb}
 use lib.ListN.{length}
@@ -12,7 +12,8 @@ use Rattle.refusals.specs.Refusals.{Verdict}
 use Rattle.sigrecord.specs.declared.Signature.{Signature}
 use Rattle.siglist.specs.declared.ListAnswer.{ListAnswer}
 use Rattle.siglist.specs.declared.ListAnswer.the-variants as list
-use Rattle.siglist.specs.List.{recordCount, checkList}
+use Rattle.sigrecord.specs.Record.{firstEntry, entryCount}
+use Rattle.siglist.specs.List.{recordCount, layoutCount, listFits, recordAt, entriesLie, checkList}
 use Rattle.written_line.specs.declared.Wrote.{Wrote}
 use Rattle.written_line.specs.declared.Wrote.the-variants as wrote
 use Rattle.written_line.specs.LineText.{signatureText, recordText, observationText}
@@ -45,6 +46,14 @@ recordLineOf list.Good l i room = cond (ltb i (recordCount l)) (goodLine l i roo
 
 unfoldable pub recordLine : List ℕ → ℕ → ℕ → Lined Wrote
 recordLine l i room = recordLineOf (checkList l) l i room
+
+-- The same of a list that was checked before: 23 for what no list so checked could have.
+unfoldable pub listedLine : List ℕ → ℕ → ℕ → Lined Wrote
+listedLine l i room =
+    cond
+    (listFits l && ltb i (recordCount l) && entriesLie (layoutCount l) (firstEntry (recordAt l i)) (entryCount (recordAt l i)))
+    (goodLine l i room)
+    (refusing refusal.NoSuchRecord)
 
 -- Which refusal of the table an answer is, if any.
 abbrev pub wroteVerdict : Wrote → Verdict

@@ -2,7 +2,7 @@
 // reading gives it back (document 02, Wish 7). The type is what writing a line answers.
 use refusals::Refusal;
 
-// A line of so many bytes was written, or none was: the refusal.
+// A text of so many bytes was written, a line or a file of lines, or none was: the refusal.
 pub enum Wrote {
     Line(usize),
     Refused(Refusal),

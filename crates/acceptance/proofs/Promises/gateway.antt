@@ -21,4 +21,5 @@ promises =
           λ κs buffer packet peer bits. line-answered tt (unique.termread-raw-line-in-one κs buffer packet peer bits) (λ m. m) refl;
       termread-record-line-one =
           λ κs buffer list index. line-answered tt (unique.termread-record-line-one κs buffer list index) (λ m. m) refl;
+      termread-compile-list-one = λ κs buffer file. line-answered tt (unique.termread-compile-list-one κs buffer file) (λ m. m) refl;
     }

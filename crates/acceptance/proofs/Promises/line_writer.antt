@@ -9,5 +9,6 @@ pub promises : Promises
 promises =
     record {
       write-observation-one = λ κs buffer o. line-answered tt (unique.write-observation-one κs buffer o) (λ m. m) refl;
+      write-listed-one = λ κs buffer list index. line-answered tt (unique.write-listed-one κs buffer list index) (λ m. m) refl;
       write-record-one = λ κs buffer list index. line-answered tt (unique.write-record-one κs buffer list index) (λ m. m) refl;
     }

@@ -15,6 +15,8 @@ promises =
           λ κs kinds bytes count entries declared. answered tt (unique.olayout-matches-one κs kinds bytes count entries declared) (λ m. m)
           refl;
       passes-gates-one = λ κs observed raw. answered tt (unique.passes-gates-one κs observed raw) (λ m. m) refl;
+      mask-signature-quirks-one =
+          λ quirks signature observed. answered tt (unique.mask-signature-quirks-one quirks signature observed) (λ m. m) refl;
       quirks-fit-one = λ observed signature. answered tt (unique.quirks-fit-one observed signature) (λ m. m) refl;
       features-of-one = λ observed. answered tt (unique.features-of-one observed) (λ m. m) refl;
       tolerance-one = λ κs observed raw. answered tt (unique.tolerance-one κs observed raw) (λ m. m) refl;

@@ -8,5 +8,6 @@ use Rattle.acceptance.proofs.Promised.{answered}
 pub promises : Promises
 promises =
     record {
+      refused-at-one = λ at. answered tt (unique.refused-at-one at) (λ m. m) refl;
       parse-tcp-signature-one = λ κs line. answered tt (unique.parse-tcp-signature-one κs line) (λ m. m) refl;
     }

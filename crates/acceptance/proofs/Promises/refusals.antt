@@ -11,4 +11,5 @@ promises =
       refusal-number-one = λ refusal. answered tt (unique.refusal-number-one refusal) (λ m. m) refl;
       packet-value-one = λ refusal. answered tt (unique.packet-value-one refusal) (λ m. m) refl;
       list-value-one = λ refusal. answered tt (unique.list-value-one refusal) (λ m. m) refl;
+      refusal-value-one = λ refusal. answered tt (unique.refusal-value-one refusal) (λ m. m) refl;
     }

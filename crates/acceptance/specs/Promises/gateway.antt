@@ -8,6 +8,7 @@ use Rattle.text.specs.Written.{left-with}
 use Rattle.flow.specs.Modes.{modeOf}
 use Rattle.siglist.specs.List.{checkList}
 use Rattle.packet_answer.specs.Packet.{answerIn, answerOf, peerOf}
+use Rattle.gateway.specs.Compiled.{compileParts}
 use Rattle.gateway.specs.Lines.{rawLine, rawLineIn, recordParts}
 use Rattle.gateway.specs.Parts.{gatewayAnswer, gatewayIn, listParts, packetParts, partsOf}
 use Rattle.gateway.proofs.termread_answer as termread-answer'
@@ -15,6 +16,7 @@ use Rattle.gateway.proofs.termread_answer_checked as termread-answer-checked'
 use Rattle.gateway.proofs.termread_answer_checked_in as termread-answer-checked-in'
 use Rattle.gateway.proofs.termread_answer_in as termread-answer-in'
 use Rattle.gateway.proofs.termread_check_list as termread-check-list'
+use Rattle.gateway.proofs.termread_compile_list as termread-compile-list'
 use Rattle.gateway.proofs.termread_raw_line as termread-raw-line'
 use Rattle.gateway.proofs.termread_raw_line_in as termread-raw-line-in'
 use Rattle.gateway.proofs.termread_record_line as termread-record-line'
@@ -55,3 +57,7 @@ pub record Promises : Type 0 where
       : (κs : Lfts 2) (buffer list : RefT (List ℕ)) (index : ℕ)
       → LineAnswers termread-record-line'.signature κs (termread-record-line'.Reads.Pre κs) (termread-record-line'.Reads.Post κs)
       (buffer, (list, (index, tt))) (λ bytes. (left-with buffer bytes, (list, (index, tt)))) (now buffer) (recordParts (now list) index)
+  pub termread-compile-list-one
+      : (κs : Lfts 2) (buffer file : RefT (List ℕ))
+      → LineAnswers termread-compile-list'.signature κs (termread-compile-list'.Reads.Pre κs) (termread-compile-list'.Reads.Post κs)
+      (buffer, (file, tt)) (λ bytes. (left-with buffer bytes, (file, tt))) (now buffer) (compileParts (now file))

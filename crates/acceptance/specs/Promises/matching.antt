@@ -4,16 +4,19 @@ use mathlib.Core.List.{List}
 use Prim.Native.Nat.{ℕ}
 use contract.Lifetimes.{Lfts}
 use denote.Ref.{RefT, now}
+use Rattle.tcp.specs.declared.IpVersion.{IpVersion}
 use Rattle.tcp.specs.declared.Mss.{Mss}
 use Rattle.tcp.specs.declared.Wscale.{Wscale}
 use Rattle.quirks.specs.declared.QuirkSet.{QuirkSet}
 use Rattle.observable.specs.declared.TcpObservation.{TcpObservation}
+use Rattle.sigrecord.specs.declared.SigVersion.{SigVersion}
 use Rattle.sigrecord.specs.Record.{signatureOf}
 use Rattle.matching.specs.declared.Features.{Features}
 use Rattle.matching.specs.Fit.{featuresOf, passes, toleranceOf}
 use Rattle.matching.specs.Gates.{goodLayoutFits, mssMatches, olenMatches, scaleMatches}
-use Rattle.matching.specs.Tolerance.{quirksFit}
+use Rattle.matching.specs.Tolerance.{maskedQuirks, quirksFit}
 use Rattle.matching.proofs.features_of as features-of'
+use Rattle.matching.proofs.mask_signature_quirks as mask-signature-quirks'
 use Rattle.matching.proofs.mss_matches as mss-matches'
 use Rattle.matching.proofs.olayout_matches as olayout-matches'
 use Rattle.matching.proofs.olen_matches as olen-matches'
@@ -44,6 +47,10 @@ pub record Promises : Type 0 where
       : (κs : Lfts 1) (observed : Features) (raw : RefT (List ℕ))
       → Answers passes-gates'.signature κs (passes-gates'.Reads.Pre κs) (passes-gates'.Reads.Post κs)
       (observed, (raw, tt)) (passes observed (now raw))
+  pub mask-signature-quirks-one
+      : (quirks : QuirkSet) (signature : SigVersion) (observed : IpVersion)
+      → Answers mask-signature-quirks'.signature tt (mask-signature-quirks'.Reads.Pre tt) (mask-signature-quirks'.Reads.Post tt)
+      (quirks, (signature, (observed, tt))) (maskedQuirks quirks signature observed)
   pub quirks-fit-one
       : (observed signature : QuirkSet)
       → Answers quirks-fit'.signature tt (quirks-fit'.Reads.Pre tt) (quirks-fit'.Reads.Post tt)

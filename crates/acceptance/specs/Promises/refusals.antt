@@ -3,10 +3,11 @@
 use Rattle.refusals.specs.declared.ListRefusal.{ListRefusal}
 use Rattle.refusals.specs.declared.PacketRefusal.{PacketRefusal}
 use Rattle.refusals.specs.declared.Refusal.{Refusal}
-use Rattle.refusals.specs.Refusals.{listValue, number, packetValue}
+use Rattle.refusals.specs.Refusals.{listValue, number, packetValue, value}
 use Rattle.refusals.proofs.list_value as list-value'
 use Rattle.refusals.proofs.packet_value as packet-value'
 use Rattle.refusals.proofs.refusal_number as refusal-number'
+use Rattle.refusals.proofs.refusal_value as refusal-value'
 use Rattle.acceptance.specs.Promised.{Answers}
 
 pub record Promises : Type 0 where
@@ -19,3 +20,6 @@ pub record Promises : Type 0 where
   pub list-value-one
       : (refusal : ListRefusal)
       → Answers list-value'.signature tt (list-value'.Reads.Pre tt) (list-value'.Reads.Post tt) (refusal, tt) (listValue refusal)
+  pub refusal-value-one
+      : (refusal : Refusal)
+      → Answers refusal-value'.signature tt (refusal-value'.Reads.Pre tt) (refusal-value'.Reads.Post tt) (refusal, tt) (value refusal)

@@ -15,7 +15,7 @@ use Rattle.gateway.proofs.refusal_parts.Tie as tie
 
 -- What is neither a packet's refusal nor a list's returns nothing.
 abbrev rest : List ℕ
-rest = 1 ∷ 3 ∷ 4 ∷ 5 ∷ 6 ∷ 7 ∷ 8 ∷ 9 ∷ 10 ∷ 11 ∷ 12 ∷ 13 ∷ []
+rest = 1 ∷ 3 ∷ 4 ∷ 5 ∷ 6 ∷ 7 ∷ 8 ∷ 9 ∷ 10 ∷ 11 ∷ 12 ∷ 13 ∷ 14 ∷ 15 ∷ []
 
 others : (r : Refusal) → OneOf rest (Declared.tagOf kinds.the-type r) → refusalParts r ≡ refused (number r) 0
 unfolding refusalParts
@@ -33,6 +33,8 @@ others refusal.CaptureEndsEarly one = refl
 others refusal.RowTooShort one = refl
 others refusal.RowDiffers one = refl
 others refusal.NoSuchRecord one = refl
+others refusal.TooManySignatures one = refl
+others refusal.TooManyEntries one = refl
 
 returns : tie.Need-returns
 unfolding refusalParts

@@ -1,4 +1,4 @@
-use Rattle.rawlines.proofs.Laws.{put-within}
+use Rattle.text.proofs.Writing.{put-within}
 use borrow.Author.Needs.{needs}
 use Rattle.rawlines.proofs.write_numbered.Statement.{statement}
 use Rattle.rawlines.proofs.write_numbered.Tie as tie

@@ -1,0 +1,4 @@
+pub mod GateText
+pub mod Gating
+pub mod PacketRead
+pub mod RecordLine

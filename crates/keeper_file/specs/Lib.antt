@@ -1,0 +1,10 @@
+pub mod CompileAnswers
+pub mod Compiling
+pub mod FileAnswers
+pub mod FileText
+pub mod FileValues
+pub mod KeptLine
+pub mod KeptReader
+pub mod Lines
+pub mod ListText
+pub mod SameList
