@@ -1,5 +1,5 @@
 -- The struct beside a compiled list: `length` is the list's, and nothing is written beside a refusal.
-use mathlib.Core.Path.{_≡_, refl, sym, _∙_}
+use mathlib.Core.Path.{_≡_, refl}
 use mathlib.Core.List.{List}
 use Prim.Native.Nat.{ℕ, _<_, _≤_}
 use native.Mathlib.Nat.{mod-eq-of-lt}
@@ -10,7 +10,7 @@ use Rattle.refusals.specs.declared.Refusal.{Refusal}
 use Rattle.refusals.specs.declared.Refusal.the-variants as refusal
 use Rattle.refusals.specs.Refusals.{number}
 use Rattle.keeper_file.specs.declared.Compiled.{Compiled}
-use Rattle.keeper_file.specs.CompileAnswers.{CompileAnswer, ListSays}
+use Rattle.keeper_file.specs.CompileAnswers.{CompileAnswer}
 use Rattle.keeper_file.specs.Compiling.{refusingLine, compileFile}
 use Rattle.keeper_file.proofs.CompileAnswers.{compile-answer}
 use Rattle.gateway.specs.declared.TermreadCompiled.{TermreadCompiled}
