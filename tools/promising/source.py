@@ -6,7 +6,7 @@ import re
 ROOT = os.path.dirname(os.path.dirname(os.path.dirname(os.path.abspath(__file__))))
 # No part of the product: their functions have no line of demand 1.
 BESIDE = {"witness", "counted"}
-# They call the system, whose answers no equation can promise.
+# They call the system, whose answers no equation can promise: their functions have neither uniqueness nor a line of demand 1.
 SYSTEM = {"streams"}
 NUMBERS = {"u8", "u16", "u32", "u64", "usize"}
 HEAD = re.compile(r'^( *)(?:#\[no_mangle\]\s*)?pub\s+(?:extern\s+"C"\s+)?fn\s+(\w+)\s*', re.M)
@@ -63,8 +63,8 @@ def read(*path):
 
 
 def crates():
-    """The crates of crates.txt that promise something, in its order."""
-    return [name for name in re.findall(r"^(\w+):", read("crates.txt"), re.M) if name not in SYSTEM]
+    """The crates of crates.txt, in its order."""
+    return re.findall(r"^(\w+):", read("crates.txt"), re.M)
 
 
 def files(crate):

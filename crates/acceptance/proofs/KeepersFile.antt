@@ -1,7 +1,7 @@
 -- The keeper's file: each theorem in its place.
 use mathlib.Core.Path.{refl}
 use Rattle.keeper_file.proofs.Accepted.{kept-accepted, kept-refused, kept-nothing-beside, kept-one-meaning}
-use Rattle.keeper_file.proofs.CompileAnswers.{compile-answer}
+use Rattle.keeper_file.proofs.CompileAnswers.{compile-answer, nothing-written}
 use Rattle.keeper_file.proofs.CompiledAgain.{compiled-again}
 use Rattle.keeper_file.proofs.FileAnswers.{file-answer}
 use Rattle.keeper_file.proofs.FileValues.{file-values}
@@ -18,6 +18,7 @@ keepers-file =
       refusal-gives = kept-nothing-beside;
       one-meaning = kept-one-meaning;
       compiled = compile-answer;
+      nothing-written = nothing-written;
       thirteen = λ k at. refl;
       fifteen = λ k. refl;
       twenty-four = λ k. refl;

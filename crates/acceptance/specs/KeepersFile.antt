@@ -4,10 +4,11 @@
 -- statement.
 use mathlib.Core.Path.{_≡_}
 use mathlib.Core.Logic.{_↔_}
-use mathlib.Core.List.{List, _++_}
+use mathlib.Core.List.{List, [], _++_}
 use Prim.Native.Nat.{ℕ, _+_, _*_, _<_, _≤_}
 use lib.ListN.{length}
 use Rattle.basis.specs.Bytes.{AllBytes}
+use Rattle.refusals.specs.declared.Refusal.{Refusal}
 use Rattle.refusals.specs.declared.Refusal.the-variants as refusal
 use Rattle.refusals.specs.Refusals.{numberOf}
 use Rattle.text.specs.Decimal.{newline}
@@ -37,6 +38,10 @@ pub record KeepersFile : Type 0 where
   -- What compiling a file answers and writes, and when, on every file and every buffer: among it that the list is well formed, has one
   -- record for each signature line, in order, and that each record means what its line says, with its label and kind.
   pub compiled : (file : List ℕ) (room : ℕ) → CompileAnswer file room (compileFile file room)
+  -- Beside a refusal nothing is written.
+  pub nothing-written
+      : (file : List ℕ) (room k : ℕ) (r : Refusal) → compileFile file room .answer ≡ answered.Refused k r
+      → compileFile file room .line ≡ []
   -- The refusals by their numbers.
   pub thirteen : (k at : ℕ) → numberOf (compiledVerdict (answered.Refused k (refusal.BadLine at))) ≡ 13
   pub fifteen : (k : ℕ) → numberOf (compiledVerdict (answered.Refused k refusal.BufferTooShort)) ≡ 15

@@ -1,10 +1,9 @@
--- A record of a list that passed its check; a packet that a bundle has; a record's line.
+-- A record of a list that passed its check; a record's line.
 use Prim.Native.Nat.{ℕ, _+_, _*_, _<_, _≤_}
 use mathlib.Core.Path.{_≡_, refl, _∙_, ap, subst}
 use mathlib.Core.Bool.{Bool, true, false, cond, _&&_}
 use mathlib.Core.List.{List}
 use native.Mathlib.Omega.{arith}
-use lib.ListN.{length}
 use lib.Dec.{leb}
 use borrow.Author.Tests.{leb-true}
 use Rattle.basis.specs.Bytes.{part}
@@ -12,8 +11,6 @@ use Rattle.basis.proofs.Tests.{and-left, and-right, and-true}
 use Rattle.text.specs.Decimal.{newline}
 use Rattle.text.specs.Written.{Put}
 use Rattle.text.proofs.Writing.{both}
-use Rattle.flow.specs.Modes.{plainMode}
-use Rattle.packet_answer.specs.declared.PacketAnswer.{PacketAnswer}
 use Rattle.sigrecord.specs.Layout.{entriesGood}
 use Rattle.sigrecord.specs.Record.{firstEntry, entryCount, signatureOf}
 use Rattle.sigrecord.specs.WellFormed.{scalarsGood}
@@ -26,12 +23,8 @@ use Rattle.siglist.proofs.FirstBad.{each-good}
 use Rattle.matching.specs.declared.Features.{Features}
 use Rattle.bundle.specs.declared.BundleCheck.{BundleCheck}
 use Rattle.bundle.specs.declared.BundleCheck.the-variants as check
-use Rattle.bundle.specs.declared.PacketAt.the-variants as there
-use Rattle.bundle.specs.Bundle.{listLies, packetFits, listOf, bundleFits, ofList, checkBundle}
-use Rattle.bundle.specs.Answers.{packetLies, packetAt}
-use Rattle.bundle.proofs.Packets.{packet-there, end-within, head-before-end}
+use Rattle.bundle.specs.Bundle.{listOf, bundleFits, ofList, checkBundle}
 use Rattle.file_writer.specs.Shown.{listedText}
-use Rattle.explain.specs.PacketRead.{PacketWithin}
 use Rattle.explain.specs.declared.gates.Gates.{Gates}
 use Rattle.explain.specs.Gating.{gatesOf, gatesAt, rowOf}
 use Rattle.explain.specs.GateText.{gatesText}
@@ -104,16 +97,6 @@ good-list b e = by-fit (bundleFits b) e
         → checkList (listOf b) ≡ list.Good
     by-fit true e = of-list (checkList (listOf b)) e
     by-fit false e = let z : _≡_ {A = ℕ} 0 1 = cc in absurd (omega arith)
-
--- ---- a packet's line
-
-pub packet-within
-    : (b : List ℕ) (at : ℕ) (a : PacketAnswer) (end : ℕ) → packetAt b at ≡ there.Packet a end → PacketWithin at end (length b)
-unfolding packetLies
-packet-within b at a end e =
-    let found = packet-there plainMode b at a end e in
-    let fits = and-right (listLies b) (packetFits b at) (found .lies) in
-    rw (found .ends) (record { head = head-before-end b at; within = end-within b at fits })
 
 -- ---- a record's line
 

@@ -1,4 +1,3 @@
 pub mod GateText
 pub mod Gating
-pub mod PacketRead
 pub mod RecordLine

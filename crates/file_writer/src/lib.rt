@@ -24,7 +24,7 @@ use written_line::Wrote;
 const RECORD_LINE: usize = 434;
 
 // The longest line of a file: a label of five digits, a blank, `g `, a record's line, and the line's end.
-const FILE_LINE: usize = 443;
+pub const FILE_LINE: usize = 443;
 
 // ---- a line
 

@@ -2,13 +2,16 @@
 use Prim.Native.Nat.{ℕ, _≤_}
 use mathlib.Core.Path.{_≡_, refl}
 use mathlib.Core.Bool.{Bool, true, false, cond}
-use mathlib.Core.List.{List, _∷_, _++_}
+use mathlib.Core.List.{List, [], _∷_, _++_}
 use native.Mathlib.Omega.{arith}
 use lib.Dec.{ltb}
 use lib.ListN.{length}
 use borrow.Author.Tests.{ltb-true, ltb-false}
+use Rattle.text.specs.Written.{Lined}
+use Rattle.refusals.specs.declared.Refusal.{Refusal}
 use Rattle.refusals.specs.declared.Refusal.the-variants as refusal
 use Rattle.signature_line.specs.Meaning.{LineMeaning}
+use Rattle.keeper_file.specs.declared.Compiled.{Compiled}
 use Rattle.keeper_file.specs.declared.Compiled.the-variants as compiled
 use Rattle.keeper_file.specs.declared.LineCheck.{LineCheck}
 use Rattle.keeper_file.specs.declared.Tally.{Tally}
@@ -20,6 +23,7 @@ use Rattle.keeper_file.specs.ListText.{entryTotal, listText}
 use Rattle.keeper_file.proofs.KeptWellFormed.{kept-good}
 use Rattle.keeper_file.proofs.LinesRead.{lineMeaning, EachRead, each-means, meanings-length, each-before}
 use Rattle.keeper_file.proofs.LinesRead.{LinesChecked, lines-checked, Tallied, lines-tallied}
+use Rattle.keeper_file.proofs.ListBytes.{list-bytes}
 use Rattle.keeper_file.proofs.ListParts.{AllKept}
 use Rattle.keeper_file.proofs.ListGood.{list-size, list-good, list-records}
 
@@ -55,6 +59,7 @@ module _ (file : List ℕ) (room : ℕ) where
     list-says : length ms ≤ mostSignatures → entryTotal ms ≤ mostEntries → ListSays file (listText ms)
     list-says few small =
         record {
+          bytes = list-bytes (each-means lines all) few small;
           good = list-good ms kept;
           meanings = ms;
           each = each-means lines all;
@@ -95,3 +100,15 @@ module _ (file : List ℕ) (room : ℕ) where
   pub compile-answer : CompileAnswer file room (compileFile file room)
   unfolding compileFile
   compile-answer = by-check (firstBad lines) (lines-checked lines)
+
+  -- Beside a refusal there is no list.
+  pub nothing-written : (k : ℕ) (r : Refusal) → compileFile file room .answer ≡ compiled.Refused k r → compileFile file room .line ≡ []
+  unfolding refusingLine
+  nothing-written k r = by (compileFile file room) compile-answer
+    where
+      by : (x : Lined Compiled) → CompileAnswer file room x → x .answer ≡ compiled.Refused k r → x .line ≡ []
+      by x (CompileAnswer.bad-line line at earlier refused) e = refl
+      by x (CompileAnswer.too-many-signatures all line earlier full few) e = refl
+      by x (CompileAnswer.too-many-entries all line earlier m means few small large) e = refl
+      by x (CompileAnswer.no-room all few small short) e = refl
+      by x (CompileAnswer.compiled-list list' says enough) e = let z : _≡_ {A = ℕ} 0 1 = cc in absurd (omega arith)

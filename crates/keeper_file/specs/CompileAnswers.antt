@@ -4,7 +4,7 @@ use Prim.Native.Nat.{ℕ, _+_, _*_, _<_, _≤_}
 use mathlib.Core.Path.{_≡_}
 use mathlib.Core.List.{List, [], _∷_, _++_}
 use lib.ListN.{length}
-use Rattle.basis.specs.Bytes.{byteAt}
+use Rattle.basis.specs.Bytes.{byteAt, AllBytes}
 use Rattle.text.specs.Written.{Lined}
 use Rattle.refusals.specs.declared.Refusal.the-variants as refusal
 use Rattle.sigrecord.specs.Record.{signatureOf}
@@ -52,6 +52,7 @@ listSize ms = 8 + 2 * entryTotal ms + 24 * length ms
 
 -- "the list is well formed; it has one record for each signature line, in order; record i means what line i says, with its label and kind"
 pub record ListSays (file list' : List ℕ) : Type 0 where
+  pub bytes : AllBytes list'
   pub good : checkList list' ≡ list.Good
   pub meanings : List LineMeaning
   pub each : EachMeans (signatureLines file) meanings

@@ -12,6 +12,8 @@ use streams::Ending;
 use streams::ends_as;
 use streams::say;
 use streams::say_number;
+use streams::tell_cut;
+use streams::tell_unread;
 
 // The most bytes of a file, and of a list: so much is a list in a bundle, and what `showlist` reads.
 const MOST: usize = 65535;
@@ -180,16 +182,13 @@ fn say_refused(file: &[u8], line: usize, refusal: Refusal) {
 
 // ---- the program
 
-fn tell(whole: bool) {
-    if !whole {
-        say(b"mklist: standard output could not be written, and ends early\n");
-    }
-}
-
 fn compile(file: &[u8]) {
     let mut list = [0u8; MOST];
     match compile_list(&mut list, file) {
-        Compiled::List(size) => tell(io::write_all(STDOUT_FILENO, &list[0..size])),
+        Compiled::List(size) => {
+            let whole = io::write_all(STDOUT_FILENO, &list[0..size]);
+            tell_cut(b"mklist", whole);
+        }
         Compiled::Refused(line, refusal) => say_refused(file, line, refusal),
     }
 }
@@ -200,6 +199,6 @@ fn main() {
     match ends_as(count == MOST) {
         Ending::Whole => compile(&file[0..count]),
         Ending::Longer => say(b"mklist: the file is longer than 65535 bytes\n"),
-        Ending::Failed => say(b"mklist: standard input could not be read\n"),
+        Ending::Failed => tell_unread(b"mklist"),
     }
 }

@@ -1,5 +1,6 @@
 // showlist: a signature list on standard input, on standard output the keeper's file that says it, a line a record (docs/FORMATS.md). A
 // list that is refused is told on standard error, and nothing is written. What a record's line is is the library's.
+use file_writer::FILE_LINE;
 use file_writer::put_shown;
 use libc::STDIN_FILENO;
 use libc::STDOUT_FILENO;
@@ -12,16 +13,15 @@ use streams::Ending;
 use streams::ends_as;
 use streams::say;
 use streams::say_number;
+use streams::tell_cut;
+use streams::tell_unread;
 
 // The most bytes of a list that is read.
 const MOST: usize = 65535;
 
-// The longest line: a label of five digits, a blank, `g `, a signature of 434 bytes, the line's end.
-const LINE: usize = 443;
-
 // The lines of so many records; whether all were taken.
 fn write_records(list: &[u8], count: usize) -> bool {
-    let mut line = [0u8; LINE];
+    let mut line = [0u8; FILE_LINE];
     let mut i = 0;
     while i < count {
         let filled = put_shown(&mut line, 0, list, i);
@@ -40,12 +40,6 @@ fn write_good(list: &[u8]) -> bool {
     write_records(list, areas.records as usize)
 }
 
-fn tell(whole: bool) {
-    if !whole {
-        say(b"showlist: standard output could not be written, and ends early\n");
-    }
-}
-
 // Records are counted from 0, as everywhere.
 fn say_refused(refusal: ListRefusal) {
     match refusal {
@@ -62,7 +56,7 @@ fn say_refused(refusal: ListRefusal) {
 
 fn show(list: &[u8]) {
     match check_list(list) {
-        ListAnswer::Good => tell(write_good(list)),
+        ListAnswer::Good => tell_cut(b"showlist", write_good(list)),
         ListAnswer::Refused(refusal) => say_refused(refusal),
     }
 }
@@ -73,6 +67,6 @@ fn main() {
     match ends_as(count == MOST) {
         Ending::Whole => show(&list[0..count]),
         Ending::Longer => say(b"showlist: the list is longer than 65535 bytes\n"),
-        Ending::Failed => say(b"showlist: standard input could not be read\n"),
+        Ending::Failed => tell_unread(b"showlist"),
     }
 }

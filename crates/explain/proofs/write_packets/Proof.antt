@@ -1,6 +1,4 @@
-use mathlib.Core.Path.{sym, _∙_}
 use Rattle.explain.specs.RecordLine.{CheckedList}
-use Rattle.explain.proofs.Laws.{packet-within}
 use borrow.Author.Needs.{needs}
 use Rattle.explain.proofs.write_packets.Statement.{statement}
 use Rattle.explain.proofs.write_packets.Tie as tie
@@ -14,9 +12,6 @@ abbrev μ-loop : tie.MeasureT-loop
 loop-holds : tie.Need-loop-holds Inv-loop μ-loop
 loop-holds c = c .before .before .pre
 
-reading-at-requires : tie.Need-reading-at-requires Inv-loop μ-loop
-reading-at-requires c κs = packet-within _ _ _ _ (sym (c .before .before .before .packet-at .ensures) ∙ c .before .answer .given .1)
-
 write-packet-requires : tie.Need-write-packet-requires Inv-loop μ-loop
 write-packet-requires c κs = c .before .before .before .before .before .before .loop .inv
 
@@ -27,4 +22,4 @@ pub write-packets-spec : {M : Type 1} → statement M
 write-packets-spec =
     tie.close
     (tie.spec Inv-loop μ-loop loop-holds (λ c κs. search needs) (λ c. search needs) (λ c. search needs) (λ c. search needs)
-    reading-at-requires write-packet-requires (λ c. search needs) (λ c. search needs) (λ c. search needs) loop-again (λ c. search needs))
+    (λ c κs. search needs) write-packet-requires (λ c. search needs) (λ c. search needs) (λ c. search needs) loop-again (λ c. search needs))

@@ -1,7 +1,6 @@
-use mathlib.Core.Path.{_≡_, sym, _∙_}
+use mathlib.Core.Path.{_≡_}
 use lib.ListN.{length}
 use Rattle.text.proofs.Writing.{put-within}
-use Rattle.rawlines.proofs.Laws.{packet-within}
 use borrow.Author.Needs.{needs}
 use Rattle.rawlines.proofs.write_packets.Statement.{statement}
 use Rattle.rawlines.proofs.write_packets.Tie as tie
@@ -12,10 +11,6 @@ Inv-loop bundle offset count line₀ at₀ left₀ line at left = length line �
 abbrev μ-loop : tie.MeasureT-loop
 μ-loop bundle offset count line₀ at₀ left₀ line at left = left
 
-reading-at-requires : tie.Need-reading-at-requires Inv-loop μ-loop
-reading-at-requires c κs =
-    packet-within _ _ _ _ (sym (c .before .before .before .packet-at .ensures) ∙ c .before .answer .given .1)
-
 part-write-all-end : tie.Need-part-write-all-end Inv-loop μ-loop
 part-write-all-end c =
     let within = put-within _ _ _ 0 _ (search needs) (c .before .before .put-packet .ensures) in
@@ -25,6 +20,6 @@ pub write-packets-spec : {M : Type 1} → statement M
 write-packets-spec =
     tie.close
     (tie.spec Inv-loop μ-loop (λ c. search needs) (λ c κs. search needs) (λ c. search needs) (λ c. search needs)
-    (λ c. search needs) reading-at-requires (λ c. search needs) (λ c κs. search needs) (λ c. search needs)
+    (λ c. search needs) (λ c κs. search needs) (λ c. search needs) (λ c κs. search needs) (λ c. search needs)
     (λ c. search needs) part-write-all-end (λ c κs. search needs) (λ c. search needs) (λ c. search needs)
     (λ c. search needs) (λ c. search needs) (λ c. search needs))
