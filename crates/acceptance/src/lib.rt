@@ -1,1 +1,3 @@
 // No code: what the product is accepted by.
+
+#![tactic(auto)]

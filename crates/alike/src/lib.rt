@@ -1,1 +1,3 @@
 // No code: which packets demand 3 calls alike, and that alike packets are read alike.
+
+#![tactic(auto)]

@@ -20,5 +20,5 @@ part lent d =
     record {
       the = d;
       meets = λ r e. e;
-      only = λ v meets. meets (record { ref_ptr = lent.ref_ptr; ghost_name = lent.name; now = v }) refl;
+      only = λ v meets. meets (record { ref_ptr = lent.ref_ptr; now = v }) refl;
     }

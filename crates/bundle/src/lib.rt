@@ -1,4 +1,5 @@
 // The bundle (document 01, "The bundle program"): added by the port. A bundle is checked first, then each packet has its answer.
+#![tactic(auto)]
 ghost use Rattle.std.specs.Prelude.{◌≡◌, ◌+◌, ◌≤◌, length};
 ghost use Rattle.basis.specs.Bytes.{be16};
 ghost use Rattle.bundle.specs.Bundle.{ListWithin, list_of, packet_end, packet_fits, packets_fit, list_lies};
@@ -12,7 +13,7 @@ use refusals::ListRefusal;
 use siglist::{ListAnswer, check_list};
 
 // A bundle is well formed, or it or its list is refused.
-#[derive(Drop)]
+#[derive(Clone, Copy)]
 pub enum BundleCheck {
     Good,
     DoesNotFit,
@@ -20,7 +21,7 @@ pub enum BundleCheck {
 }
 
 // What is at a place of a bundle: no packet, or the answer of the one that starts there, and where it ends.
-#[derive(Drop)]
+#[derive(Clone, Copy)]
 pub enum PacketAt {
     NoPacket,
     Packet(PacketAnswer, usize),

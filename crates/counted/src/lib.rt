@@ -1,4 +1,5 @@
 // What tools/benchmark counts, in an archive of its own; not part of the product.
+#![tactic(auto)]
 ghost use Rattle.std.specs.Prelude.{◌≡◌};
 ghost use Rattle.flow.specs.Modes.{mode_of};
 ghost use Rattle.counted.specs.Counted.{counted_reading, counted_reading_in, counted_kind, searched_code, counted_answer};

@@ -1,4 +1,5 @@
 // distances.rs: how far an observation is from a signature, by version, TTL, window and payload.
+#![tactic(auto)]
 ghost use Rattle.std.specs.Prelude.{◌≡◌};
 ghost use Rattle.sigrecord.specs.Record.{version_of, payload_of};
 ghost use Rattle.distances.specs.DistanceGates.{version_matches, multiple_matches, window_matches, payload_matches};
@@ -10,7 +11,7 @@ use ttl::{MAX_DIST, Ttl, guess_distance, observed_ttl};
 use window_size::Multiplier;
 
 // The hops against a signature's initial TTL: `Option<TtlFit>`.
-#[derive(Drop)]
+#[derive(Clone, Copy)]
 pub enum TtlFit {
     Rejected,
     InRange(u8),

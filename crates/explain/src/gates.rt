@@ -15,7 +15,7 @@ use siglist::{Areas, record_at};
 use sigrecord::{PAYLOAD, VERSION, entry_count, first_entry, signature_of};
 
 // What each field's gate answers.
-#[derive(Drop)]
+#[derive(Clone, Copy)]
 pub struct Gates {
     pub version: bool,
     pub ttl: TtlFit,

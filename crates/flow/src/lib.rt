@@ -1,4 +1,5 @@
 // flow.rs: from a lent packet to an observation. The IP stage hands on facts and the TCP part; the TCP stage sees nothing else.
+#![tactic(auto)]
 ghost use Rattle.std.specs.Prelude.{◌≡◌, not, cond, ◌&&◌, ◌||◌, ◌+◌, ◌*◌, ◌≤◌, min, max, ltb, length};
 ghost use Rattle.basis.specs.Bytes as bytes;
 ghost use Rattle.rfc.specs.Rfc9293.{data_offset};
@@ -18,7 +19,7 @@ use syn_options::{OptionWalk, StopBefore, walk_options};
 use tcp::{Mss, PayloadSize};
 use tcp_header::{is_valid, number_quirks, tcp_type, urgent_quirks};
 
-#[derive(Drop)]
+#[derive(Clone, Copy)]
 pub enum Answer {
     Syn,
     SynAck,
@@ -28,14 +29,14 @@ pub enum Answer {
 }
 
 // The answer, and the observation of a SYN or SYN+ACK; beside any other answer the empty observation.
-#[derive(Drop)]
+#[derive(Clone, Copy)]
 pub struct Reading {
     pub answer: Answer,
     pub observation: TcpObservation,
 }
 
 // How a packet is read. The IP stage is document 01's in every mode.
-#[derive(Drop)]
+#[derive(Clone, Copy)]
 pub struct Mode {
     // The TCP stage: a header that contradicts itself is set aside (refusal 14) instead of being read on.
     pub strict: bool,

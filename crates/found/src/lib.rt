@@ -1,11 +1,12 @@
 // What a search finds, its rank, and how long it was (document 01, "The signature list"; document 02, Wishes 3 and 6): added by the port.
+#![tactic(auto)]
 ghost use Rattle.std.specs.Prelude.{◌≡◌};
 ghost use Rattle.found.specs.Rank.{found_of, exact_rank, rank_of, is_none};
 
 use matching::{FuzzyReason, SignatureFit};
 
 // The record that a search found: its label, its number in the list, from 0, and whether it is generic.
-#[derive(Drop)]
+#[derive(Clone, Copy)]
 pub struct Hit {
     pub label: u16,
     pub number: u16,
@@ -13,7 +14,7 @@ pub struct Hit {
 }
 
 // What a search finds: three answers, with the record.
-#[derive(Drop)]
+#[derive(Clone, Copy)]
 pub enum Found {
     None,
     Exact(Hit),
@@ -21,7 +22,7 @@ pub enum Found {
 }
 
 // What a search answers: what it finds, and how many records it examined.
-#[derive(Drop)]
+#[derive(Clone, Copy)]
 pub struct Searched {
     pub found: Found,
     pub examined: u16,

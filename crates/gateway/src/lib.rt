@@ -1,4 +1,5 @@
 // What a gateway in C or Rust links: each answer as a struct of sixteen bytes, and lines and lists in a buffer that it lends.
+#![tactic(auto)]
 ghost use Rattle.std.specs.Prelude.{◌≡◌};
 ghost use Rattle.refusals.specs.Refusals.{packet_number, packet_value};
 ghost use Rattle.siglist.specs.List.{check_list};
@@ -28,7 +29,7 @@ mod compiled;
 // An answer for C: sixteen bytes, returned in two registers (specs/Parts.antt; include/termread.h has the same struct). What a later
 // request fills is 0 until then.
 #[repr(C)]
-#[derive(Drop)]
+#[derive(Clone, Copy)]
 pub struct TermreadResult {
     pub outcome: u8,
     pub kind: u8,
@@ -46,7 +47,7 @@ pub struct TermreadResult {
 
 // What compiling a list answers, sixteen bytes too.
 #[repr(C)]
-#[derive(Drop)]
+#[derive(Clone, Copy)]
 pub struct TermreadCompiled {
     pub length: u32,
     pub line: u32,

@@ -1,4 +1,5 @@
 // The IP stage of flow.rs: from a lent packet to the facts of its IP header and the place of its TCP part, or a refusal.
+#![tactic(auto)]
 ghost use Rattle.std.specs.Prelude.{◌≡◌, ◌||◌, ◌+◌, ◌*◌, ◌/◌, ◌%◌, ◌≤◌, eqb, ltb, length};
 ghost use Rattle.ip.specs.Ip.{ipv4_quirks, ipv4_facts, read_ipv4, ipv6_quirks, ipv6_facts, read_ipv6, read_ip};
 
@@ -10,7 +11,7 @@ use tcp::IpVersion;
 use ttl::{Ttl, calculate_ttl};
 
 // What the IP header says, and where the TCP part lies.
-#[derive(Drop)]
+#[derive(Clone, Copy)]
 pub struct IpFacts {
     pub version: IpVersion,
     pub ittl: Ttl,
@@ -22,7 +23,7 @@ pub struct IpFacts {
     pub end: usize,
 }
 
-#[derive(Drop)]
+#[derive(Clone, Copy)]
 pub enum IpRead {
     Refused(PacketRefusal),
     Facts(IpFacts),

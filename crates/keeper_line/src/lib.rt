@@ -1,4 +1,5 @@
 // A line of a keeper's file: where it lies in the file, and the record with its layout that it means.
+#![tactic(auto)]
 ghost use Rattle.std.specs.Prelude.{◌≡◌, ◌<◌};
 ghost use Rattle.keeper_file.specs.KeptLine.{kind_and_label};
 ghost use Rattle.keeper_file.specs.KeptReader.{read_kept};
@@ -11,7 +12,7 @@ use parse_tcp::{parse_tcp_signature, refused_at};
 use signature_line::{LineAnswer, SignatureRead};
 
 // A line of a file: where the next one starts, whether it is passed over, and what was read of it if not.
-#[derive(Drop)]
+#[derive(Clone, Copy)]
 pub struct KeptAt {
     pub next: usize,
     pub passed: bool,

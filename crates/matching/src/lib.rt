@@ -1,4 +1,5 @@
 // matching.rs: how an observation fits a signature. Its gates of version, window and payload are in `distances`.
+#![tactic(auto)]
 ghost use Rattle.std.specs.Prelude.{◌≡◌};
 ghost use Rattle.sigrecord.specs.Record.{signature_of};
 ghost use Rattle.matching.specs.Gates.{olen_matches, mss_matches, scale_matches, good_layout_fits};
@@ -22,7 +23,7 @@ use window_size::Multiplier;
 mod gates;
 
 // What a fit looks at in an observation, the entries of the layout apart.
-#[derive(Drop)]
+#[derive(Clone, Copy)]
 pub struct Features {
     pub version: IpVersion,
     pub ttl: u8,
@@ -37,7 +38,7 @@ pub struct Features {
 }
 
 // The quirks that had to be tolerated: the original's `QuirksFit`.
-#[derive(Drop)]
+#[derive(Clone, Copy)]
 pub struct Tolerated {
     // Shown by the traffic, not declared by the signature.
     pub added: QuirkSet,
@@ -46,20 +47,20 @@ pub struct Tolerated {
 }
 
 // `Option<QuirksFit>`.
-#[derive(Drop)]
+#[derive(Clone, Copy)]
 pub enum QuirksFit {
     Rejected,
     Tolerated(Tolerated),
 }
 
 // The hop distance of a fuzzy reason: `Option<u32>`.
-#[derive(Drop)]
+#[derive(Clone, Copy)]
 pub enum Hops {
     InRange,
     OutOfRange(u8),
 }
 
-#[derive(Drop)]
+#[derive(Clone, Copy)]
 pub struct FuzzyReason {
     pub hops: Hops,
     pub added: QuirkSet,
@@ -67,7 +68,7 @@ pub struct FuzzyReason {
 }
 
 // Three answers.
-#[derive(Drop)]
+#[derive(Clone, Copy)]
 pub enum SignatureFit {
     None,
     Exact,

@@ -1,4 +1,5 @@
 // The numbers of a signature line (parse/tcp.rs), in decimal, held against their bound digit by digit.
+#![tactic(auto)]
 ghost use Rattle.std.specs.Prelude.{◌≡◌, ◌≤◌};
 ghost use Rattle.grammar.specs.States.{fits};
 ghost use Rattle.signature_line.specs.Words.{unnamed};
@@ -7,7 +8,7 @@ ghost use Rattle.grammar.specs.Numeral.{any};
 
 // What a field of a line, or a part of one, says: where it ends, whether it means something, its code in a record, and the number that
 // stands with it. What means nothing ends where no line goes on.
-#[derive(Drop)]
+#[derive(Clone, Copy)]
 pub struct Piece {
     pub at: usize,
     pub good: bool,
@@ -28,7 +29,7 @@ pub fn no_piece(at: usize) -> Piece
 }
 
 // Where a number stopped, and the number.
-#[derive(Drop)]
+#[derive(Clone, Copy)]
 pub struct Taken {
     pub at: usize,
     pub value: u32,

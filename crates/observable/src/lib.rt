@@ -1,4 +1,5 @@
 // observable.rs: what is observed of a SYN or SYN+ACK.
+#![tactic(auto)]
 ghost use Rattle.std.specs.Prelude.{◌≡◌};
 ghost use Rattle.observable.specs.Observation.{holds_kind, own_timestamp_nonzero, window_multiplier, empty_observation};
 
@@ -8,7 +9,7 @@ use tcp::{IpVersion, Layout, Mss, PayloadSize, Wscale};
 use ttl::Ttl;
 use window_size::{Multiplier, detect_win_multi, stamp_may_decide};
 
-#[derive(Drop)]
+#[derive(Clone, Copy)]
 pub struct TcpObservation {
     pub version: IpVersion,
     // The TTL reading.

@@ -1,5 +1,6 @@
 // The fields of a signature line, one by one (parse/tcp.rs): each read from a place on, in one pass and with no way back. `nom` becomes an
 // index walk; a number is held against its field digit by digit, and refuses where it stands.
+#![tactic(auto)]
 ghost use Rattle.std.specs.Prelude.{◌≡◌};
 ghost use Rattle.signature_line.specs.Words.{version, bare_byte, mss, window, scale, entry, quirk_word, payload};
 ghost use Rattle.one_field.specs.Places.{whole_piece, starred, behind_at, piece_at, field_at, ttl_at};
@@ -15,14 +16,14 @@ mod quirk_names;
 mod words;
 
 // Where a line was read up to, and whether it goes on from there.
-#[derive(Drop)]
+#[derive(Clone, Copy)]
 pub struct LinePlace {
     pub at: usize,
     pub good: bool,
 }
 
 // A TTL: its number, and its form with the distance.
-#[derive(Drop)]
+#[derive(Clone, Copy)]
 pub struct TtlPiece {
     pub at: usize,
     pub good: bool,

@@ -1,4 +1,5 @@
 // One option of a TCP header: where it ends, and what it says of MSS, scale and quirks (syn_options.rs, flow.rs).
+#![tactic(auto)]
 ghost use Rattle.std.specs.Prelude.{◌≡◌, true, false};
 ghost use Rattle.basis.specs.Bytes.{any_nonzero};
 ghost use Rattle.one_option.specs.Options.{step_of};
@@ -20,7 +21,7 @@ const WSCALE: u8 = 3;
 const TIMESTAMPS: u8 = 8;
 
 // What the options have said so far, the layout apart.
-#[derive(Drop)]
+#[derive(Clone, Copy)]
 pub struct Seen {
     pub mss: Mss,
     pub wscale: Wscale,
@@ -28,7 +29,7 @@ pub struct Seen {
 }
 
 // One option of a string, in places of the string.
-#[derive(Drop)]
+#[derive(Clone, Copy)]
 pub struct OptionStep {
     pub kind: u8,
     // Where the next option begins: behind its last byte, at the string's end at most.

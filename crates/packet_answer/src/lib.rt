@@ -1,4 +1,5 @@
 // The answer of a packet: what its search answers, nothing, or a refusal. Added by the port.
+#![tactic(auto)]
 ghost use Rattle.std.specs.Prelude.{◌≡◌};
 ghost use Rattle.packet_answer.specs.Packet.{peer_of, answer_of, answer_in};
 
@@ -9,7 +10,7 @@ use search::search_checked;
 use tcp::Mss;
 
 // The answer of a packet: what its search answers, nothing, or a refusal 1 to 7 or 14.
-#[derive(Drop)]
+#[derive(Clone, Copy)]
 pub enum PacketAnswer {
     Syn(Searched),
     SynAck(Searched),

@@ -7,7 +7,7 @@ use one_field::{LinePlace, behind, parse_tcp_option};
 use tcp::Layout;
 
 // Where a layout ends, whether it means something, and its entries.
-#[derive(Drop)]
+#[derive(Clone, Copy)]
 pub struct LayoutPiece {
     pub at: usize,
     pub good: bool,

@@ -1,4 +1,5 @@
 // parse/tcp.rs: a signature line, as p0f writes it, read into a record of the signature list with its layout (document 02, Wish 1).
+#![tactic(auto)]
 ghost use Rattle.std.specs.Prelude.{◌≡◌};
 ghost use Rattle.signature_line.specs.Answer.{refused_at};
 ghost use Rattle.signature_line.specs.LineReader.{read_line};
@@ -22,7 +23,7 @@ mod raw;
 const LONGEST: usize = 512;
 
 // What the fields of a line say, and where the last of them ended.
-#[derive(Drop)]
+#[derive(Clone, Copy)]
 pub struct LineFields {
     pub at: usize,
     pub good: bool,

@@ -6,7 +6,7 @@ use numerals::Piece;
 use one_field::{LinePlace, behind, parse_quirk};
 
 // Where the quirks end, whether they mean something, and their bits.
-#[derive(Drop)]
+#[derive(Clone, Copy)]
 pub struct QuirksPiece {
     pub at: usize,
     pub good: bool,

@@ -1,4 +1,5 @@
 // quirks.rs: quirks of IP and TCP headers, and sets of them as the bits of p0f's QUIRK_*.
+#![tactic(auto)]
 ghost use Rattle.std.specs.Prelude.{◌≡◌, ℕ};
 ghost use Rattle.quirks.specs.Quirks.{bit_of, set_of, bits_of, is_empty, contains, with, add_if, difference};
 ghost use Rattle.quirks.specs.Named.{named_sets};
@@ -6,7 +7,7 @@ ghost use Rattle.quirks.specs.Named.{named_sets};
 pub mod bits;
 
 // A quirk, in the order of p0f's text form (the names are the original's, its spelling included).
-#[derive(Drop)]
+#[derive(Clone, Copy)]
 pub enum Quirk {
     Df,
     NonZeroID,
@@ -55,11 +56,11 @@ impl Quirk {
 }
 
 // A set of quirks.
-#[derive(Drop)]
+#[derive(Clone, Copy)]
 pub struct QuirkSet(pub u32);
 
 // The sets that have a name, each as the constant of QuirkSet below.
-#[derive(Drop)]
+#[derive(Clone, Copy)]
 pub struct NamedSets {
     pub empty: QuirkSet,
     pub fuzzy_deletable: QuirkSet,

@@ -1,10 +1,11 @@
 // The refusals of documents 01 and 02, and those of a keeper's file that have none there, by name: the number of each, and what each gives
 // beside it.
+#![tactic(auto)]
 ghost use Rattle.std.specs.Prelude.{◌≡◌};
 ghost use Rattle.refusals.specs.Refusals.{packet_number, list_number, number, packet_value, list_value, value};
 
 // Why a packet is refused.
-#[derive(Drop)]
+#[derive(Clone, Copy)]
 pub enum PacketRefusal {
     // Empty, or neither IPv4 nor IPv6.
     Version,
@@ -25,7 +26,7 @@ pub enum PacketRefusal {
 }
 
 // Why a signature list is refused, wherever one is met.
-#[derive(Drop)]
+#[derive(Clone, Copy)]
 pub enum ListRefusal {
     // Its header or its areas do not fit.
     DoesNotFit,
@@ -34,7 +35,7 @@ pub enum ListRefusal {
 }
 
 // Every refusal of both documents, also those that only a wish of document 02 will give; behind them what both leave to a keeper's file.
-#[derive(Drop)]
+#[derive(Clone, Copy)]
 pub enum Refusal {
     Packet(PacketRefusal),
     // An option string over 40 bytes.

@@ -1,5 +1,6 @@
 // The output of a bundle, page by page: as many lines as find room, then the program writes the page and asks for the next.
 // A page is an array of one size, so that no caller can lend one in which no line finds room.
+#![tactic(auto)]
 ghost use Rattle.std.specs.Prelude.{◌≤◌, length};
 ghost use Rattle.report.specs.Pages.{FilledAfter, Paged, page_size, refused_page, head_page};
 ghost use Rattle.report.specs.Pages.{first_page_in, page_after_in, first_page, page_after};
@@ -14,7 +15,7 @@ pub mod lines;
 
 // How far the output of a bundle is: the bytes of the page, and the packets that are left, by their number and the place of the
 // first.
-#[derive(Drop)]
+#[derive(Clone, Copy)]
 pub struct Progress {
     pub filled: usize,
     pub left: usize,

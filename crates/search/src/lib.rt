@@ -1,4 +1,5 @@
 // The search of a signature list (document 01, "The signature list"; document 02, Wishes 3 and 6): added by the port.
+#![tactic(auto)]
 ghost use Rattle.std.specs.Prelude.{◌≡◌};
 ghost use Rattle.search.specs.Search.{searched, search_list};
 
@@ -12,7 +13,7 @@ use siglist::{Header, ListAnswer, check_list, read_header};
 mod finding;
 
 // A search's answer: what it finds and how many records it examined, or why it or its list is refused.
-#[derive(Drop)]
+#[derive(Clone, Copy)]
 pub enum SearchAnswer {
     Searched(Searched),
     LayoutTooLong,

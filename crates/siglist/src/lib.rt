@@ -1,4 +1,5 @@
 // The signature list (document 01, "The signature list"): added by the port.
+#![tactic(auto)]
 ghost use Rattle.std.specs.Prelude.{◌≡◌, ◌+◌, ◌*◌, ◌≤◌, ◌<◌, length};
 ghost use Rattle.siglist.specs.Entries.{all_entries_good};
 ghost use Rattle.siglist.specs.List.{area_fits, list_fits, areas_of, header_of, AreasFit, record_of, entries_lie, layout_lies};
@@ -9,7 +10,7 @@ use refusals::ListRefusal;
 use sigrecord::{RECORD, entries_good, entry_count, first_entry, forms_well_formed, quirks_good};
 
 // A list is well formed, or refused.
-#[derive(Drop)]
+#[derive(Clone, Copy)]
 pub enum ListAnswer {
     Good,
     Refused(ListRefusal),
@@ -18,7 +19,7 @@ pub enum ListAnswer {
 const HEADER: usize = 8;
 
 // The numbers of a list's header.
-#[derive(Drop)]
+#[derive(Clone, Copy)]
 pub struct Areas {
     pub records: u16,
     pub records_offset: u16,
@@ -27,7 +28,7 @@ pub struct Areas {
 }
 
 // A list's header and its areas fit, or do not.
-#[derive(Drop)]
+#[derive(Clone, Copy)]
 pub enum Header {
     Fits(Areas),
     DoesNotFit,

@@ -1,5 +1,6 @@
 // A record of the signature list (document 01, "The signature list"; document 02, Wish 3): its bytes, what they mean, when it is well
 // formed, and the entries of its layout. Added by the port; the types are those of the original's signatures.
+#![tactic(auto)]
 ghost use Rattle.std.specs.Prelude.{◌≡◌, ◌/◌, length};
 ghost use Rattle.basis.specs.Bytes.{be32};
 ghost use Rattle.sigrecord.specs.Layout.{entry_good, entries_good};
@@ -57,7 +58,7 @@ pub const GENERIC: usize = 21;
 pub const LABEL: usize = 22;
 
 // The IP version that a signature declares.
-#[derive(Drop)]
+#[derive(Clone, Copy)]
 pub enum SigVersion {
     Any,
     V4,
@@ -65,7 +66,7 @@ pub enum SigVersion {
 }
 
 // The payload that a signature declares.
-#[derive(Drop)]
+#[derive(Clone, Copy)]
 pub enum SigPayload {
     Zero,
     NonZero,
@@ -73,7 +74,7 @@ pub enum SigPayload {
 }
 
 // The window that a signature declares.
-#[derive(Drop)]
+#[derive(Clone, Copy)]
 pub enum WindowSize {
     Any,
     Value(u16),
@@ -86,7 +87,7 @@ pub enum WindowSize {
 }
 
 // A signature, its layout apart, which stays where it lies in the list.
-#[derive(Drop)]
+#[derive(Clone, Copy)]
 pub struct Signature {
     pub version: SigVersion,
     pub ittl: Ttl,

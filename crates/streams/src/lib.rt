@@ -1,12 +1,13 @@
 // What the programs beside termread share: how their input ended, a message on standard error. What is answered is the system's, so
 // nothing here promises an equation (docs/ANSWERS.md, "Exceptions"). Streams that do not wait are not tried again: a call that would have
 // to wait has failed.
+#![tactic(auto)]
 ghost use Rattle.streams.specs.Ends.{LongerIfFull};
 
 use libc::{STDERR_FILENO, STDIN_FILENO};
 
 // How the input ends behind what was read.
-#[derive(Drop)]
+#[derive(Clone, Copy)]
 pub enum Ending {
     Whole,
     // The buffer is full, and the input goes on.

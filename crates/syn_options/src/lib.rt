@@ -1,5 +1,6 @@
 // syn_options.rs, and the option walk of flow.rs: one walk, which goes on behind damaged options or stops before them, and gives their
 // places.
+#![tactic(auto)]
 ghost use Rattle.std.specs.Prelude.{◌≡◌, ◌<◌, ◌≤◌, length};
 ghost use Rattle.quirks.specs.Named.{empty};
 ghost use Rattle.syn_options.specs.Stops.{walked_of, stops_at, first_known, walk_to, walk_options, read_options};
@@ -17,21 +18,21 @@ const EOL: u8 = 0;
 const MOST_OPTIONS: usize = 40;
 
 // The place of an option: the offset of its kind byte in the string, from 0.
-#[derive(Drop)]
+#[derive(Clone, Copy)]
 pub enum Place {
     None,
     At(usize),
 }
 
 // The places of damage: of the first option that runs past the end, and of the first whose length byte is 0 or 1.
-#[derive(Drop)]
+#[derive(Clone, Copy)]
 pub struct Places {
     pub past: Place,
     pub short: Place,
 }
 
 // Which options a walk stops before: the packet reader's before none, going on after clipping; the strict entry's before both.
-#[derive(Drop)]
+#[derive(Clone, Copy)]
 pub struct StopBefore {
     pub past: bool,
     pub short: bool,
@@ -46,7 +47,7 @@ impl StopBefore {
 }
 
 // What a walk gives: what it says of the options, and the places of damage that it came to.
-#[derive(Drop)]
+#[derive(Clone, Copy)]
 pub struct OptionWalk {
     pub olayout: Layout,
     pub seen: Seen,
@@ -56,7 +57,7 @@ pub struct OptionWalk {
 }
 
 // What parse_options_raw gives.
-#[derive(Drop)]
+#[derive(Clone, Copy)]
 pub struct ParsedTcpOptions {
     pub olayout: Layout,
     pub mss: Mss,
@@ -65,19 +66,19 @@ pub struct ParsedTcpOptions {
 }
 
 // An option string is parsed, or refused (number 8) with empty options, or an empty walk, beside.
-#[derive(Drop)]
+#[derive(Clone, Copy)]
 pub enum OptionsAnswer {
     Parsed,
     Refused,
 }
 
-#[derive(Drop)]
+#[derive(Clone, Copy)]
 pub struct WalkRead {
     pub answer: OptionsAnswer,
     pub walk: OptionWalk,
 }
 
-#[derive(Drop)]
+#[derive(Clone, Copy)]
 pub struct OptionsRead {
     pub answer: OptionsAnswer,
     pub options: ParsedTcpOptions,

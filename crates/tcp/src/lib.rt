@@ -2,28 +2,29 @@
 // empty or not; the wildcards of a signature are types of their own (the crate `distances`).
 
 // The IP version of an observed packet.
-#[derive(Drop)]
+#![tactic(auto)]
+#[derive(Clone, Copy)]
 pub enum IpVersion {
     V4,
     V6,
 }
 
 // A maximum segment size, present or absent: `Option<u16>`.
-#[derive(Drop)]
+#[derive(Clone, Copy)]
 pub enum Mss {
     Absent,
     Present(u16),
 }
 
 // A window scale, present or absent: `Option<u8>`.
-#[derive(Drop)]
+#[derive(Clone, Copy)]
 pub enum Wscale {
     Absent,
     Present(u8),
 }
 
 // Whether an observed segment carries data.
-#[derive(Drop)]
+#[derive(Clone, Copy)]
 pub enum PayloadSize {
     Zero,
     NonZero,
@@ -31,7 +32,7 @@ pub enum PayloadSize {
 
 // The options of a segment in their order: `Vec<TcpOption>`. An entry is an option's kind and, for kind 0, the bytes left after
 // it, else 0; entries from `count` on are 0.
-#[derive(Drop)]
+#[derive(Clone, Copy)]
 pub struct Layout {
     pub kinds: [u8; 40],
     pub bytes: [u8; 40],

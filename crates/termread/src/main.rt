@@ -1,5 +1,6 @@
 // termread: a bundle on standard input, its answers on standard output (document 01, "The bundle program"). What is read and what is
 // written is the library's: this program only moves bytes.
+#![tactic(auto)]
 ghost use Rattle.std.specs.Prelude.{true, ◌+◌, ◌≤◌, length};
 ghost use Rattle.report.specs.Pages.{output_of_input};
 ghost use Rattle.io.specs.Counts.{clamp_len};
@@ -83,7 +84,7 @@ fn read_some(count: usize, buffer: &mut [u8]) -> isize
 }
 
 // How the reading of the input ended.
-#[derive(Drop)]
+#[derive(Clone, Copy)]
 enum Ending {
     // The input ended.
     Whole,
@@ -94,7 +95,7 @@ enum Ending {
 }
 
 // What came of the input: so many bytes, and how it ends behind them.
-#[derive(Drop)]
+#[derive(Clone, Copy)]
 struct Input {
     count: usize,
     ending: Ending,

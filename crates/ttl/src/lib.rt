@@ -1,4 +1,5 @@
 // ttl.rs: what the TTL byte of a packet is taken for.
+#![tactic(auto)]
 ghost use Rattle.std.specs.Prelude.{◌≡◌};
 ghost use Rattle.ttl.specs.Table.{class_of, each_byte, entry_of};
 ghost use Rattle.ttl.specs.Ttl.{byte_of, guess_of, max_dist, reading_of};
@@ -10,7 +11,7 @@ mod rows;
 mod table;
 
 // One of four forms of a TTL reading.
-#[derive(Drop)]
+#[derive(Clone, Copy)]
 pub enum Ttl {
     // The byte as it was seen.
     Value(u8),
@@ -24,7 +25,7 @@ pub enum Ttl {
 
 // What the table holds of a TTL byte: what it is taken for, by the codes of a record's TTL form (0 Value, 1 Distance, 3 Bad), and its
 // guess, which only a Distance claims.
-#[derive(Drop)]
+#[derive(Clone, Copy)]
 pub struct TtlEntry {
     pub class: u8,
     pub guess: u8,

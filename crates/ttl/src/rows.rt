@@ -6,7 +6,7 @@ ghost use Rattle.ttl.specs.Rows.{both_rows, rows_at, Widened};
 
 use crate::{ttl_classes, ttl_guesses};
 
-#[derive(Drop)]
+#[derive(Clone, Copy)]
 pub(crate) struct TtlRow {
     pub(crate) classes: [u8; 8],
     pub(crate) guesses: [u8; 8],

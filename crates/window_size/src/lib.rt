@@ -1,4 +1,5 @@
 // window_size.rs: a window as a multiple of an MSS or of an MTU.
+#![tactic(auto)]
 ghost use Rattle.std.specs.Prelude.{◌≡◌, cond, map};
 ghost use Rattle.window_size.specs.Divisors.{divides, held, holding, is_v6, peer_size, twelve};
 ghost use Rattle.window_size.specs.Multiplier.{first_multiple, multiplier_of};
@@ -9,7 +10,7 @@ use numbers::{saturating_add, saturating_sub};
 use tcp::{IpVersion, Mss};
 
 // A window as a multiple of an MSS, or, with of_mtu, of an MTU.
-#[derive(Drop)]
+#[derive(Clone, Copy)]
 pub struct WindowMultiplier {
     // The window over the first divisor that divides it.
     pub multiple: u16,
@@ -17,14 +18,14 @@ pub struct WindowMultiplier {
 }
 
 // The multiplier of a window, if it has one: `Option<WindowMultiplier>`.
-#[derive(Drop)]
+#[derive(Clone, Copy)]
 pub enum Multiplier {
     Absent,
     Present(WindowMultiplier),
 }
 
 // A divisor to try, 0 where it does not apply, and whether it is an MTU.
-#[derive(Drop)]
+#[derive(Clone, Copy)]
 pub struct Divisor {
     pub size: u16,
     pub of_mtu: bool,

@@ -1,4 +1,5 @@
 // Outside witnesses: the answers as structs of numbers, for C drivers (tools/witness/witness.h); not part of the product.
+#![tactic(auto)]
 ghost use Rattle.std.specs.Prelude.{◌≡◌};
 ghost use Rattle.text.specs.Written.{Writes};
 ghost use Rattle.witness.specs.Written.{packet_read, options_read, ttl_read, plain_progress, first_of, next_of, Paged};
@@ -29,7 +30,7 @@ mod wrote;
 
 // An observation. A value that is absent is 0, and so is its `has_`.
 #[repr(C)]
-#[derive(Drop)]
+#[derive(Clone, Copy)]
 pub struct PlainObservation {
     pub count: usize,
     pub quirks: u32,
@@ -55,7 +56,7 @@ pub struct PlainObservation {
 }
 
 #[repr(C)]
-#[derive(Drop)]
+#[derive(Clone, Copy)]
 pub struct PlainPacket {
     pub observation: PlainObservation,
     pub answer: u8,
@@ -64,7 +65,7 @@ pub struct PlainPacket {
 }
 
 #[repr(C)]
-#[derive(Drop)]
+#[derive(Clone, Copy)]
 pub struct PlainOptions {
     pub count: usize,
     pub mss: u16,
@@ -79,7 +80,7 @@ pub struct PlainOptions {
 
 // A walk over an option string, and the places of damage that it came to.
 #[repr(C)]
-#[derive(Drop)]
+#[derive(Clone, Copy)]
 pub struct PlainWalk {
     pub count: usize,
     pub past_at: usize,
@@ -98,14 +99,14 @@ pub struct PlainWalk {
 }
 
 #[repr(C)]
-#[derive(Drop)]
+#[derive(Clone, Copy)]
 pub struct PlainTtl {
     pub class: u8,
     pub guess: u8,
 }
 
 #[repr(C)]
-#[derive(Drop)]
+#[derive(Clone, Copy)]
 pub struct PlainLine {
     pub count: usize,
     pub offset: usize,
@@ -117,7 +118,7 @@ pub struct PlainLine {
 
 // What writing a line answers: its length, or the refusal.
 #[repr(C)]
-#[derive(Drop)]
+#[derive(Clone, Copy)]
 pub struct PlainWrote {
     pub length: usize,
     pub bad_record: u32,
@@ -125,7 +126,7 @@ pub struct PlainWrote {
 }
 
 #[repr(C)]
-#[derive(Drop)]
+#[derive(Clone, Copy)]
 pub struct PlainSearch {
     pub added: u32,
     pub missing: u32,
@@ -141,7 +142,7 @@ pub struct PlainSearch {
 }
 
 #[repr(C)]
-#[derive(Drop)]
+#[derive(Clone, Copy)]
 pub struct PlainProgress {
     pub filled: usize,
     pub left: usize,

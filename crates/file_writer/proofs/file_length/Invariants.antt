@@ -1,0 +1,15 @@
+use mathlib.Core.Path.{◌≡◌, ap}
+use Prim.Native.Nat.{◌+◌, ◌*◌, ◌-◌, ◌≤◌}
+use native.Mathlib.Omega.{arith}
+use lib.ListN.{length}
+use Rattle.keeper_file.specs.FileText.{file_text}
+use Rattle.file_writer.proofs.Files.{lines_left, file_whole, length_turn, length_end_lem}
+use Rattle.file_writer.proofs.Lines.{shown_short}
+use borrow.Author.Rules.{rules}
+use Rattle.file_writer.proofs.file_length.Given as goal
+
+abbrev pub invariant-loop-i : goal.invariant-loop-i
+invariant-loop-i l = (l.i ≤ l.count) × (l.size ≤ 443 * l.i) × (l.size + length (lines_left l.list l.count l.i) ≡ length (file_text l.list))
+
+abbrev pub decreases-loop-i : goal.decreases-loop-i
+decreases-loop-i l = l.count - l.i

@@ -1,0 +1,6 @@
+-- `flow::nothing` meets its contract.
+use borrow.Author.Rules.{rules}
+use Rattle.flow.proofs.nothing.Goals as goal
+
+pub returns : goal.returns
+returns c = rw c.empty.ensures

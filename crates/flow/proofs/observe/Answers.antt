@@ -1,0 +1,21 @@
+-- `flow::observe` meets its contract.
+use Rattle.flow.proofs.Parts.{part_raised}
+use Rattle.flow.proofs.Walks.{observed_walk}
+use Rattle.rfc.specs.Rfc9293.{options_end}
+use mathlib.Core.Path.{◌≡◌, ◌∙◌}
+use borrow.Author.Rules.{rules}
+use Rattle.flow.proofs.observe.Goals as goal
+
+pub returns : goal.returns
+returns c =
+    let a = c.args in
+    simp (
+      c.tcp_observation.ensures,
+      c.peer_taken.ensures,
+      c.walk_options-walk.ensures,
+      c.stop_of.ensures,
+      c.shown_quirks-quirks.ensures,
+      c.options_end-end.ensures,
+      part_raised 20 (options_end a.tcp.now) a.tcp.now,
+    )
+    (observed_walk a.mode a.facts a.tcp.now a.syn _)

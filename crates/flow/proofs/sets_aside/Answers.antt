@@ -1,0 +1,9 @@
+-- `flow::sets_aside` meets its contract.
+use borrow.Author.Rules.{rules}
+use Rattle.flow.proofs.sets_aside.Goals as goal
+
+pub returns-then-mode : goal.returns-then-mode
+returns-then-mode c = rw c.if-mode.true
+
+pub returns : goal.returns
+returns c = rw c.if-mode.false

@@ -1,0 +1,6 @@
+use borrow.Author.Rules.{rules}
+use Rattle.gateway.proofs.fuzzy.Goals as goal
+
+pub returns : goal.returns
+returns c =
+    rw (c.marks_of.ensures, c.hops_of.ensures, c.bits-2.ensures, c.bits.ensures)

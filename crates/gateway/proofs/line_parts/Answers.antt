@@ -1,0 +1,5 @@
+use borrow.Author.Rules.{rules}
+use Rattle.gateway.proofs.line_parts.Goals as goal
+
+pub returns : goal.returns
+returns c = c.valued.ensures

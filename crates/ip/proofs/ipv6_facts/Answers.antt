@@ -1,0 +1,20 @@
+-- `ip::ipv6_facts` meets its contract.
+use native.Mathlib.Omega.{arith}
+use Rattle.ip.specs.Ip.{ipv6_facts}
+use borrow.Author.Rules.{rules}
+use Rattle.ip.proofs.ipv6_facts.Goals as goal
+
+pub overflow_add-class : goal.overflow_add-class
+overflow_add-class c = omega (arith, c.shared_slice_known-2-1.given 1)
+
+pub returns : goal.returns
+unfolding ipv6_facts
+returns c =
+    rw (
+      c.ipv6_quirks.ensures,
+      c.calculate_ipv6_length.ensures,
+      c.calculate_ttl.ensures,
+      c.be32-flow_label.ensures,
+      c.be16_at.ensures,
+      c.wide.ensures,
+    )

@@ -1,0 +1,12 @@
+use mathlib.Core.Path.{◌≡◌}
+use native.Mathlib.Omega.{arith}
+use Prim.Native.Nat.{◌+◌, ◌*◌, ◌-◌, ◌≤◌}
+use Rattle.line_writer.proofs.Layouts.{bytes_left, none_left, entry_few, length_turn, length_last}
+use borrow.Author.Rules.{rules}
+use Rattle.line_writer.proofs.rows.layout_length.Given as goal
+
+abbrev pub invariant-loop-i : goal.invariant-loop-i
+invariant-loop-i l = (l.i ≤ l.count) × (l.size ≤ 10 * l.i) × (l.size + bytes_left l.entries l.i ≡ bytes_left l.entries 0)
+
+abbrev pub decreases-loop-i : goal.decreases-loop-i
+decreases-loop-i l = l.count - l.i

@@ -1,0 +1,20 @@
+-- `matching::mss_matches` meets its contract.
+use Rattle.matching.specs.Gates.{mss_matches}
+use borrow.Author.Rules.{rules}
+use Rattle.matching.proofs.mss_matches.Goals as goal
+
+pub returns-in-Absent : goal.returns-in-Absent
+unfolding mss_matches
+returns-in-Absent c = simp c.in-Absent.is
+
+pub returns-in-Absent-observed : goal.returns-in-Absent-observed
+unfolding mss_matches
+returns-in-Absent-observed c = simp (c.in-Present.is, c.in-Absent-observed.is)
+
+pub returns-in-Present-observed : goal.returns-in-Present-observed
+unfolding mss_matches
+returns-in-Present-observed c =
+    simp (
+      c.in-Present.is,
+      c.in-Present-observed.is,
+    )

@@ -1,0 +1,18 @@
+use mathlib.Core.Path.{sym}
+use Rattle.text.proofs.Writing.{put_none}
+use Rattle.packet_line.proofs.Laws.{seen_within, seen_line_lem, none_seen}
+use borrow.Author.Rules.{rules}
+use Rattle.packet_line.proofs.put_seen.Goals as goal
+
+pub slice_bounds-put_word-end : goal.slice_bounds-put_word-end
+slice_bounds-put_word-end c =
+    let within = seen_within _ _ _ _ (search rules) c.write-observation.ensures _ c.size.given.1 in
+    search rules
+
+pub returns-in-Line : goal.returns-in-Line
+returns-in-Line c =
+    rw (sym (seen_line_lem _ _ _ _ (search rules) c.write-observation.ensures _ c.size.given.1)) c.put_word.ensures
+
+pub returns-in-Refused : goal.returns-in-Refused
+returns-in-Refused c =
+    rw (none_seen _ _ _ _ (search rules) c.write_observation.ensures _ c.in-Refused.is) (put_none _ _)

@@ -1,0 +1,8 @@
+-- `quirks::QuirkSet::insert` meets its contract.
+use Rattle.quirks.specs.Quirks.{with}
+use borrow.Author.Rules.{rules}
+use Rattle.quirks.proofs.QuirkSet.insert.Goals as goal
+
+pub returns : goal.returns
+unfolding with
+returns c = rw c.bit.ensures

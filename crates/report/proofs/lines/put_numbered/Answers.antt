@@ -1,0 +1,7 @@
+use Rattle.text.proofs.Writing.{both}
+use borrow.Author.Rules.{rules}
+use Rattle.report.proofs.lines.put_numbered.Goals as goal
+
+pub returns : goal.returns
+returns c =
+    both _ _ _ _ _ _ _ _ c.put_number-end.ensures c.put_byte.ensures

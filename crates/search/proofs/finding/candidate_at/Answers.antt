@@ -1,0 +1,37 @@
+-- `search::candidate_at` meets its contract.
+use Rattle.search.proofs.Rows.{none_there}
+use Rattle.search.specs.Search.{candidate_at}
+use Rattle.search.proofs.Fits.{not_held, tolerated}
+use Rattle.siglist.proofs.List.{record_of_list}
+use borrow.Author.Tests.{not-true, not-false}
+use mathlib.Core.Path.{sym, ◌∙◌}
+use borrow.Author.Rules.{rules}
+use Rattle.search.proofs.finding.candidate_at.Goals as goal
+
+pub returns-then-not-record_holds : goal.returns-then-not-record_holds
+returns-then-not-record_holds c =
+    let holds = c.record_holds in
+    let a = c.args in
+    let pre = c.requires in
+    let same = c.record_at-raw.ensures ∙ record_of_list a.list.now a.areas a.i pre.0 pre.1 in
+    sym
+    (none_there a.observed a.kinds.now a.bytes.now a.list.now a.i
+    (not_held _ _ _ _ _ _ pre.0 pre.1 pre.2
+    (rw (← same, ← holds.ensures) (not-true holds.result c.if-not-record_holds.true))))
+
+pub returns : goal.returns
+unfolding candidate_at
+returns c =
+    let holds = c.record_holds in
+    let a = c.args in
+    let pre = c.requires in
+    let same = c.record_at-raw.ensures ∙ record_of_list a.list.now a.areas a.i pre.0 pre.1 in
+    rw (
+      tolerated a.observed a.kinds.now a.bytes.now a.list.now a.areas a.i pre.0 pre.1 pre.2
+          (rw (← same, ← holds.ensures) (not-false holds.result c.if-not-record_holds.false)),
+      ← same,
+      ← c.tolerance-fit.ensures,
+      ← c.label_of.ensures,
+      ← c.is_generic.ensures,
+      ← c.found_of.ensures,
+    )

@@ -1,0 +1,69 @@
+-- `siglist::record_good` meets its contract.
+use mathlib.Core.Path.{sym, ◌∙◌}
+use borrow.Author.Tests.{not-true, not-false}
+use Rattle.siglist.proofs.List.{record_by_tests}
+use Rattle.siglist.proofs.Entries.{lies_if_there}
+use borrow.Author.Rules.{rules}
+use Rattle.siglist.proofs.record_good.Goals as goal
+
+pub returns-then-not-forms_well_formed : goal.returns-then-not-forms_well_formed
+returns-then-not-forms_well_formed c =
+    let forms = c.forms_well_formed in
+    let raw = c.record_at-raw in
+    let a = c.args in
+    rw (
+      record_by_tests a.list.now a.areas a.i raw.result.now raw.ensures c.requires.0 c.requires.1,
+      ← forms.ensures,
+      not-true forms.result c.if-not-forms_well_formed.true,
+    )
+
+pub returns-then-not-quirks_good : goal.returns-then-not-quirks_good
+returns-then-not-quirks_good c =
+    let quirks = c.quirks_good in
+    let forms = c.forms_well_formed in
+    let raw = c.record_at-raw in
+    let a = c.args in
+    rw (
+      record_by_tests a.list.now a.areas a.i raw.result.now raw.ensures c.requires.0 c.requires.1,
+      ← forms.ensures,
+      not-false forms.result c.if-not-forms_well_formed.false,
+      ← quirks.ensures,
+      not-true quirks.result c.if-not-quirks_good.true,
+    )
+
+pub returns-then-all_good : goal.returns-then-all_good
+returns-then-all_good c =
+    let quirks = c.quirks_good in
+    let forms = c.forms_well_formed in
+    let raw = c.record_at-raw in
+    let a = c.args in
+    rw (
+      record_by_tests a.list.now a.areas a.i raw.result.now raw.ensures c.requires.0 c.requires.1,
+      ← forms.ensures,
+      not-false forms.result c.if-not-forms_well_formed.false,
+      ← quirks.ensures,
+      not-false quirks.result c.if-not-quirks_good.false,
+      ← c.first_entry.ensures,
+      ← c.entry_count.ensures,
+      lies_if_there a.list.now c.first_entry.result c.entry_count.result
+          (sym c.requires.2 ∙ c.if-all_good.true),
+      ← c.requires.0.entries,
+      ← c.entries_lie.ensures,
+    )
+
+pub returns : goal.returns
+returns c =
+    let quirks = c.quirks_good in
+    let forms = c.forms_well_formed in
+    let raw = c.record_at-raw in
+    let a = c.args in
+    rw (
+      record_by_tests a.list.now a.areas a.i raw.result.now raw.ensures c.requires.0 c.requires.1,
+      ← forms.ensures,
+      not-false forms.result c.if-not-forms_well_formed.false,
+      ← quirks.ensures,
+      not-false quirks.result c.if-not-quirks_good.false,
+      ← c.first_entry-2.ensures,
+      ← c.entry_count-2.ensures,
+      ← c.layout_good.ensures,
+    )

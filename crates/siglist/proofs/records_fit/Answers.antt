@@ -1,0 +1,7 @@
+-- `siglist::records_fit` meets its contract.
+use mathlib.Core.Path.{refl}
+use borrow.Author.Rules.{rules}
+use Rattle.siglist.proofs.records_fit.Goals as goal
+
+pub returns : goal.returns
+returns c = refl

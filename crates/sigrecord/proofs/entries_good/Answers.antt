@@ -1,0 +1,29 @@
+-- `sigrecord::entries_good` meets its contract.
+use Rattle.sigrecord.specs.Layout.{entries_good}
+use native.Mathlib.Omega.{arith}
+use lib.ListN.{length}
+use Prim.Native.Nat.{◌/◌, ◌-◌, ◌≤◌}
+use mathlib.Core.Bool.{true}
+use mathlib.Core.Logic.{⊎_elim}
+use mathlib.Core.Path.{◌≡◌, sym}
+use Rattle.sigrecord.proofs.Laws.{no_byte, no_kind, both_set, none_bad, one_more_good, one_bad}
+use borrow.Author.Rules.{rules}
+use Rattle.sigrecord.proofs.entries_good.Goals as goal
+
+pub loop-i-init : goal.loop-i-init
+loop-i-init c = (search rules, none_bad _)
+
+pub returns-then-entries-at-ne0 : goal.returns-then-entries-at-ne0
+returns-then-entries-at-ne0 c =
+    let bad = both_set _ _ c.if-byte-ne0.true c.if-entries-at-ne0.true in
+    sym (one_bad c.args.entries.now _ c.loop-i.i c.loop-i-test.true bad)
+
+pub loop-i-preserved : goal.loop-i-preserved
+loop-i-preserved c =
+    let good = ⊎_elim (λ w. no_kind _ _ w.0.taken w.2.left) (λ w. no_byte _ _ w.left) c.if-byte-ne0.branch in
+    (search rules, one_more_good c.args.entries.now c.loop-i.i good c.loop-i.invariant.1)
+
+pub returns : goal.returns
+returns c =
+    let end : c.loop-i.i ≡ length c.args.entries.now / 2 = omega arith in
+    sym (rw end at c.loop-i.invariant.1)

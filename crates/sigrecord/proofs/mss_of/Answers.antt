@@ -1,0 +1,13 @@
+-- `sigrecord::mss_of` meets its contract.
+use Rattle.sigrecord.specs.Record.{mss_of, signature_of}
+use Rattle.basis.proofs.Rules.{cases}
+use borrow.Author.Rules.{rules}
+use Rattle.sigrecord.proofs.mss_of.Goals as goal
+
+pub returns-then-byte_at-eq0 : goal.returns-then-byte_at-eq0
+unfolding signature_of mss_of
+returns-then-byte_at-eq0 c = simp (← c.byte_at.ensures) (search cases)
+
+pub returns : goal.returns
+unfolding signature_of mss_of
+returns c = simp (← c.byte_at.ensures, ← c.be16_at.ensures) (search cases)

@@ -1,0 +1,8 @@
+-- `witness::plain_line` meets its contract.
+use Rattle.witness.specs.Lined.{plain_line}
+use borrow.Author.Rules.{rules}
+use Rattle.witness.proofs.lined.plain_line.Goals as goal
+
+pub returns : goal.returns
+unfolding plain_line
+returns c = simp (c.line_refusal.ensures, c.line_offset.ensures)

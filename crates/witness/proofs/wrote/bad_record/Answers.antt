@@ -1,0 +1,7 @@
+-- `witness::bad_record` meets its contract.
+use borrow.Author.Rules.{rules}
+use Rattle.witness.proofs.wrote.bad_record.Goals as goal
+
+-- Of a list's refusal.
+pub returns-in-List : goal.returns-in-List
+returns-in-List c = simp (c.in-List.is, ← c.list_value.ensures)
