@@ -1,6 +1,6 @@
 -- A text in a lent buffer ("bytes past it stay as they were": document 02, Wish 7).
 use Rattle.std.specs.Prelude.{◌≡◌, List, ◌++◌, ℕ, ◌+◌, ◌-◌, length, take, drop}
-use Rattle.std.specs.Borrow.{Bor}
+use Rattle.std.specs.Borrow.{MutBor}
 
 -- A buffer's bytes from a place on are written over.
 unfoldable pub written : List ℕ → ℕ → List ℕ → List ℕ
@@ -19,8 +19,8 @@ abbrev pub Put : List ℕ → ℕ → List ℕ → ℕ → List ℕ → Type 0
 Put buffer at text next buffer' = PutAll buffer at (room buffer at text) next buffer'
 
 -- The caller's buffer is left with other bytes: the same reference.
-abbrev pub left_with : Bor (List ℕ) → List ℕ → Bor (List ℕ)
-left_with buffer bytes = record { ref_ptr = buffer.ptr; ghost_name = buffer.name; now = bytes }
+abbrev pub left_with : MutBor (List ℕ) → List ℕ → MutBor (List ℕ)
+left_with buffer bytes = record { ref_ptr = buffer.ref_ptr; ghost_name = buffer.ghost_name; now = bytes }
 
 -- ---- a line, or a refusal
 

@@ -172,7 +172,13 @@ pub fn stamp_may_decide(wsize: u16, mss: Mss) -> bool
 fn second_may_decide(size: u16, wsize: u16) -> bool
     ensures { result ≡ stamp_may_decide wsize (mss.Present size) }
 {
-    size >= MIN_USEFUL_MSS && !divides(size, wsize) && divides(saturating_sub(size, TS_SIZE), wsize)
+    if size < MIN_USEFUL_MSS {
+        false
+    } else if divides(size, wsize) {
+        false
+    } else {
+        divides(saturating_sub(size, TS_SIZE), wsize)
+    }
 }
 
 // The multiplier of a window: by the first of the twelve divisors that divides it. The MSS itself is tried before the others are computed.

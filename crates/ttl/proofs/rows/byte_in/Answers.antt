@@ -13,7 +13,7 @@ pub returns : goal.returns
 unfolding word_from
 returns c =
     let args = c.args in
-    let byte : ℕ → ℕ = λ i. get_or args.t1 i 0 in
+    let byte : ℕ → ℕ = λ i. get_or args.row i 0 in
     let small =
     each_of_eight (λ i. byte i < 256) (under c.wide-7.ensures) (under c.wide-6.ensures)
     (under c.wide-5.ensures) (under c.wide-4.ensures) (under c.wide-3.ensures)
