@@ -17,18 +17,18 @@ unfolding bundle_fits
 returns-then-not-list_lies c =
     let b = c.args.bundle.now in
     let list = c.list_lies in
-    rw (le-leb (length b) 65535 (omega arith), sym list.ensures ∙ not-true list.result c.if-not-list_lies.true)
+    rw (le-leb (length b) 65535 (omega arith), sym list.ensures ∙ c.if-not-list_lies.true)
 
 pub number_at-requires : goal.number_at-requires
 number_at-requires c =
     let list = c.list_lies in
-    let within = (lies_within _ (sym list.ensures ∙ not-false list.result c.if-not-list_lies.false)).0 in
+    let within = (lies_within _ (sym list.ensures ∙ c.if-not-list_lies.false)).0 in
     search (rules, within)
 
 pub number_at-requires-2 : goal.number_at-requires-2
 number_at-requires-2 c =
     let list = c.list_lies in
-    let within = (lies_within _ (sym list.ensures ∙ not-false list.result c.if-not-list_lies.false)).0 in
+    let within = (lies_within _ (sym list.ensures ∙ c.if-not-list_lies.false)).0 in
     search (rules, within)
 
 pub returns : goal.returns
@@ -38,7 +38,7 @@ returns c =
     let b = c.args.bundle.now in
     rw (
       le-leb (length b) 65535 (omega arith),
-      sym list.ensures ∙ not-false list.result c.if-not-list_lies.false,
+      sym list.ensures ∙ c.if-not-list_lies.false,
       c.packets_fit.ensures,
       c.number_at-2.ensures,
       c.number_at.ensures,

@@ -7,19 +7,19 @@ use Rattle.bundle.proofs.check_bundle.Goals as goal
 
 pub returns-then-not-bundle_fits : goal.returns-then-not-bundle_fits
 unfolding check_bundle
-returns-then-not-bundle_fits c = rw (sym c.bundle_fits.ensures ∙ not-true c.bundle_fits.result c.if-not-bundle_fits.true)
+returns-then-not-bundle_fits c = rw (sym c.bundle_fits.ensures ∙ c.if-not-bundle_fits.true)
 
 pub list_of-requires : goal.list_of-requires
 list_of-requires c =
     let fit = c.bundle_fits in
-    list_within _ (sym fit.ensures ∙ not-false fit.result c.if-not-bundle_fits.false)
+    list_within _ (sym fit.ensures ∙ c.if-not-bundle_fits.false)
 
 pub returns-in-Good : goal.returns-in-Good
 unfolding check_bundle
 returns-in-Good c =
     let fit = c.bundle_fits in
     rw (
-      sym fit.ensures ∙ not-false fit.result c.if-not-bundle_fits.false,
+      sym fit.ensures ∙ c.if-not-bundle_fits.false,
       sym c.list_of.ensures,
       sym c.check_list.ensures ∙ c.in-Good.is,
     )
@@ -29,7 +29,7 @@ unfolding check_bundle
 returns-in-Refused c =
     let fit = c.bundle_fits in
     rw (
-      sym fit.ensures ∙ not-false fit.result c.if-not-bundle_fits.false,
+      sym fit.ensures ∙ c.if-not-bundle_fits.false,
       sym c.list_of.ensures,
       sym c.check_list.ensures ∙ c.in-Refused.is,
     )

@@ -15,21 +15,21 @@ returns-then-not-packet_fits c =
     let a = c.args in
     let here = c.loop-i in
     let fit = c.packet_fits in
-    let fails = sym fit.ensures ∙ not-true fit.result c.if-not-packet_fits.true in
+    let fails = sym fit.ensures ∙ c.if-not-packet_fits.true in
     let inside = c.loop-i-test.true in
     sym (sym here.invariant.1 ∙ packet_fails_turn a.bundle.now here.at here.i a.count inside fails)
 
 pub packet_end-at-requires : goal.packet_end-at-requires
 packet_end-at-requires c =
     let fit = c.packet_fits in
-    head_within _ _ (sym fit.ensures ∙ not-false fit.result c.if-not-packet_fits.false)
+    head_within _ _ (sym fit.ensures ∙ c.if-not-packet_fits.false)
 
 pub loop-i-preserved : goal.loop-i-preserved
 loop-i-preserved c =
     let a = c.args in
     let here = c.loop-i in
     let fit = c.packet_fits in
-    let fits = sym fit.ensures ∙ not-false fit.result c.if-not-packet_fits.false in
+    let fits = sym fit.ensures ∙ c.if-not-packet_fits.false in
     let inside = c.loop-i-test.true in
     let later = packet_fits_turn a.bundle.now here.at here.i a.count inside fits in
     (search rules, rw c.packet_end-at.ensures (later ∙ here.invariant.1))

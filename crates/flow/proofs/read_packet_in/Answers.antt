@@ -96,7 +96,7 @@ returns-then-is_valid c =
       c.nothing.ensures,
       read_on a.mode _ _ a.peer_mss _ handed c.header_bytes-header.ensures kept,
     )
-    (nothing_read _ _ _ (not-true _ (sym c.is_valid.ensures ∙ c.if-is_valid.true))
+    (nothing_read _ _ _ ((sym c.is_valid.ensures ∙ c.if-is_valid.true))
     (rw (← c.tcp_type-masked.ensures) c.if-syn-masked.false))
 
 pub returns-in-Facts : goal.returns-in-Facts
@@ -109,4 +109,4 @@ returns-in-Facts c =
       c.refuse-in-Facts.ensures,
       read_on a.mode _ _ a.peer_mss _ handed c.header_bytes-header.ensures kept,
     )
-    (refused_7 _ _ _ (not-false _ (sym c.is_valid.ensures ∙ c.if-is_valid.false)))
+    (refused_7 _ _ _ ((sym c.is_valid.ensures ∙ c.if-is_valid.false)))

@@ -23,19 +23,19 @@ returns-then-not-entries_lie c =
     let fit = header_areas a.list.now _ (sym c.read_header.ensures ∙ c.in-Fits.is) in
     lie_elsewhere a.list.now _ a.index fit c.if-areas-index.false _ _ _ c.record_at-raw.ensures
     c.first_entry-first.ensures c.entry_count-count.ensures _
-    (sym c.entries_lie.ensures ∙ not-true c.entries_lie.result c.if-not-entries_lie.true)
+    (sym c.entries_lie.ensures ∙ c.if-not-entries_lie.true)
 
 pub slice_bounds-write_line-end : goal.slice_bounds-write_line-end
 slice_bounds-write_line-end c =
     let l = c.args.list.now in
     let fit = header_areas l _ (sym c.read_header.ensures ∙ c.in-Fits.is) in
-    let yes = not-false c.entries_lie.result c.if-not-entries_lie.false in
+    let yes = c.if-not-entries_lie.false in
     let within = lie_within _ c.first_entry-first.result c.entry_count-count.result (sym c.entries_lie.ensures ∙ yes) in
     omega (arith, fit.entries_fit, within)
 
 pub write_line-requires : goal.write_line-requires
 write_line-requires c =
-    let yes = not-false c.entries_lie.result c.if-not-entries_lie.false in
+    let yes = c.if-not-entries_lie.false in
     let few = lie_few _ c.first_entry-first.result c.entry_count-count.result (sym c.entries_lie.ensures ∙ yes) in
     search rules
 
@@ -43,7 +43,7 @@ pub returns : goal.returns
 returns c =
     let a = c.args in
     let fit = header_areas a.list.now _ (sym c.read_header.ensures ∙ c.in-Fits.is) in
-    let yes = not-false c.entries_lie.result c.if-not-entries_lie.false in
+    let yes = c.if-not-entries_lie.false in
     listed_text_lem a.list.now _ a.index fit c.if-areas-index.false _ _ _ c.record_at-raw.ensures
     c.first_entry-first.ensures c.entry_count-count.ensures _ _ _
     (sym c.entries_lie.ensures ∙ yes)

@@ -13,7 +13,7 @@ returns-then-not-is_empty c =
       ← c.difference-missing.ensures,
       ← c.difference.ensures,
       ← c.is_empty.ensures,
-      not-true c.is_empty.result c.if-not-is_empty.true,
+      c.if-not-is_empty.true,
     )
 
 pub returns-then-not-is_empty-2 : goal.returns-then-not-is_empty-2
@@ -26,10 +26,10 @@ returns-then-not-is_empty-2 c =
       ← c.difference-added.ensures,
       ← c.difference.ensures,
       ← c.is_empty.ensures,
-      not-false c.is_empty.result c.if-not-is_empty.false,
+      c.if-not-is_empty.false,
       ← c.difference-2.ensures,
       ← c.is_empty-2.ensures,
-      not-true c.is_empty-2.result c.if-not-is_empty-2.true,
+      c.if-not-is_empty-2.true,
     )
 
 pub returns : goal.returns
@@ -42,8 +42,8 @@ returns c =
       ← c.difference-added.ensures,
       ← c.difference.ensures,
       ← c.is_empty.ensures,
-      not-false c.is_empty.result c.if-not-is_empty.false,
+      c.if-not-is_empty.false,
       ← c.difference-2.ensures,
       ← c.is_empty-2.ensures,
-      not-false c.is_empty-2.result c.if-not-is_empty-2.false,
+      c.if-not-is_empty-2.false,
     )

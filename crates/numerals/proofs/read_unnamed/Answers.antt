@@ -19,7 +19,7 @@ returns-then-not-is_unnamed c =
     let t = c.is_unnamed in
     c.no_piece-then-not-is_unnamed.ensures
     ∙ gave_unwanted 6 255 unnamed a.s.now a.from n.result n.ensures c.if-number-from.false
-    (sym t.ensures ∙ not-true t.result c.if-not-is_unnamed.true)
+    (sym t.ensures ∙ c.if-not-is_unnamed.true)
 
 pub returns : goal.returns
 returns c =
@@ -27,4 +27,4 @@ returns c =
     let n = c.read_number-number in
     let t = c.is_unnamed in
     gave_wanted 6 255 unnamed a.s.now a.from n.result n.ensures c.if-number-from.false
-    (sym t.ensures ∙ not-false t.result c.if-not-is_unnamed.false)
+    (sym t.ensures ∙ c.if-not-is_unnamed.false)

@@ -12,17 +12,17 @@ pub returns-then-not-stands : goal.returns-then-not-stands
 returns-then-not-stands c =
     let a = c.args in
     let k = c.stands in
-    behind_other a.byte a.s.now a.at a.good c.if-not-good.false k.ensures (not-true k.result c.if-not-stands.true)
+    behind_other a.byte a.s.now a.at a.good c.if-not-good.false k.ensures (c.if-not-stands.true)
 
 pub overflow_add-result : goal.overflow_add-result
 overflow_add-result c =
     let a = c.args in
     let k = c.stands in
-    let h = within a.s.now a.at a.byte k.ensures (not-false k.result c.if-not-stands.false) in
+    let h = within a.s.now a.at a.byte k.ensures (c.if-not-stands.false) in
     search rules
 
 pub returns : goal.returns
 returns c =
     let a = c.args in
     let k = c.stands in
-    behind_there a.byte a.s.now a.at a.good c.if-not-good.false k.ensures (not-false k.result c.if-not-stands.false)
+    behind_there a.byte a.s.now a.at a.good c.if-not-good.false k.ensures (c.if-not-stands.false)

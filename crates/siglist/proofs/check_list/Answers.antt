@@ -11,7 +11,7 @@ use Rattle.siglist.proofs.check_list.Goals as goal
 
 pub returns-then-not-list_fits : goal.returns-then-not-list_fits
 unfolding check_list
-returns-then-not-list_fits c = rw (sym c.list_fits.ensures ∙ not-true c.list_fits.result c.if-not-list_fits.true)
+returns-then-not-list_fits c = rw (sym c.list_fits.ensures ∙ c.if-not-list_fits.true)
 
 pub slice_bounds-entries_good-end : goal.slice_bounds-entries_good-end
 slice_bounds-entries_good-end c =
@@ -19,7 +19,7 @@ slice_bounds-entries_good-end c =
     let listed = c.list_fits in
     let l = c.args.list.now in
     let fit =
-    areas_fit l read.result (sym listed.ensures ∙ not-false listed.result c.if-not-list_fits.false) read.ensures in
+    areas_fit l read.result (sym listed.ensures ∙ c.if-not-list_fits.false) read.ensures in
     search rules
 
 pub loop-i-init : goal.loop-i-init
@@ -27,7 +27,7 @@ loop-i-init c =
     let read = c.areas_of-areas in
     let listed = c.list_fits in
     let l = c.args.list.now in
-    let fits = sym listed.ensures ∙ not-false listed.result c.if-not-list_fits.false in
+    let fits = sym listed.ensures ∙ c.if-not-list_fits.false in
     let fit = areas_fit l read.result fits read.ensures in (
       search rules,
       refl,
@@ -44,7 +44,7 @@ returns-then-not-record_good c =
     sym
     (sym at.invariant.4
     ∙ record_bad_turn l at.i c.areas_of-areas.result.records c.loop-i-test.true
-    (sym good.ensures ∙ not-true good.result c.if-not-record_good.true))
+    (sym good.ensures ∙ c.if-not-record_good.true))
 
 pub loop-i-preserved : goal.loop-i-preserved
 loop-i-preserved c =
@@ -56,7 +56,7 @@ loop-i-preserved c =
       at.invariant.2,
       at.invariant.3,
       record_good_turn l at.i c.areas_of-areas.result.records c.loop-i-test.true
-          (sym good.ensures ∙ not-false good.result c.if-not-record_good.false)
+          (sym good.ensures ∙ c.if-not-record_good.false)
           ∙ at.invariant.4,
     )
 

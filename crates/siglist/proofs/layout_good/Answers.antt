@@ -13,14 +13,14 @@ unfolding layout_lies
 returns-then-not-entries_lie c =
     let lie = c.entries_lie in
     let pre = c.requires in
-    rw (← pre.entries, ← lie.ensures, not-true lie.result c.if-not-entries_lie.true)
+    rw (← pre.entries, ← lie.ensures, c.if-not-entries_lie.true)
 
 pub slice_bounds-entries_good-end : goal.slice_bounds-entries_good-end
 slice_bounds-entries_good-end c =
     let lie = c.entries_lie in
     let a = c.args in
     let pre = c.requires in
-    let lies = not-false lie.result c.if-not-entries_lie.false in
+    let lies = c.if-not-entries_lie.false in
     let within = lie_within a.areas.entries a.first a.count (sym lie.ensures ∙ lies) in
     search rules
 
@@ -30,7 +30,7 @@ returns c =
     let a = c.args in
     let pre = c.requires in
     let lie = c.entries_lie in
-    let lies = not-false lie.result c.if-not-entries_lie.false in
+    let lies = c.if-not-entries_lie.false in
     let within = lie_within a.areas.entries a.first a.count (sym lie.ensures ∙ lies) in
     rw (
       ← pre.entries,

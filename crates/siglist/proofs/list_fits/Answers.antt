@@ -17,7 +17,7 @@ returns-then-not-records_fit c =
     rw (
       fits_by _ c.areas_of-areas.result c.areas_of-areas.ensures (omega arith),
       ← fit.ensures,
-      not-true fit.result c.if-not-records_fit.true,
+      c.if-not-records_fit.true,
     )
 
 pub returns : goal.returns
@@ -27,5 +27,5 @@ returns c =
     rw (
       fits_by _ read.result read.ensures (omega arith),
       ← fit.ensures,
-      not-false fit.result c.if-not-records_fit.false,
+      c.if-not-records_fit.false,
     )

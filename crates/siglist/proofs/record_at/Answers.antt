@@ -16,19 +16,19 @@ returns-then-areas-i c =
 pub returns-then-not-records_fit : goal.returns-then-not-records_fit
 returns-then-not-records_fit c =
     let fit = c.records_fit in
-    sym (past_the_end _ _ _ (sym fit.ensures ∙ not-true fit.result c.if-not-records_fit.true))
+    sym (past_the_end _ _ _ (sym fit.ensures ∙ c.if-not-records_fit.true))
 
 pub slice_bounds-result-count-2 : goal.slice_bounds-result-count-2
 slice_bounds-result-count-2 c =
     let fit = c.records_fit in
     let a = c.args in
     let inside : a.areas.records_offset + 24 * a.areas.records ≤ length a.list.now =
-    leb-true _ _ (sym fit.ensures ∙ not-false fit.result c.if-not-records_fit.false) in
+    leb-true _ _ (sym fit.ensures ∙ c.if-not-records_fit.false) in
     search rules
 
 pub returns : goal.returns
 returns c =
     let fit = c.records_fit in
     let a = c.args in
-    let fits = sym fit.ensures ∙ not-false fit.result c.if-not-records_fit.false in
+    let fits = sym fit.ensures ∙ c.if-not-records_fit.false in
     sym (there a.list.now a.areas a.i (omega arith) fits)

@@ -14,7 +14,7 @@ returns-then-not-forms_well_formed c =
     rw (
       record_by_tests a.list.now a.areas a.i raw.result.now raw.ensures c.requires.0 c.requires.1,
       ← forms.ensures,
-      not-true forms.result c.if-not-forms_well_formed.true,
+      c.if-not-forms_well_formed.true,
     )
 
 pub returns-then-not-quirks_good : goal.returns-then-not-quirks_good
@@ -26,9 +26,9 @@ returns-then-not-quirks_good c =
     rw (
       record_by_tests a.list.now a.areas a.i raw.result.now raw.ensures c.requires.0 c.requires.1,
       ← forms.ensures,
-      not-false forms.result c.if-not-forms_well_formed.false,
+      c.if-not-forms_well_formed.false,
       ← quirks.ensures,
-      not-true quirks.result c.if-not-quirks_good.true,
+      c.if-not-quirks_good.true,
     )
 
 pub returns-then-all_good : goal.returns-then-all_good
@@ -40,9 +40,9 @@ returns-then-all_good c =
     rw (
       record_by_tests a.list.now a.areas a.i raw.result.now raw.ensures c.requires.0 c.requires.1,
       ← forms.ensures,
-      not-false forms.result c.if-not-forms_well_formed.false,
+      c.if-not-forms_well_formed.false,
       ← quirks.ensures,
-      not-false quirks.result c.if-not-quirks_good.false,
+      c.if-not-quirks_good.false,
       ← c.first_entry.ensures,
       ← c.entry_count.ensures,
       lies_if_there a.list.now c.first_entry.result c.entry_count.result
@@ -60,9 +60,9 @@ returns c =
     rw (
       record_by_tests a.list.now a.areas a.i raw.result.now raw.ensures c.requires.0 c.requires.1,
       ← forms.ensures,
-      not-false forms.result c.if-not-forms_well_formed.false,
+      c.if-not-forms_well_formed.false,
       ← quirks.ensures,
-      not-false quirks.result c.if-not-quirks_good.false,
+      c.if-not-quirks_good.false,
       ← c.first_entry-2.ensures,
       ← c.entry_count-2.ensures,
       ← c.layout_good.ensures,

@@ -4,11 +4,11 @@ use native.Mathlib.Omega.{arith}
 use lib.ListN.{length}
 use Prim.Native.Nat.{◌/◌, ◌-◌, ◌≤◌}
 use mathlib.Core.Bool.{true}
-use mathlib.Core.Logic.{⊎_elim}
 use mathlib.Core.Path.{◌≡◌, sym}
 use Rattle.sigrecord.proofs.Laws.{no_byte, no_kind, both_set, none_bad, one_more_good, one_bad}
 use borrow.Author.Rules.{rules}
 use Rattle.sigrecord.proofs.entries_good.Goals as goal
+use Rattle.sigrecord.proofs.entries_good.Goals.{then-byte-ne0+else-entries-at-ne0, else-byte-ne0}
 
 pub loop-i-init : goal.loop-i-init
 loop-i-init c = (search rules, none_bad _)
@@ -20,8 +20,14 @@ returns-then-entries-at-ne0 c =
 
 pub loop-i-preserved : goal.loop-i-preserved
 loop-i-preserved c =
-    let good = ⊎_elim (λ w. no_kind _ _ w.0.taken w.2.left) (λ w. no_byte _ _ w.left) c.if-byte-ne0.branch in
-    (search rules, one_more_good c.args.entries.now c.loop-i.i good c.loop-i.invariant.1)
+    elim c.if-byte-ne0.branch [
+      | then-byte-ne0+else-entries-at-ne0 w ↦
+          let good = no_kind _ _ w.if-byte-ne0.true w.if-entries-at-ne0.false in
+          (search rules, one_more_good c.args.entries.now c.loop-i.i good c.loop-i.invariant.1)
+      | else-byte-ne0 w ↦
+          let good = no_byte _ _ w.if-byte-ne0.false in
+          (search rules, one_more_good c.args.entries.now c.loop-i.i good c.loop-i.invariant.1)
+    ]
 
 pub returns : goal.returns
 returns c =

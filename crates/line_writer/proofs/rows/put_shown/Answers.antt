@@ -8,14 +8,13 @@ use Rattle.line_writer.proofs.rows.put_shown.Goals as goal
 pub returns-then-not-contains : goal.returns-then-not-contains
 unfolding name_at
 returns-then-not-contains c =
-    let no = not-true c.contains.result c.if-not-contains.true in
+    let no = c.if-not-contains.true in
     rw (sym c.contains.ensures ∙ no) (put_none _ _)
 
 pub returns : goal.returns
 unfolding name_at
 returns c =
-    let yes = not-false c.contains.result
-    c.if-not-contains.false in
+    let yes = c.if-not-contains.false in
     rw (
       sym
           c.contains.ensures ∙ yes,

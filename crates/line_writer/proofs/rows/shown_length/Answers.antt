@@ -7,7 +7,7 @@ use Rattle.line_writer.proofs.rows.shown_length.Goals as goal
 
 pub returns-then-not-contains : goal.returns-then-not-contains
 returns-then-not-contains c =
-    let has = not-true c.contains.result c.if-not-contains.true in
+    let has = c.if-not-contains.true in
     let no = sym c.contains.ensures ∙ has in
     record { size = rw no; few = omega arith }
 
@@ -16,7 +16,7 @@ overflow_add-result c = omega (arith, c.quirk_length.ensures, name_short c.args.
 
 pub returns : goal.returns
 returns c =
-    let has = not-false c.contains.result c.if-not-contains.false in
+    let has = c.if-not-contains.false in
     let yes = sym c.contains.ensures ∙ has in
     let name = c.quirk_length.ensures in
     record { size = rw yes (omega (arith, name)); few = omega (arith, name, name_short c.args.quirk) }

@@ -25,7 +25,7 @@ returns-then-bytes-i c =
 pub returns-then-not-entry_good : goal.returns-then-not-entry_good
 returns-then-not-entry_good c =
     let a = c.args in
-    let bad = sym c.entry_good.ensures ∙ not-true c.entry_good.result c.if-not-entry_good.true in
+    let bad = sym c.entry_good.ensures ∙ c.if-not-entry_good.true in
     rw (one_bad a.entries.now a.count c.loop-i.i c.loop-i-test.true bad)
     (sym (and_false (entries_match a.kinds.now a.bytes.now a.entries.now a.count)))
 
@@ -41,7 +41,7 @@ loop-i-preserved c =
     let a = c.args in
     let l = c.loop-i in
     let same = c.if-bytes-i.false in
-    let good = sym c.entry_good.ensures ∙ not-false c.entry_good.result c.if-not-entry_good.false in (
+    let good = sym c.entry_good.ensures ∙ c.if-not-entry_good.false in (
       search rules,
       entry_matches a.kinds.now a.bytes.now a.entries.now l.i c.if-kinds-i.false same l.invariant.1,
       one_more_good a.entries.now l.i good l.invariant.2,

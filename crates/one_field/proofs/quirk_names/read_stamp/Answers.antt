@@ -20,13 +20,13 @@ returns-then-not-stands c =
     let a = c.args in
     let k = c.stands in
     c.no_piece.ensures
-    ∙ letter_missing a.s.now a.from 115 k.ensures stamps (not-true k.result c.if-not-stands.true) (λ b e. rw e) refl
+    ∙ letter_missing a.s.now a.from 115 k.ensures stamps (c.if-not-stands.true) (λ b e. rw e) refl
 
 pub overflow_add-next : goal.overflow_add-next
 overflow_add-next c =
     let a = c.args in
     let k = c.stands in
-    let h = within a.s.now a.from 115 k.ensures (not-false k.result c.if-not-stands.false) in
+    let h = within a.s.now a.from 115 k.ensures (c.if-not-stands.false) in
     search rules
 
 pub overflow_add-next-then-stands : goal.overflow_add-next-then-stands
@@ -44,7 +44,7 @@ returns-then-stands c =
     letter_read a.s.now a.from 115 k.ensures stamps
     (either_one a.s.now (a.from + 1) 49 k2 (ascii "-") 16777216 50 (ascii "+") 33554432 refl
     c.one_letter.ensures c.if-stands.true)
-    (not-false k.result c.if-not-stands.false) refl refl
+    (c.if-not-stands.false) refl refl
 
 pub returns : goal.returns
 unfolding after bit_of place_of
@@ -55,4 +55,4 @@ returns c =
     letter_read a.s.now a.from 115 k.ensures stamps
     (either_other a.s.now (a.from + 1) 49 k2 (ascii "-") 16777216 50 (ascii "+") 33554432
     c.two_letters.ensures c.if-stands.false)
-    (not-false k.result c.if-not-stands.false) refl refl
+    (c.if-not-stands.false) refl refl

@@ -17,7 +17,7 @@ returns-then-not-record_holds c =
     sym
     (none_there a.observed a.kinds.now a.bytes.now a.list.now a.i
     (not_held _ _ _ _ _ _ pre.0 pre.1 pre.2
-    (rw (← same, ← holds.ensures) (not-true holds.result c.if-not-record_holds.true))))
+    (rw (← same, ← holds.ensures) (c.if-not-record_holds.true))))
 
 pub returns : goal.returns
 unfolding candidate_at
@@ -28,7 +28,7 @@ returns c =
     let same = c.record_at-raw.ensures ∙ record_of_list a.list.now a.areas a.i pre.0 pre.1 in
     rw (
       tolerated a.observed a.kinds.now a.bytes.now a.list.now a.areas a.i pre.0 pre.1 pre.2
-          (rw (← same, ← holds.ensures) (not-false holds.result c.if-not-record_holds.false)),
+          (rw (← same, ← holds.ensures) (c.if-not-record_holds.false)),
       ← same,
       ← c.tolerance-fit.ensures,
       ← c.label_of.ensures,

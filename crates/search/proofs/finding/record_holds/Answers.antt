@@ -12,7 +12,7 @@ returns-then-not-entries_lie c =
     sym
     (bad_place _ _ _ _ _ _ c.requires
     (rw (← c.entry_count-declared.ensures, ← c.first_entry-first.ensures)
-    (sym lie.ensures ∙ not-true lie.result c.if-not-entries_lie.true)))
+    (sym lie.ensures ∙ c.if-not-entries_lie.true)))
 
 pub slice_bounds-entries-end : goal.slice_bounds-entries-end
 slice_bounds-entries-end c =
@@ -21,7 +21,7 @@ slice_bounds-entries-end c =
     let lie = c.entries_lie in
     let within =
     lie_within areas.entries c.first_entry-first.result c.entry_count-declared.result
-    (sym lie.ensures ∙ not-false lie.result c.if-not-entries_lie.false) in
+    (sym lie.ensures ∙ c.if-not-entries_lie.false) in
     search rules
 
 pub returns-then-not-olayout_matches : goal.returns-then-not-olayout_matches
@@ -32,7 +32,7 @@ returns-then-not-olayout_matches c =
     let fits = c.requires in
     sym
     (layout_fails _ _ _ _ _ _ fits
-    (rw (← fits.entries_at, ← count, ← first, ← matched.ensures) (not-true matched.result c.if-not-olayout_matches.true)))
+    (rw (← fits.entries_at, ← count, ← first, ← matched.ensures) (c.if-not-olayout_matches.true)))
 
 pub returns : goal.returns
 returns c =
@@ -44,5 +44,5 @@ returns c =
     c.scalars_well_formed.ensures
     ∙ sym
     (scalars_decide _ _ _ _ _ _ fits
-    (rw (← count, ← first, ← lie.ensures) (not-false lie.result c.if-not-entries_lie.false))
-    (rw (← fits.entries_at, ← count, ← first, ← matched.ensures) (not-false matched.result c.if-not-olayout_matches.false)))
+    (rw (← count, ← first, ← lie.ensures) (c.if-not-entries_lie.false))
+    (rw (← fits.entries_at, ← count, ← first, ← matched.ensures) (c.if-not-olayout_matches.false)))
