@@ -75,19 +75,19 @@ plain_between c a t e h k = plain_before a (c ∷ t) e h (plain_behind_lem c t e
 
 -- ---- numbers
 
-is_digit : (b : ℕ) → 48 ≤ b → b < 58 → is_digit b ≡ true
-is_digit b h k = rw (le-leb 48 b h, lt-ltb b 58 k)
+is_digit_lem : (b : ℕ) → 48 ≤ b → b < 58 → is_digit b ≡ true
+is_digit_lem b h k = rw (le-leb 48 b h, lt-ltb b 58 k)
 
 digits_plain : (w : List ℕ) → Digits w → plain_behind true w ≡ true
 unfolding plain_behind
 digits_plain [] d = refl
-digits_plain (b ∷ w) d = rw (is_digit b d.0 d.1) (digits_plain w d.2)
+digits_plain (b ∷ w) d = rw (is_digit_lem b d.0 d.1) (digits_plain w d.2)
 
 from_one : (w : List ℕ) → Digits w → 48 < byte_at w 0 → no_leading_zero w ≡ true
 unfolding plain_behind
 from_one [] d h = absurd (omega arith)
 from_one (b ∷ w) d h =
-    rw (ne_eqb b 48 (λ (e : b ≡ 48). omega arith), is_digit b d.0 d.1) (digits_plain w d.2)
+    rw (ne_eqb b 48 (λ (e : b ≡ 48). omega arith), is_digit_lem b d.0 d.1) (digits_plain w d.2)
 
 pub decimal_plain : (n : ℕ) → n < 100000 → no_leading_zero (decimal n) ≡ true
 unfolding decimal width plain_behind

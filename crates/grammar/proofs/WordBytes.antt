@@ -37,15 +37,15 @@ digits_within_lem : (D : ℕ → Bool) → digits_within D ≡ true → (w : Lis
 digits_within_lem D h [] d = nil
 digits_within_lem D h (b ∷ w) d = inside (digit_within D h b d.0 d.1) (digits_within_lem D h w d.2)
 
-tail_within : (D : ℕ → Bool) (t : Tail) → tail_within D t ≡ true → (w : List ℕ) (n : ℕ) → TailSays t w n → Within D w
-tail_within D nothing h [] n a = nil
-tail_within D nothing h (b ∷ w) n a = absurd (cons≢nil a.0)
-tail_within D (numeral max wanted) h w n a = digits_within_lem D h w a.digits
+tail_within_lem : (D : ℕ → Bool) (t : Tail) → tail_within D t ≡ true → (w : List ℕ) (n : ℕ) → TailSays t w n → Within D w
+tail_within_lem D nothing h [] n a = nil
+tail_within_lem D nothing h (b ∷ w) n a = absurd (cons≢nil a.0)
+tail_within_lem D (numeral max wanted) h w n a = digits_within_lem D h w a.digits
 
 row_within
     : (D : ℕ → Bool) (cs : List ℕ) (f : ℕ) (t : Tail) → word_within D cs ≡ true → tail_within D t ≡ true
     → (w : List ℕ) (v : Said) → RowSays cs f t w v → Within D w
-row_within D [] f t e h w v r = tail_within D t h w v.number r.1
+row_within D [] f t e h w v r = tail_within_lem D t h w v.number r.1
 row_within D (c ∷ cs) f t e h [] v r = absurd r
 row_within D (c ∷ cs) f t e h (b ∷ w) v r =
     inside {b = b} (rw r.0 (and_left (D c) (word_within D cs) e))
