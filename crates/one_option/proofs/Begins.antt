@@ -1,17 +1,17 @@
 -- Where options begin: what follows one, and which one is the last.
-use mathlib.Core.Path.{◌≡◌, refl, sym, ◌∙◌, ap}
-use mathlib.Core.Bool.{Bool, true, false, cond, ◌&&◌, true≢false}
+use mathlib.Core.Path.{◌≡◌, sym, ◌∙◌, ap}
+use mathlib.Core.Bool.{true, false, true≢false}
 use mathlib.Core.List.{List, [], ◌∷◌}
-use Prim.Native.Nat.{ℕ, zero, suc, ◌+◌, ◌-◌, ◌<◌, ◌≤◌, max}
+use Prim.Native.Nat.{ℕ, suc, ◌+◌, ◌<◌, ◌≤◌}
 use native.Mathlib.Omega.{arith}
 use native.Mathlib.Decide.{ℕ_discrete, dec_le}
-use lib.Dec.{eqb, ltb}
-use lib.ListN.{length, take, drop, length-take, length-drop, drop_of_length-le}
+use lib.Dec.{ltb}
+use lib.ListN.{length, take, drop, length-take, drop_of_length-le}
 use lib.Seq.{take-nil, get_or-take, get_or-drop, drop-drop}
-use borrow.Author.Tests.{lt-ltb, le-ltb}
+use borrow.Author.Tests.{le-ltb}
 use Rattle.basis.specs.Bytes.{byte_at}
 use Rattle.basis.proofs.Tests.{and_false}
-use Rattle.one_option.specs.Options.{Opt, asked, runs_past, short_length, option_of, option_at, OptionBegins}
+use Rattle.one_option.specs.Options.{asked, runs_past, short_length, option_of, option_at, OptionBegins}
 use Rattle.one_option.proofs.Options.{asked_last, asked_nop, asked_sized}
 
 -- No option begins in an empty string.
@@ -64,8 +64,8 @@ past_is_last s OptionBegins.first past OptionBegins.first = omega arith
 past_is_last (b ∷ rest) OptionBegins.first past (OptionBegins.next r) =
     absurd (true≢false (sym past ∙ followed_sound b rest (followed (asked b rest) rest r)))
 past_is_last s (OptionBegins.next q) past OptionBegins.first = omega arith
-past_is_last (b ∷ rest) (OptionBegins.next {n = n} q) past (OptionBegins.next r) =
-    let before = past_is_last (drop (asked b rest) rest) q (rw (option_behind b (asked b rest) n rest) at past) r in
+past_is_last (b ∷ rest) (OptionBegins.next {n = n} q) past (OptionBegins.next {n = m} r) =
+    let before = past_is_last {j = m} (drop (asked b rest) rest) q (rw (option_behind b (asked b rest) n rest) at past) r in
     omega arith
 
 -- An end-of-options.
@@ -74,8 +74,8 @@ end_is_last s OptionBegins.first last OptionBegins.first = omega arith
 end_is_last (b ∷ rest) OptionBegins.first last (OptionBegins.next r) =
     absurd (followed_not_last b rest (followed (asked b rest) rest r) last)
 end_is_last s (OptionBegins.next q) last OptionBegins.first = omega arith
-end_is_last (b ∷ rest) (OptionBegins.next {n = n} q) last (OptionBegins.next r) =
-    let before = end_is_last (drop (asked b rest) rest) q (get_or-drop (asked b rest) rest n 0 ∙ last) r in
+end_is_last (b ∷ rest) (OptionBegins.next {n = n} q) last (OptionBegins.next {n = m} r) =
+    let before = end_is_last {j = m} (drop (asked b rest) rest) q (get_or-drop (asked b rest) rest n 0 ∙ last) r in
     omega arith
 
 -- ---- the last byte

@@ -1,5 +1,6 @@
 // One option of a TCP header: where it ends, and what it says of MSS, scale and quirks (syn_options.rs, flow.rs).
 #![tactic(auto)]
+
 ghost use Rattle.std.specs.Prelude.{◌≡◌, true, false};
 ghost use Rattle.basis.specs.Bytes.{any_nonzero};
 ghost use Rattle.one_option.specs.Options.{step_of};

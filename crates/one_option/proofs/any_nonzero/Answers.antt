@@ -1,11 +1,7 @@
 -- `one_option::any_nonzero` meets its contract.
-use mathlib.Core.Path.{◌≡◌, sym, ◌∙◌}
-use Prim.Native.Nat.{◌≤◌, ◌-◌}
+use mathlib.Core.Path.{sym, ◌∙◌}
 use native.Mathlib.Omega.{arith}
-use lib.ListN.{length, drop}
-use Rattle.basis.specs.Bytes.{any_nonzero}
 use Rattle.basis.proofs.Bytes.{nonzero_here, zero_here, nonzero_end}
-use borrow.Author.Rules.{rules}
 use Rattle.one_option.proofs.any_nonzero.Goals as goal
 
 pub returns-then-s-i-ne0 : goal.returns-then-s-i-ne0

@@ -1,11 +1,8 @@
 -- `one_option::any_nonzero` meets its contract.
-use mathlib.Core.Path.{◌≡◌, sym, ◌∙◌}
+use mathlib.Core.Path.{◌≡◌}
 use Prim.Native.Nat.{◌≤◌, ◌-◌}
-use native.Mathlib.Omega.{arith}
 use lib.ListN.{length, drop}
 use Rattle.basis.specs.Bytes.{any_nonzero}
-use Rattle.basis.proofs.Bytes.{nonzero_here, zero_here, nonzero_end}
-use borrow.Author.Rules.{rules}
 use Rattle.one_option.proofs.any_nonzero.Given as goal
 
 abbrev pub invariant-loop-i : goal.invariant-loop-i

@@ -3,7 +3,6 @@ use Rattle.one_option.proofs.See.{opt, last_quirks, other_quirks}
 use Rattle.one_option.specs.See.{later_quirks}
 use Prim.Native.Nat.{ℕ}
 use mathlib.Core.Path.{sym, ◌∙◌, ap}
-use borrow.Author.Rules.{rules}
 use Rattle.one_option.proofs.later_quirks.Goals as goal
 
 pub returns-then-kind-eq-TIMESTAMPS : goal.returns-then-kind-eq-TIMESTAMPS

@@ -4,7 +4,6 @@ use Prim.Native.Nat.{◌<◌, ◌≤◌}
 use lib.ListN.{length}
 use native.Mathlib.Omega.{arith}
 use mathlib.Core.Path.{sym}
-use borrow.Author.Rules.{rules}
 use Rattle.one_option.proofs.later_scale.Goals as goal
 
 pub returns-then-kind-ne-WSCALE : goal.returns-then-kind-ne-WSCALE

@@ -5,7 +5,6 @@ use Prim.Native.Nat.{◌<◌, ◌≤◌}
 use lib.ListN.{length}
 use native.Mathlib.Omega.{arith}
 use mathlib.Core.Path.{sym}
-use borrow.Author.Rules.{rules}
 use Rattle.one_option.proofs.stamp_quirks.Goals as goal
 
 pub returns-then-own-lt5 : goal.returns-then-own-lt5
