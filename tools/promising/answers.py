@@ -2,7 +2,7 @@
 import re
 import textwrap
 
-from promising.contract import ENTRY, WORD
+from promising.contract import WORD
 from promising.edits import edits
 from promising.lines import theorem
 
@@ -14,12 +14,11 @@ def shown(promise):
     """What a contract says, each definition with its module's name before it."""
     file, given = promise.function.file, [name for name, _ in promise.function.parameters]
     text = promise.said if promise.form in ("equation", "part") else f"{promise.form} {promise.said}"
-    text = re.sub(r"\((" + ENTRY.pattern + r")\)", r"\1", text)
-    text = ENTRY.sub(r"\1", text)
+    text = re.sub(r"(?<![\w.])(\w+)\.(?:now|old)(?!\w)", r"\1", text)
 
     def named(match):
         word, alias = match.group(), match.group().split(".")[0]
-        if word not in given and word in file.names and file.names[word].startswith("Rattle·"):
+        if word not in given and word in file.names and file.names[word].startswith("Rattle.") and not file.names[word].startswith("Rattle.std."):
             return f"{file.names[word].rpartition('.')[2]}.{word}"
         if "." in word[1:] and alias in file.aliases:
             return file.aliases[alias].rpartition(".")[2] + word[len(alias):]

@@ -1,29 +1,29 @@
 """The files of antt that are made of the promises of a crate."""
 import re
 
-from promising.contract import RELATIONS, antt_type, arguments, atom, kebab
+from promising.contract import RELATIONS, antt_type, arguments, atom
 from promising.source import Unfit, crates
 
 WIDTH = 140
 MADE = "-- tools/promises makes this file from the contracts, and the gate holds it to them.\n"
-GROUPS = ("mathlib", "Prim", "native", "lib", "contract", "denote", "Rattle")
+GROUPS = ("Rattle.std", "contract", "Rattle")
 BASE = {
-    "ℕ": "Prim.Native.Nat",
-    "Bool": "mathlib.Core.Bool",
-    "List": "mathlib.Core.List",
+    "ℕ": "Rattle.std.specs.Prelude",
+    "Bool": "Rattle.std.specs.Prelude",
+    "List": "Rattle.std.specs.Prelude",
+    "◌≡◌": "Rattle.std.specs.Prelude",
+    "refl": "Rattle.std.specs.Prelude",
     "Lfts": "contract.Lifetimes",
-    "RefT": "denote.Ref",
-    "now": "denote.Ref",
-    "_≡_": "mathlib.Core.Path",
-    "refl": "mathlib.Core.Path",
-    "ExactlyOne": "Rattle·basis.specs.Unique",
-    "equation": "Rattle·basis.proofs.Unique",
-    "part": "Rattle·basis.proofs.Unique",
-    "both": "Rattle·basis.proofs.Unique",
-    "left-with": "Rattle·text.specs.Written",
+    "Bor": "Rattle.std.specs.Borrow",
+    "MutBor": "Rattle.std.specs.Borrow",
+    "ExactlyOne": "Rattle.basis.specs.Unique",
+    "equation": "Rattle.basis.proofs.Unique",
+    "part": "Rattle.basis.proofs.Unique",
+    "both": "Rattle.basis.proofs.Unique",
+    "left_with": "Rattle.text.specs.Written",
 }
-PROVES = {"equation": "answered", "part": "part-answered", "Put": "buffer-answered", "Paged": "page-answered",
-          "Writes": "line-answered"}
+PROVES = {"equation": "answered", "part": "part_answered", "Put": "buffer_answered", "Paged": "page_answered",
+          "Writes": "line_answered"}
 
 
 class Uses:
@@ -33,30 +33,21 @@ class Uses:
         self.crate, self.order = crate, crates()
         self.names, self.aliases = {}, {}
 
-    def module(self, path):
-        """A module's path, as a file of this crate names it: one way for its own modules, another for those of other crates."""
-        parts = re.fullmatch(r"Rattle·(\w+)(?:·\w+)?\.(?:specs\.specs|proofs\.proofs|(specs|proofs))\.(.*)", path)
-        if not parts:
-            return path
-        side = parts.group(2) or ("specs" if ".specs.specs." in path else "proofs")
-        crate, rest = parts.group(1), parts.group(3)
-        return f"Rattle·{crate}·{side}.{side}.{rest}" if crate == self.crate else f"Rattle·{crate}.{side}.{rest}"
-
     def name(self, path, name):
-        rows = self.names.setdefault(self.module(path), [])
+        rows = self.names.setdefault(path, [])
         if name not in rows:
             rows.append(name)
         if sum(name in names for names in self.names.values()) > 1:
             raise Unfit(f"{name} is brought in from two modules")
 
     def alias(self, path, alias):
-        self.aliases[self.module(path)] = alias
+        self.aliases[path] = alias
 
     def text(self, body):
         """The lines, with the names of every file that the body cites."""
         words = set(re.findall(r"[^\s(){};,.]+", body))
         for name, path in BASE.items():
-            if name in words or name.strip("_") in words:
+            if name in words or name.strip("◌") in words:
                 self.name(path, name)
         rows = {path: path + ".{" + ", ".join(sorted(names, key=self.rank)) + "}" for path, names in self.names.items()}
         rows.update({path: f"{path} as {alias}" for path, alias in self.aliases.items()})
@@ -64,20 +55,20 @@ class Uses:
 
     @staticmethod
     def rank(name):
-        return (name != "ℕ", name.startswith("_"), name)
+        return (name != "ℕ", name.startswith("◌"), name)
 
     def place(self, path):
         """Libraries first; then crate by crate, types before definitions before proofs."""
-        crate = re.match(r"Rattle·(\w+)", path)
-        group = GROUPS.index(re.match(r"\w+", path).group())
-        return (group, self.order.index(crate.group(1)) if crate else 0, ".proofs." in path, ".declared." not in path, path)
+        group = next(i for i, name in enumerate(GROUPS) if path.startswith(name + "."))
+        crate = path.split(".")[1]
+        return (group, self.order.index(crate) if crate in self.order else 0, ".proofs." in path, ".declared." not in path, path)
 
 
 def theorem(promise, promises):
     """The name of a function's uniqueness theorem, and of its line."""
     f = promise.function
     alone = [p.function.name for p in promises].count(f.name) == 1
-    return kebab(f.name if alone else f"{f.owner}_{f.name}".lower()) + "-one"
+    return (f.name if alone else f"{f.owner}_{f.name}".lower()) + "_one"
 
 
 def binders(promise, uses):
@@ -88,9 +79,9 @@ def binders(promise, uses):
         for path, one in brought:
             uses.name(path, one)
         if rows and rows[-1][1] == said:
-            rows[-1][0].append(kebab(name))
+            rows[-1][0].append(name)
         else:
-            rows.append(([kebab(name)], said))
+            rows.append(([name], said))
     if f.lifetimes:
         rows.insert(0, (["κs"], f"Lfts {f.lifetimes}"))
     return " ".join(f"({' '.join(names)} : {said})" for names, said in rows), [name for names, _ in rows for name in names]
@@ -102,7 +93,7 @@ def tupled(names):
 
 def at_exit(promise, bytes_):
     """The arguments, where the buffer is left with other bytes."""
-    names = [f"left-with {kebab(name)} {bytes_}" if name == promise.buffer else kebab(name) for name, _ in promise.function.parameters]
+    names = [f"left_with {name} {bytes_}" if name == promise.buffer else name for name, _ in promise.function.parameters]
     return tupled(names)
 
 
@@ -141,18 +132,18 @@ def stated(name, bound, rows, indent):
 def unique_theorem(promise, promises, uses):
     """A function's uniqueness theorem, over its own contract."""
     f, name = promise.function, theorem(promise, promises)
-    short = name[: -len("-one")] + "'"
+    short = name[: -len("_one")] + "'"
     bound, names = binders(promise, uses)
-    uses.alias(f"Rattle·{f.crate}.proofs.{f.place()}.Reads", short)
+    uses.alias(f"Rattle.{f.crate}.proofs.{f.place()}.Reads", short)
     result, brought = antt_type(f, f.result)
-    lifetimes, given = "κs" if f.lifetimes else "tt", tupled([kebab(name) for name, _ in f.parameters])
+    lifetimes, given = "κs" if f.lifetimes else "tt", tupled([name for name, _ in f.parameters])
     post = [f"{short}.Post", lifetimes, given]
     if promise.form == "part":
-        said = [f"(λ (v : List ℕ). (r : {result}) → now r ≡ v →"] + post + ["r", given + ")"]
+        said = [f"(λ (v : List ℕ). (r : {result}) → r.now ≡ v →"] + post + ["r", given + ")"]
         rows, proof = [["ExactlyOne (List ℕ)"], said], ["part", names[1], atom(promise.terms[0])]
     elif promise.form in RELATIONS:
         pair = f"{atom(result)} × List ℕ"
-        said = [f"(λ (r : {pair})."] + post + ["(r .0)", at_exit(promise, "(r .1)") + ")"]
+        said = [f"(λ (r : {pair})."] + post + ["r.0", at_exit(promise, "r.1") + ")"]
         rows, proof = [[f"ExactlyOne ({pair})"], said], ["both", "_", "_"]
     else:
         said = [f"(λ (r : {result})."] + post + ["r", given + ")"]
@@ -186,13 +177,15 @@ def cite(promise, uses):
 def line(promise, promises, uses):
     """A function's line of demand 1."""
     f, name = promise.function, theorem(promise, promises)
-    short = name[: -len("-one")] + "'"
+    short = name[: -len("_one")] + "'"
     bound, _ = binders(promise, uses)
-    uses.alias(f"Rattle·{f.crate}.proofs.{f.place()}", short)
-    lifetimes, given = "κs" if f.lifetimes else "tt", tupled([kebab(name) for name, _ in f.parameters])
+    reads = name[: -len("_one")] + "_reads"
+    uses.alias(f"Rattle.{f.crate}.specs.contracts.{f.place()}", short)
+    uses.alias(f"Rattle.{f.crate}.proofs.{f.place()}.Reads", reads)
+    lifetimes, given = "κs" if f.lifetimes else "tt", tupled([name for name, _ in f.parameters])
     says = {"equation": "Answers", "part": "PartAnswers"}.get(promise.form) or RELATIONS[promise.form]
-    uses.name("Rattle·acceptance.specs.Promised", says)
-    over = [says, f"{short}.signature", lifetimes, f"({short}.Reads.Pre {lifetimes})", f"({short}.Reads.Post {lifetimes})"]
+    uses.name("Rattle.acceptance.specs.Promised", says)
+    over = [says, f"{short}.signature", lifetimes, f"({reads}.Pre {lifetimes})", f"({reads}.Post {lifetimes})"]
     left = [f"(λ bytes. {at_exit(promise, 'bytes')})"] if promise.buffer else []
     return stated(name, bound, [over, [given] + left + promise.lasts()], "  ")
 
@@ -215,14 +208,14 @@ def line_file(crate, promises):
 def proof_file(crate, promises):
     """And in the proof."""
     uses, body = Uses("acceptance"), ""
-    uses.alias(f"Rattle·{crate}.proofs.Unique", "unique")
-    uses.name(f"Rattle·acceptance.specs.Promises.{crate}", "Promises")
+    uses.alias(f"Rattle.{crate}.proofs.Unique", "unique")
+    uses.name(f"Rattle.acceptance.specs.Promises.{crate}", "Promises")
     for promise in promises:
         name, (_, names) = theorem(promise, promises), binders(promise, Uses("acceptance"))
         given = " ".join([f"unique.{name}"] + names)
         some = [names[1]] if promise.form == "part" else []
         proves = PROVES[promise.form]
-        uses.name("Rattle·acceptance.proofs.Promised", proves)
+        uses.name("Rattle.acceptance.proofs.Promised", proves)
         lead = [f"λ {' '.join(names)}."] if names else []
         same = ["(λ r m. m)"] if promise.form == "part" else ["(λ m. m)"]
         proof = lead + [proves, "tt", f"({given})"] + some + same + ["refl;"]
@@ -235,8 +228,8 @@ def proof_file(crate, promises):
 def all_lines(names):
     """What collects the crates' lines, in the statement."""
     mods = "".join(f"pub mod {name}\n" for name in names)
-    uses = "".join(f"use Rattle·acceptance·specs.specs.Promises.{name} as {kebab(name)}'\n" for name in names)
-    fields = "".join(f"  pub {kebab(name)} : {kebab(name)}'.Promises\n" for name in names)
+    uses = "".join(f"use Rattle.acceptance.specs.Promises.{name} as {name}'\n" for name in names)
+    fields = "".join(f"  pub {name} : {name}'.Promises\n" for name in names)
     head = f"-- Demand 1, crate by crate, in the order of crates.txt.\n{MADE}"
     return f"{head}{uses}{mods}\npub record EachCrate : Type 0 where\n{fields}"
 
@@ -244,8 +237,8 @@ def all_lines(names):
 def all_proofs(names):
     """And in the proof."""
     mods = "".join(f"pub mod {name}\n" for name in names)
-    uses = "use Rattle·acceptance·specs.specs.Promises.{EachCrate}\n"
-    uses += "".join(f"use Rattle·acceptance·proofs.proofs.Promises.{name} as {kebab(name)}'\n" for name in names)
-    fields = "".join(f"      {kebab(name)} = {kebab(name)}'.promises;\n" for name in names)
+    uses = "use Rattle.acceptance.specs.Promises.{EachCrate}\n"
+    uses += "".join(f"use Rattle.acceptance.proofs.Promises.{name} as {name}'\n" for name in names)
+    fields = "".join(f"      {name} = {name}'.promises;\n" for name in names)
     head = f"-- The lines of demand 1, crate by crate.\n{MADE}"
-    return f"{head}{uses}{mods}\npub each-crate : EachCrate\neach-crate =\n    record {{\n{fields}    }}\n"
+    return f"{head}{uses}{mods}\npub each_crate : EachCrate\neach_crate =\n    record {{\n{fields}    }}\n"

@@ -9,9 +9,9 @@ BESIDE = {"witness", "counted"}
 # They call the system, whose answers no equation can promise: their functions have neither uniqueness nor a line of demand 1.
 SYSTEM = {"streams"}
 NUMBERS = {"u8", "u16", "u32", "u64", "usize"}
-HEAD = re.compile(r'^( *)(?:#\[no_mangle\]\s*)?pub\s+(?:extern\s+"C"\s+)?fn\s+(\w+)\s*', re.M)
+HEAD = re.compile(r'^( *)(?:#\[unsafe\(no_mangle\)\]\s*)?pub\s+(?:extern\s+"C"\s+)?fn\s+(\w+)\s*', re.M)
 PARAMETER = re.compile(r"(?:mut\s+)?(\w+)\s*:\s*(.*)", re.S)
-CLAUSE = re.compile(r"\s*(ensures|requires)\s*([\w-]*)\s*\{")
+CLAUSE = re.compile(r"\s*(ensures|requires)\s*(\w*)\s*\{")
 GHOST = re.compile(r"^ghost use ([^;{]*?)(?:\.\{([^}]*)\}| as (\S+))\s*;", re.M)
 CLOSES = {"(": ")", "{": "}", "[": "]"}
 

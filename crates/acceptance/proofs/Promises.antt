@@ -99,6 +99,6 @@ each_crate =
       packet_answer = packet_answer'.promises;
       bundle = bundle'.promises;
       report = report'.promises;
-      packet_line_lem = packet_line'.promises;
+      packet_line = packet_line'.promises;
       gateway = gateway'.promises;
     }

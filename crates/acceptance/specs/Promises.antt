@@ -96,5 +96,5 @@ pub record EachCrate : Type 0 where
   pub packet_answer : packet_answer'.Promises
   pub bundle : bundle'.Promises
   pub report : report'.Promises
-  pub packet_line_lem : packet_line'.Promises
+  pub packet_line : packet_line'.Promises
   pub gateway : gateway'.Promises

@@ -1,10 +1,8 @@
 -- Exactly one result meets each public function's own contract.
 -- tools/promises makes this file from the contracts, and the gate holds it to them.
-use mathlib.Core.List.{List}
-use Prim.Native.Nat.{ℕ}
-use lib.ListN.{length}
+use Rattle.std.specs.Borrow.{MutBor}
+use Rattle.std.specs.Prelude.{ℕ, List, length}
 use contract.Lifetimes.{Lfts}
-use denote.Ref.{Bor}
 use Rattle.basis.specs.Unique.{ExactlyOne}
 use Rattle.basis.proofs.Unique.{both, equation}
 use Rattle.text.specs.Written.{left_with}
@@ -56,49 +54,47 @@ pub quirk_length_one : (quirk : Quirk) → ExactlyOne ℕ (λ (r : ℕ). quirk_l
 quirk_length_one quirk = equation (length (spelt words.quirk_word (said (bit_of quirk) 0)))
 
 pub put_version_one
-    : (κs : Lfts 1) (buffer : Bor (List ℕ)) (at : ℕ) (version : SigVersion)
+    : (κs : Lfts 1) (buffer : MutBor (List ℕ)) (at : ℕ) (version : SigVersion)
     → ExactlyOne (ℕ × List ℕ)
     (λ (r : ℕ × List ℕ). put_version'.Post κs (buffer, (at, (version, tt))) r.0 (left_with buffer r.1, (at, (version, tt))))
 put_version_one κs buffer at version = both _ _
 
 pub put_ttl_one
-    : (κs : Lfts 1) (buffer : Bor (List ℕ)) (at : ℕ) (ttl : Ttl)
-    → ExactlyOne (ℕ × List ℕ)
-    (λ (r : ℕ × List ℕ). put_ttl'.Post κs (buffer, (at, (ttl, tt))) r.0 (left_with buffer r.1, (at, (ttl, tt))))
+    : (κs : Lfts 1) (buffer : MutBor (List ℕ)) (at : ℕ) (ttl : Ttl)
+    → ExactlyOne (ℕ × List ℕ) (λ (r : ℕ × List ℕ). put_ttl'.Post κs (buffer, (at, (ttl, tt))) r.0 (left_with buffer r.1, (at, (ttl, tt))))
 put_ttl_one κs buffer at ttl = both _ _
 
 pub put_mss_one
-    : (κs : Lfts 1) (buffer : Bor (List ℕ)) (at : ℕ) (mss : Mss)
-    → ExactlyOne (ℕ × List ℕ)
-    (λ (r : ℕ × List ℕ). put_mss'.Post κs (buffer, (at, (mss, tt))) r.0 (left_with buffer r.1, (at, (mss, tt))))
+    : (κs : Lfts 1) (buffer : MutBor (List ℕ)) (at : ℕ) (mss : Mss)
+    → ExactlyOne (ℕ × List ℕ) (λ (r : ℕ × List ℕ). put_mss'.Post κs (buffer, (at, (mss, tt))) r.0 (left_with buffer r.1, (at, (mss, tt))))
 put_mss_one κs buffer at mss = both _ _
 
 pub put_wscale_one
-    : (κs : Lfts 1) (buffer : Bor (List ℕ)) (at : ℕ) (wscale : Wscale)
+    : (κs : Lfts 1) (buffer : MutBor (List ℕ)) (at : ℕ) (wscale : Wscale)
     → ExactlyOne (ℕ × List ℕ)
     (λ (r : ℕ × List ℕ). put_wscale'.Post κs (buffer, (at, (wscale, tt))) r.0 (left_with buffer r.1, (at, (wscale, tt))))
 put_wscale_one κs buffer at wscale = both _ _
 
 pub put_window_one
-    : (κs : Lfts 1) (buffer : Bor (List ℕ)) (at : ℕ) (wsize : WindowSize)
+    : (κs : Lfts 1) (buffer : MutBor (List ℕ)) (at : ℕ) (wsize : WindowSize)
     → ExactlyOne (ℕ × List ℕ)
     (λ (r : ℕ × List ℕ). put_window'.Post κs (buffer, (at, (wsize, tt))) r.0 (left_with buffer r.1, (at, (wsize, tt))))
 put_window_one κs buffer at wsize = both _ _
 
 pub put_option_one
-    : (κs : Lfts 1) (buffer : Bor (List ℕ)) (at kind byte : ℕ)
+    : (κs : Lfts 1) (buffer : MutBor (List ℕ)) (at kind byte : ℕ)
     → ExactlyOne (ℕ × List ℕ)
     (λ (r : ℕ × List ℕ). put_option'.Post κs (buffer, (at, (kind, (byte, tt)))) r.0 (left_with buffer r.1, (at, (kind, (byte, tt)))))
 put_option_one κs buffer at kind byte = both _ _
 
 pub put_quirk_one
-    : (κs : Lfts 1) (buffer : Bor (List ℕ)) (at : ℕ) (quirk : Quirk)
+    : (κs : Lfts 1) (buffer : MutBor (List ℕ)) (at : ℕ) (quirk : Quirk)
     → ExactlyOne (ℕ × List ℕ)
     (λ (r : ℕ × List ℕ). put_quirk'.Post κs (buffer, (at, (quirk, tt))) r.0 (left_with buffer r.1, (at, (quirk, tt))))
 put_quirk_one κs buffer at quirk = both _ _
 
 pub put_payload_one
-    : (κs : Lfts 1) (buffer : Bor (List ℕ)) (at : ℕ) (payload : SigPayload)
+    : (κs : Lfts 1) (buffer : MutBor (List ℕ)) (at : ℕ) (payload : SigPayload)
     → ExactlyOne (ℕ × List ℕ)
     (λ (r : ℕ × List ℕ). put_payload'.Post κs (buffer, (at, (payload, tt))) r.0 (left_with buffer r.1, (at, (payload, tt))))
 put_payload_one κs buffer at payload = both _ _

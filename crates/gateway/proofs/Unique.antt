@@ -1,9 +1,8 @@
 -- Exactly one result meets each public function's own contract.
 -- tools/promises makes this file from the contracts, and the gate holds it to them.
-use mathlib.Core.List.{List}
-use Prim.Native.Nat.{ℕ}
+use Rattle.std.specs.Borrow.{Bor, MutBor}
+use Rattle.std.specs.Prelude.{ℕ, List}
 use contract.Lifetimes.{Lfts}
-use denote.Ref.{Bor}
 use Rattle.basis.specs.Unique.{ExactlyOne}
 use Rattle.basis.proofs.Unique.{both, equation}
 use Rattle.text.specs.Written.{left_with}
@@ -55,28 +54,28 @@ pub termread_answer_in_one
 termread_answer_in_one κs packet peer list bits = equation (parts_of (gateway_in (mode_of bits) packet.now peer list.now))
 
 pub termread_raw_line_one
-    : (κs : Lfts 2) (buffer packet : Bor (List ℕ)) (peer : ℕ)
+    : (κs : Lfts 2) (buffer : MutBor (List ℕ)) (packet : Bor (List ℕ)) (peer : ℕ)
     → ExactlyOne (TermreadResult × List ℕ)
     (λ (r : TermreadResult × List ℕ). termread_raw_line'.Post κs (buffer, (packet, (peer, tt))) r.0
     (left_with buffer r.1, (packet, (peer, tt))))
 termread_raw_line_one κs buffer packet peer = both _ _
 
 pub termread_raw_line_in_one
-    : (κs : Lfts 2) (buffer packet : Bor (List ℕ)) (peer bits : ℕ)
+    : (κs : Lfts 2) (buffer : MutBor (List ℕ)) (packet : Bor (List ℕ)) (peer bits : ℕ)
     → ExactlyOne (TermreadResult × List ℕ)
     (λ (r : TermreadResult × List ℕ). termread_raw_line_in'.Post κs (buffer, (packet, (peer, (bits, tt)))) r.0
     (left_with buffer r.1, (packet, (peer, (bits, tt)))))
 termread_raw_line_in_one κs buffer packet peer bits = both _ _
 
 pub termread_record_line_one
-    : (κs : Lfts 2) (buffer list : Bor (List ℕ)) (index : ℕ)
+    : (κs : Lfts 2) (buffer : MutBor (List ℕ)) (list : Bor (List ℕ)) (index : ℕ)
     → ExactlyOne (TermreadResult × List ℕ)
     (λ (r : TermreadResult × List ℕ). termread_record_line'.Post κs (buffer, (list, (index, tt))) r.0
     (left_with buffer r.1, (list, (index, tt))))
 termread_record_line_one κs buffer list index = both _ _
 
 pub termread_compile_list_one
-    : (κs : Lfts 2) (buffer file : Bor (List ℕ))
+    : (κs : Lfts 2) (buffer : MutBor (List ℕ)) (file : Bor (List ℕ))
     → ExactlyOne (TermreadCompiled × List ℕ)
     (λ (r : TermreadCompiled × List ℕ). termread_compile_list'.Post κs (buffer, (file, tt)) r.0 (left_with buffer r.1, (file, tt)))
 termread_compile_list_one κs buffer file = both _ _

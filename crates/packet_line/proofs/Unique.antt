@@ -1,9 +1,8 @@
 -- Exactly one result meets each public function's own contract.
 -- tools/promises makes this file from the contracts, and the gate holds it to them.
-use mathlib.Core.List.{List}
-use Prim.Native.Nat.{ℕ}
+use Rattle.std.specs.Borrow.{Bor, MutBor}
+use Rattle.std.specs.Prelude.{ℕ, List}
 use contract.Lifetimes.{Lfts}
-use denote.Ref.{Bor}
 use Rattle.basis.specs.Unique.{ExactlyOne}
 use Rattle.basis.proofs.Unique.{both, equation}
 use Rattle.text.specs.Written.{left_with}
@@ -14,7 +13,7 @@ use Rattle.packet_line.proofs.put_packet.Reads as put_packet'
 use Rattle.packet_line.proofs.reading_at.Reads as reading_at'
 
 pub put_packet_one
-    : (κs : Lfts 1) (buffer : Bor (List ℕ)) (at : ℕ) (answer : PacketAnswer) (reading : Reading)
+    : (κs : Lfts 1) (buffer : MutBor (List ℕ)) (at : ℕ) (answer : PacketAnswer) (reading : Reading)
     → ExactlyOne (ℕ × List ℕ)
     (λ (r : ℕ × List ℕ). put_packet'.Post κs (buffer, (at, (answer, (reading, tt)))) r.0
     (left_with buffer r.1, (at, (answer, (reading, tt)))))

@@ -1,11 +1,8 @@
 -- Exactly one result meets each public function's own contract.
 -- tools/promises makes this file from the contracts, and the gate holds it to them.
-use mathlib.Core.Bool.{Bool}
-use mathlib.Core.List.{List}
-use mathlib.Core.Path.{◌≡◌}
-use Prim.Native.Nat.{ℕ}
+use Rattle.std.specs.Borrow.{Bor}
+use Rattle.std.specs.Prelude.{ℕ, Bool, List, ◌≡◌}
 use contract.Lifetimes.{Lfts}
-use denote.Ref.{Bor}
 use Rattle.basis.specs.Unique.{ExactlyOne}
 use Rattle.basis.proofs.Unique.{equation, part}
 use Rattle.siglist.specs.declared.Areas.{Areas}
@@ -17,9 +14,7 @@ use Rattle.siglist.proofs.entries_lie.Reads as entries_lie'
 use Rattle.siglist.proofs.read_header.Reads as read_header'
 use Rattle.siglist.proofs.record_at.Reads as record_at'
 
-pub read_header_one
-    : (κs : Lfts 1) (list : Bor (List ℕ))
-    → ExactlyOne Header (λ (r : Header). read_header'.Post κs (list, tt) r (list, tt))
+pub read_header_one : (κs : Lfts 1) (list : Bor (List ℕ)) → ExactlyOne Header (λ (r : Header). read_header'.Post κs (list, tt) r (list, tt))
 read_header_one κs list = equation (header_of list.now)
 
 pub record_at_one

@@ -1,11 +1,8 @@
 -- Exactly one result meets each public function's own contract.
 -- tools/promises makes this file from the contracts, and the gate holds it to them.
-use mathlib.Core.Bool.{Bool}
-use mathlib.Core.List.{List}
-use Prim.Native.Nat.{ℕ, ◌/◌}
-use lib.ListN.{length}
+use Rattle.std.specs.Borrow.{Bor}
+use Rattle.std.specs.Prelude.{ℕ, Bool, List, length, ◌/◌}
 use contract.Lifetimes.{Lfts}
-use denote.Ref.{Bor}
 use Rattle.basis.specs.Bytes.{be32}
 use Rattle.basis.specs.Unique.{ExactlyOne}
 use Rattle.basis.proofs.Unique.{equation}
@@ -39,24 +36,24 @@ use Rattle.sigrecord.proofs.window_of.Reads as window_of'
 pub version_of_one
     : (κs : Lfts 1) (raw : Bor (List ℕ))
     → ExactlyOne SigVersion (λ (r : SigVersion). version_of'.Post κs (raw, tt) r (raw, tt))
-version_of_one κs raw = equation (signature_of raw.now).version
+version_of_one κs raw = equation ((signature_of raw.now).version)
 
 pub ttl_of_one : (κs : Lfts 1) (raw : Bor (List ℕ)) → ExactlyOne Ttl (λ (r : Ttl). ttl_of'.Post κs (raw, tt) r (raw, tt))
-ttl_of_one κs raw = equation (signature_of raw.now).ittl
+ttl_of_one κs raw = equation ((signature_of raw.now).ittl)
 
 pub mss_of_one : (κs : Lfts 1) (raw : Bor (List ℕ)) → ExactlyOne Mss (λ (r : Mss). mss_of'.Post κs (raw, tt) r (raw, tt))
-mss_of_one κs raw = equation (signature_of raw.now).mss
+mss_of_one κs raw = equation ((signature_of raw.now).mss)
 
 pub window_of_one
     : (κs : Lfts 1) (raw : Bor (List ℕ))
     → ExactlyOne WindowSize (λ (r : WindowSize). window_of'.Post κs (raw, tt) r (raw, tt))
-window_of_one κs raw = equation (signature_of raw.now).wsize
+window_of_one κs raw = equation ((signature_of raw.now).wsize)
 
 pub scale_of_one : (κs : Lfts 1) (raw : Bor (List ℕ)) → ExactlyOne Wscale (λ (r : Wscale). scale_of'.Post κs (raw, tt) r (raw, tt))
-scale_of_one κs raw = equation (signature_of raw.now).wscale
+scale_of_one κs raw = equation ((signature_of raw.now).wscale)
 
 pub quirks_of_one : (κs : Lfts 1) (raw : Bor (List ℕ)) → ExactlyOne QuirkSet (λ (r : QuirkSet). quirks_of'.Post κs (raw, tt) r (raw, tt))
-quirks_of_one κs raw = equation (signature_of raw.now).quirks
+quirks_of_one κs raw = equation ((signature_of raw.now).quirks)
 
 pub signature_of_one
     : (κs : Lfts 1) (raw : Bor (List ℕ))

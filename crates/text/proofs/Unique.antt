@@ -1,10 +1,8 @@
 -- Exactly one result meets each public function's own contract.
 -- tools/promises makes this file from the contracts, and the gate holds it to them.
-use mathlib.Core.List.{List}
-use Prim.Native.Nat.{ℕ}
-use lib.ListN.{length}
-use contract.Lifetimes.{Lfts}
 use Rattle.std.specs.Borrow.{Bor, MutBor}
+use Rattle.std.specs.Prelude.{ℕ, List, length}
+use contract.Lifetimes.{Lfts}
 use Rattle.basis.specs.Unique.{ExactlyOne}
 use Rattle.basis.proofs.Unique.{both, equation}
 use Rattle.text.specs.Decimal.{decimal}
@@ -28,8 +26,7 @@ put_word_one κs buffer at word = both _ _
 
 pub put_decimal_one
     : (κs : Lfts 1) (buffer : MutBor (List ℕ)) (at n : ℕ)
-    → ExactlyOne (ℕ × List ℕ)
-    (λ (r : ℕ × List ℕ). put_decimal'.Post κs (buffer, (at, (n, tt))) r.0 (left_with buffer r.1, (at, (n, tt))))
+    → ExactlyOne (ℕ × List ℕ) (λ (r : ℕ × List ℕ). put_decimal'.Post κs (buffer, (at, (n, tt))) r.0 (left_with buffer r.1, (at, (n, tt))))
 put_decimal_one κs buffer at n = both _ _
 
 pub decimal_length_one : (n : ℕ) → ExactlyOne ℕ (λ (r : ℕ). decimal_length'.Post tt (n, tt) r (n, tt))

@@ -1,7 +1,6 @@
 -- Exactly one result meets each public function's own contract.
 -- tools/promises makes this file from the contracts, and the gate holds it to them.
-use mathlib.Core.List.{List}
-use Prim.Native.Nat.{ℕ}
+use Rattle.std.specs.Prelude.{ℕ, List}
 use Rattle.basis.specs.Unique.{ExactlyOne}
 use Rattle.basis.proofs.Unique.{equation}
 use Rattle.ttl.specs.declared.Ttl.{Ttl}
@@ -34,5 +33,5 @@ ttl_entry_one ttl = equation (entry_of ttl)
 pub guess_distance_one : (ttl : ℕ) → ExactlyOne ℕ (λ (r : ℕ). guess_distance'.Post tt (ttl, tt) r (ttl, tt))
 guess_distance_one ttl = equation (guess_of ttl)
 
-pub calculate_ttl_one : (ttl-observed : ℕ) → ExactlyOne Ttl (λ (r : Ttl). calculate_ttl'.Post tt (ttl-observed, tt) r (ttl-observed, tt))
-calculate_ttl_one ttl-observed = equation (reading_of ttl-observed)
+pub calculate_ttl_one : (ttl_observed : ℕ) → ExactlyOne Ttl (λ (r : Ttl). calculate_ttl'.Post tt (ttl_observed, tt) r (ttl_observed, tt))
+calculate_ttl_one ttl_observed = equation (reading_of ttl_observed)

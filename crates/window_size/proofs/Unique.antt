@@ -1,7 +1,6 @@
 -- Exactly one result meets each public function's own contract.
 -- tools/promises makes this file from the contracts, and the gate holds it to them.
-use mathlib.Core.Bool.{Bool}
-use Prim.Native.Nat.{ℕ}
+use Rattle.std.specs.Prelude.{ℕ, Bool}
 use Rattle.basis.specs.Unique.{ExactlyOne}
 use Rattle.basis.proofs.Unique.{equation}
 use Rattle.tcp.specs.declared.IpVersion.{IpVersion}
@@ -18,9 +17,9 @@ pub stamp_may_decide_one
 stamp_may_decide_one wsize mss = equation (stamp_may_decide wsize mss)
 
 pub detect_win_multi_one
-    : (wsize : ℕ) (mss : Mss) (tot_hdr : ℕ) (own-timestamp-is-nonzero : Bool) (version : IpVersion) (peer_mss : Mss)
+    : (wsize : ℕ) (mss : Mss) (tot_hdr : ℕ) (own_timestamp_is_nonzero : Bool) (version : IpVersion) (peer_mss : Mss)
     → ExactlyOne Multiplier
-    (λ (r : Multiplier). detect_win_multi'.Post tt (wsize, (mss, (tot_hdr, (own-timestamp-is-nonzero, (version, (peer_mss, tt)))))) r
-    (wsize, (mss, (tot_hdr, (own-timestamp-is-nonzero, (version, (peer_mss, tt)))))))
-detect_win_multi_one wsize mss tot_hdr own-timestamp-is-nonzero version peer_mss =
-    equation (multiplier_of wsize mss tot_hdr own-timestamp-is-nonzero version peer_mss)
+    (λ (r : Multiplier). detect_win_multi'.Post tt (wsize, (mss, (tot_hdr, (own_timestamp_is_nonzero, (version, (peer_mss, tt)))))) r
+    (wsize, (mss, (tot_hdr, (own_timestamp_is_nonzero, (version, (peer_mss, tt)))))))
+detect_win_multi_one wsize mss tot_hdr own_timestamp_is_nonzero version peer_mss =
+    equation (multiplier_of wsize mss tot_hdr own_timestamp_is_nonzero version peer_mss)

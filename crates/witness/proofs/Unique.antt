@@ -1,10 +1,8 @@
 -- Exactly one result meets each public function's own contract.
 -- tools/promises makes this file from the contracts, and the gate holds it to them.
-use mathlib.Core.Bool.{Bool}
-use mathlib.Core.List.{List}
-use Prim.Native.Nat.{ℕ}
+use Rattle.std.specs.Borrow.{Bor, MutBor}
+use Rattle.std.specs.Prelude.{ℕ, Bool, List}
 use contract.Lifetimes.{Lfts}
-use denote.Ref.{Bor}
 use Rattle.basis.specs.Unique.{ExactlyOne}
 use Rattle.basis.proofs.Unique.{both, equation}
 use Rattle.text.specs.Written.{left_with}
@@ -59,16 +57,15 @@ pub witness_line_one
 witness_line_one κs line = equation (line_read line.now)
 
 pub witness_raw_one
-    : (κs : Lfts 1) (buffer : Bor (List ℕ)) (observation : PlainObservation)
+    : (κs : Lfts 1) (buffer : MutBor (List ℕ)) (observation : PlainObservation)
     → ExactlyOne (PlainWrote × List ℕ)
     (λ (r : PlainWrote × List ℕ). witness_raw'.Post κs (buffer, (observation, tt)) r.0 (left_with buffer r.1, (observation, tt)))
 witness_raw_one κs buffer observation = both _ _
 
 pub witness_record_one
-    : (κs : Lfts 2) (buffer list : Bor (List ℕ)) (index : ℕ)
+    : (κs : Lfts 2) (buffer : MutBor (List ℕ)) (list : Bor (List ℕ)) (index : ℕ)
     → ExactlyOne (PlainWrote × List ℕ)
-    (λ (r : PlainWrote × List ℕ). witness_record'.Post κs (buffer, (list, (index, tt))) r.0
-    (left_with buffer r.1, (list, (index, tt))))
+    (λ (r : PlainWrote × List ℕ). witness_record'.Post κs (buffer, (list, (index, tt))) r.0 (left_with buffer r.1, (list, (index, tt))))
 witness_record_one κs buffer list index = both _ _
 
 pub witness_search_one
@@ -83,14 +80,14 @@ pub witness_hops_one : (κs : Lfts 1) (ttls : Bor (List ℕ)) → ExactlyOne ℕ
 witness_hops_one κs ttls = equation (hops_read ttls.now)
 
 pub witness_first_page_one
-    : (κs : Lfts 2) (bundle page : Bor (List ℕ)) (bits : ℕ)
+    : (κs : Lfts 2) (bundle : Bor (List ℕ)) (page : MutBor (List ℕ)) (bits : ℕ)
     → ExactlyOne (PlainProgress × List ℕ)
     (λ (r : PlainProgress × List ℕ). witness_first_page'.Post κs (bundle, (page, (bits, tt))) r.0
     (bundle, (left_with page r.1, (bits, tt))))
 witness_first_page_one κs bundle page bits = both _ _
 
 pub witness_next_page_one
-    : (κs : Lfts 2) (bundle : Bor (List ℕ)) (progress : PlainProgress) (page : Bor (List ℕ)) (bits : ℕ)
+    : (κs : Lfts 2) (bundle : Bor (List ℕ)) (progress : PlainProgress) (page : MutBor (List ℕ)) (bits : ℕ)
     → ExactlyOne (PlainProgress × List ℕ)
     (λ (r : PlainProgress × List ℕ). witness_next_page'.Post κs (bundle, (progress, (page, (bits, tt)))) r.0
     (bundle, (progress, (left_with page r.1, (bits, tt)))))

@@ -1,6 +1,6 @@
 -- The lines of file_writer, by its uniqueness theorems.
 -- tools/promises makes this file from the contracts, and the gate holds it to them.
-use mathlib.Core.Path.{refl}
+use Rattle.std.specs.Prelude.{refl}
 use Rattle.file_writer.proofs.Unique as unique
 use Rattle.acceptance.specs.Promises.file_writer.{Promises}
 use Rattle.acceptance.proofs.Promised.{buffer_answered, line_answered}

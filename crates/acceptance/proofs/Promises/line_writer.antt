@@ -1,6 +1,6 @@
 -- The lines of line_writer, by its uniqueness theorems.
 -- tools/promises makes this file from the contracts, and the gate holds it to them.
-use mathlib.Core.Path.{refl}
+use Rattle.std.specs.Prelude.{refl}
 use Rattle.line_writer.proofs.Unique as unique
 use Rattle.acceptance.specs.Promises.line_writer.{Promises}
 use Rattle.acceptance.proofs.Promised.{line_answered}

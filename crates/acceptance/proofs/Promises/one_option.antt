@@ -1,6 +1,6 @@
 -- The lines of one_option, by its uniqueness theorems.
 -- tools/promises makes this file from the contracts, and the gate holds it to them.
-use mathlib.Core.Path.{refl}
+use Rattle.std.specs.Prelude.{refl}
 use Rattle.one_option.proofs.Unique as unique
 use Rattle.acceptance.specs.Promises.one_option.{Promises}
 use Rattle.acceptance.proofs.Promised.{answered}

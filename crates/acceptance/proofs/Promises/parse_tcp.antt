@@ -1,6 +1,6 @@
 -- The lines of parse_tcp, by its uniqueness theorems.
 -- tools/promises makes this file from the contracts, and the gate holds it to them.
-use mathlib.Core.Path.{refl}
+use Rattle.std.specs.Prelude.{refl}
 use Rattle.parse_tcp.proofs.Unique as unique
 use Rattle.acceptance.specs.Promises.parse_tcp.{Promises}
 use Rattle.acceptance.proofs.Promised.{answered}

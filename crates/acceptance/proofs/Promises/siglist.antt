@@ -1,6 +1,6 @@
 -- The lines of siglist, by its uniqueness theorems.
 -- tools/promises makes this file from the contracts, and the gate holds it to them.
-use mathlib.Core.Path.{refl}
+use Rattle.std.specs.Prelude.{refl}
 use Rattle.siglist.proofs.Unique as unique
 use Rattle.acceptance.specs.Promises.siglist.{Promises}
 use Rattle.acceptance.proofs.Promised.{answered, part_answered}

@@ -1,6 +1,6 @@
 -- The lines of tcp_header, by its uniqueness theorems.
 -- tools/promises makes this file from the contracts, and the gate holds it to them.
-use mathlib.Core.Path.{refl}
+use Rattle.std.specs.Prelude.{refl}
 use Rattle.tcp_header.proofs.Unique as unique
 use Rattle.acceptance.specs.Promises.tcp_header.{Promises}
 use Rattle.acceptance.proofs.Promised.{answered}

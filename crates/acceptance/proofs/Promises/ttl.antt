@@ -1,6 +1,6 @@
 -- The lines of ttl, by its uniqueness theorems.
 -- tools/promises makes this file from the contracts, and the gate holds it to them.
-use mathlib.Core.Path.{refl}
+use Rattle.std.specs.Prelude.{refl}
 use Rattle.ttl.proofs.Unique as unique
 use Rattle.acceptance.specs.Promises.ttl.{Promises}
 use Rattle.acceptance.proofs.Promised.{answered}
@@ -14,5 +14,5 @@ promises =
       ttl_guesses_one = answered tt (unique.ttl_guesses_one) (λ m. m) refl;
       ttl_entry_one = λ ttl. answered tt (unique.ttl_entry_one ttl) (λ m. m) refl;
       guess_distance_one = λ ttl. answered tt (unique.guess_distance_one ttl) (λ m. m) refl;
-      calculate_ttl_one = λ ttl-observed. answered tt (unique.calculate_ttl_one ttl-observed) (λ m. m) refl;
+      calculate_ttl_one = λ ttl_observed. answered tt (unique.calculate_ttl_one ttl_observed) (λ m. m) refl;
     }
