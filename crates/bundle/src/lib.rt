@@ -1,5 +1,6 @@
 // The bundle (document 01, "The bundle program"): added by the port. A bundle is checked first, then each packet has its answer.
 #![tactic(auto)]
+
 ghost use Rattle.std.specs.Prelude.{◌≡◌, ◌+◌, ◌≤◌, length};
 ghost use Rattle.basis.specs.Bytes.{be16};
 ghost use Rattle.bundle.specs.Bundle.{ListWithin, list_of, packet_end, packet_fits, packets_fit, list_lies};

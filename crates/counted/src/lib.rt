@@ -1,5 +1,6 @@
 // What tools/benchmark counts, in an archive of its own; not part of the product.
 #![tactic(auto)]
+
 ghost use Rattle.std.specs.Prelude.{◌≡◌};
 ghost use Rattle.flow.specs.Modes.{mode_of};
 ghost use Rattle.counted.specs.Counted.{counted_reading, counted_reading_in, counted_kind, searched_code, counted_answer};

@@ -1,6 +1,7 @@
 // The Display implementations of tcp/mod.rs: the text of each field of a line, put into a lent buffer from a place on. Each function hands
 // back the place behind what it put. The length of each text, before it is put: `lengths`.
 #![tactic(auto)]
+
 ghost use Rattle.grammar.specs.Spelling.{spelt};
 ghost use Rattle.grammar.specs.Table.{said};
 ghost use Rattle.quirks.specs.Quirks.{bit_of};

@@ -1,5 +1,6 @@
 // distances.rs: how far an observation is from a signature, by version, TTL, window and payload.
 #![tactic(auto)]
+
 ghost use Rattle.std.specs.Prelude.{◌≡◌};
 ghost use Rattle.sigrecord.specs.Record.{version_of, payload_of};
 ghost use Rattle.distances.specs.DistanceGates.{version_matches, multiple_matches, window_matches, payload_matches};

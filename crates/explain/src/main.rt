@@ -2,6 +2,7 @@
 // `rawlines` prints, and below the line of each SYN or SYN+ACK the record that was answered and those of the list that are nearest to it,
 // with the fewest fields that fail, each with which fields hold, which are tolerated and which fail.
 #![tactic(auto)]
+
 ghost use Rattle.std.specs.Prelude.{◌≡◌, length};
 ghost use Rattle.bundle.specs.declared.BundleCheck.TheVariants as check;
 ghost use Rattle.bundle.specs.Bundle.{check_bundle, list_of};

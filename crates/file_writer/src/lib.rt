@@ -1,6 +1,7 @@
 // The way back: a signature list written as a keeper's file, a signature a line. A file is counted before it is written, so that a buffer
 // that is too short is left as it was.
 #![tactic(auto)]
+
 ghost use Rattle.std.specs.Prelude.{◌≡◌, length};
 ghost use Rattle.text.specs.Written.{Put, Writes};
 ghost use Rattle.keeper_file.specs.FileText.{head_text, file_text, write_file};

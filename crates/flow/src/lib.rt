@@ -1,5 +1,6 @@
 // flow.rs: from a lent packet to an observation. The IP stage hands on facts and the TCP part; the TCP stage sees nothing else.
 #![tactic(auto)]
+
 ghost use Rattle.std.specs.Prelude.{◌≡◌, not, cond, ◌&&◌, ◌||◌, ◌+◌, ◌*◌, ◌≤◌, min, max, ltb, length};
 ghost use Rattle.basis.specs.Bytes as bytes;
 ghost use Rattle.rfc.specs.Rfc9293.{data_offset};

@@ -1,5 +1,6 @@
 // What a search finds, its rank, and how long it was (document 01, "The signature list"; document 02, Wishes 3 and 6): added by the port.
 #![tactic(auto)]
+
 ghost use Rattle.std.specs.Prelude.{◌≡◌};
 ghost use Rattle.found.specs.Rank.{found_of, exact_rank, rank_of, is_none};
 

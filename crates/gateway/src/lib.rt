@@ -1,5 +1,6 @@
 // What a gateway in C or Rust links: each answer as a struct of sixteen bytes, and lines and lists in a buffer that it lends.
 #![tactic(auto)]
+
 ghost use Rattle.std.specs.Prelude.{◌≡◌};
 ghost use Rattle.refusals.specs.Refusals.{packet_number, packet_value};
 ghost use Rattle.siglist.specs.List.{check_list};

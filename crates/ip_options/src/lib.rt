@@ -1,6 +1,7 @@
 // ip_options.rs: the length of IPv4 options and of IPv6 extension headers. The original takes pnet's views of a packet; here a
 // packet is lent as bytes, and the views' rules are those of document 01.
 #![tactic(auto)]
+
 ghost use Rattle.std.specs.Prelude.{◌≡◌, ◌+◌, ◌*◌, ◌%◌, length};
 ghost use Rattle.rfc.specs.Rfc8200.{payload};
 ghost use Rattle.ip_options.specs.IpOptions.{ipv4_option_length, ipv6_extension_length};

@@ -1,6 +1,7 @@
 // No code: the keeper's file, a signature a line, and the signature list that it says; the way back from a list to such a file. The types
 // are what compiling a file answers.
 #![tactic(auto)]
+
 use refusals::Refusal;
 
 // A list of so many bytes was written, or none was: the number of the line that is refused, from 1 (0 if the buffer is), and the refusal.

@@ -1,5 +1,6 @@
 // A line of a keeper's file: where it lies in the file, and the record with its layout that it means.
 #![tactic(auto)]
+
 ghost use Rattle.std.specs.Prelude.{◌≡◌, ◌<◌};
 ghost use Rattle.keeper_file.specs.KeptLine.{kind_and_label};
 ghost use Rattle.keeper_file.specs.KeptReader.{read_kept};

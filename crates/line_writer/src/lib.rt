@@ -1,6 +1,7 @@
 // The line of a signature written into a lent buffer: an observation as p0f's raw line, a record of a list as its signature line (document
 // 02, Wish 7). A line is counted before it is written, so that a buffer that is too short is left as it was.
 #![tactic(auto)]
+
 ghost use Rattle.std.specs.Prelude.{◌≡◌, ◌≤◌, length};
 ghost use Rattle.text.specs.Written.{Put, Writes};
 ghost use Rattle.written_line.specs.LineText.{signature_text};

@@ -1,6 +1,7 @@
 // A keeper's file compiled into a signature list, in a buffer that is lent: its lines are checked, then counted, and only then is anything
 // written, so that a file that is refused leaves the buffer as it was.
 #![tactic(auto)]
+
 ghost use Rattle.std.specs.Prelude.{◌≡◌, cond};
 ghost use Rattle.text.specs.Written.{Writes};
 ghost use Rattle.keeper_file.specs.declared.Tally.TheVariants as tallied;

@@ -1,5 +1,6 @@
 // matching.rs: how an observation fits a signature. Its gates of version, window and payload are in `distances`.
 #![tactic(auto)]
+
 ghost use Rattle.std.specs.Prelude.{◌≡◌};
 ghost use Rattle.sigrecord.specs.Record.{signature_of};
 ghost use Rattle.matching.specs.Gates.{olen_matches, mss_matches, scale_matches, good_layout_fits};

@@ -1,6 +1,7 @@
 // mklist: a keeper's file on standard input, its signature list on standard output (docs/FORMATS.md). What is refused is told on standard
 // error, in words, and nothing is written. What a file means is the library's: this program moves bytes, and finds the words.
 #![tactic(auto)]
+
 ghost use Rattle.std.specs.Prelude.{◌<◌, ◌≤◌, length};
 
 use keeper_file::Compiled;

@@ -1,6 +1,7 @@
 // Numbers of the standard library that the original uses: a byte as a wider number, from_be_bytes, min, saturating_sub and
 // saturating_add; and bytes of a string by their place.
 #![tactic(auto)]
+
 ghost use Rattle.std.specs.Prelude.{◌≡◌, ◌+◌, ◌*◌, ◌-◌, min};
 ghost use Rattle.basis.specs.Bytes as bytes;
 

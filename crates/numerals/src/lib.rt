@@ -1,5 +1,6 @@
 // The numbers of a signature line (parse/tcp.rs), in decimal, held against their bound digit by digit.
 #![tactic(auto)]
+
 ghost use Rattle.std.specs.Prelude.{◌≡◌, ◌≤◌};
 ghost use Rattle.grammar.specs.States.{fits};
 ghost use Rattle.signature_line.specs.Words.{unnamed};

@@ -1,5 +1,6 @@
 // observable.rs: what is observed of a SYN or SYN+ACK.
 #![tactic(auto)]
+
 ghost use Rattle.std.specs.Prelude.{◌≡◌};
 ghost use Rattle.observable.specs.Observation.{holds_kind, own_timestamp_nonzero, window_multiplier, empty_observation};
 

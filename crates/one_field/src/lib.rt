@@ -1,6 +1,7 @@
 // The fields of a signature line, one by one (parse/tcp.rs): each read from a place on, in one pass and with no way back. `nom` becomes an
 // index walk; a number is held against its field digit by digit, and refuses where it stands.
 #![tactic(auto)]
+
 ghost use Rattle.std.specs.Prelude.{◌≡◌};
 ghost use Rattle.signature_line.specs.Words.{version, bare_byte, mss, window, scale, entry, quirk_word, payload};
 ghost use Rattle.one_field.specs.Places.{whole_piece, starred, behind_at, piece_at, field_at, ttl_at};

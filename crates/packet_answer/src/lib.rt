@@ -1,5 +1,6 @@
 // The answer of a packet: what its search answers, nothing, or a refusal. Added by the port.
 #![tactic(auto)]
+
 ghost use Rattle.std.specs.Prelude.{◌≡◌};
 ghost use Rattle.packet_answer.specs.Packet.{peer_of, answer_of, answer_in};
 

@@ -1,5 +1,6 @@
 // A packet of a bundle: what is read of it; and its line, put into a buffer that is lent: its answer, and what it showed.
 #![tactic(auto)]
+
 ghost use Rattle.std.specs.Prelude.{◌≡◌};
 ghost use Rattle.text.specs.Written.{Put};
 ghost use Rattle.packet_line.specs.PacketLine.{seen_text, shown_raw, packet_line, reading_at};

@@ -1,5 +1,6 @@
 // parse/tcp.rs: a signature line, as p0f writes it, read into a record of the signature list with its layout (document 02, Wish 1).
 #![tactic(auto)]
+
 ghost use Rattle.std.specs.Prelude.{◌≡◌};
 ghost use Rattle.signature_line.specs.Answer.{refused_at};
 ghost use Rattle.signature_line.specs.LineReader.{read_line};

@@ -1,5 +1,6 @@
 // quirks.rs: quirks of IP and TCP headers, and sets of them as the bits of p0f's QUIRK_*.
 #![tactic(auto)]
+
 ghost use Rattle.std.specs.Prelude.{◌≡◌, ℕ};
 ghost use Rattle.quirks.specs.Quirks.{bit_of, set_of, bits_of, is_empty, contains, with, add_if, difference};
 ghost use Rattle.quirks.specs.Named.{named_sets};

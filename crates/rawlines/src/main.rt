@@ -2,6 +2,7 @@
 // prints, and behind each packet's answer its raw line, or `-` where nothing was seen (document 02, Wish 7). What is read and what is
 // written is the library's.
 #![tactic(auto)]
+
 ghost use Rattle.std.specs.Prelude.{◌≡◌, ◌+◌, ◌≤◌, length};
 
 use bundle::{BundleCheck, PacketAt, check_bundle, packet_at};

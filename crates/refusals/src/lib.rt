@@ -1,6 +1,7 @@
 // The refusals of documents 01 and 02, and those of a keeper's file that have none there, by name: the number of each, and what each gives
 // beside it.
 #![tactic(auto)]
+
 ghost use Rattle.std.specs.Prelude.{◌≡◌};
 ghost use Rattle.refusals.specs.Refusals.{packet_number, list_number, number, packet_value, list_value, value};
 

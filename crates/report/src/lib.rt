@@ -1,6 +1,7 @@
 // The output of a bundle, page by page: as many lines as find room, then the program writes the page and asks for the next.
 // A page is an array of one size, so that no caller can lend one in which no line finds room.
 #![tactic(auto)]
+
 ghost use Rattle.std.specs.Prelude.{◌≤◌, length};
 ghost use Rattle.report.specs.Pages.{FilledAfter, Paged, page_size, refused_page, head_page};
 ghost use Rattle.report.specs.Pages.{first_page_in, page_after_in, first_page, page_after};

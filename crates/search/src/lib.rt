@@ -1,5 +1,6 @@
 // The search of a signature list (document 01, "The signature list"; document 02, Wishes 3 and 6): added by the port.
 #![tactic(auto)]
+
 ghost use Rattle.std.specs.Prelude.{◌≡◌};
 ghost use Rattle.search.specs.Search.{searched, search_list};
 

@@ -1,6 +1,7 @@
 // showlist: a signature list on standard input, on standard output the keeper's file that says it, a line a record (docs/FORMATS.md). A
 // list that is refused is told on standard error, and nothing is written. What a record's line is is the library's.
 #![tactic(auto)]
+
 use file_writer::{FILE_LINE, put_shown};
 use libc::{STDIN_FILENO, STDOUT_FILENO};
 use refusals::ListRefusal;

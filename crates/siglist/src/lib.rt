@@ -1,5 +1,6 @@
 // The signature list (document 01, "The signature list"): added by the port.
 #![tactic(auto)]
+
 ghost use Rattle.std.specs.Prelude.{◌≡◌, ◌+◌, ◌*◌, ◌≤◌, ◌<◌, length};
 ghost use Rattle.siglist.specs.Entries.{all_entries_good};
 ghost use Rattle.siglist.specs.List.{area_fits, list_fits, areas_of, header_of, AreasFit, record_of, entries_lie, layout_lies};

@@ -1,6 +1,7 @@
 // A record of the signature list (document 01, "The signature list"; document 02, Wish 3): its bytes, what they mean, when it is well
 // formed, and the entries of its layout. Added by the port; the types are those of the original's signatures.
 #![tactic(auto)]
+
 ghost use Rattle.std.specs.Prelude.{◌≡◌, ◌/◌, length};
 ghost use Rattle.basis.specs.Bytes.{be32};
 ghost use Rattle.sigrecord.specs.Layout.{entry_good, entries_good};

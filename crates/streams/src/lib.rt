@@ -2,6 +2,7 @@
 // nothing here promises an equation (docs/ANSWERS.md, "Exceptions"). Streams that do not wait are not tried again: a call that would have
 // to wait has failed.
 #![tactic(auto)]
+
 ghost use Rattle.streams.specs.Ends.{LongerIfFull};
 
 use libc::{STDERR_FILENO, STDIN_FILENO};

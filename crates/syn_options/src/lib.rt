@@ -1,6 +1,7 @@
 // syn_options.rs, and the option walk of flow.rs: one walk, which goes on behind damaged options or stops before them, and gives their
 // places.
 #![tactic(auto)]
+
 ghost use Rattle.std.specs.Prelude.{◌≡◌, ◌<◌, ◌≤◌, length};
 ghost use Rattle.quirks.specs.Named.{empty};
 ghost use Rattle.syn_options.specs.Stops.{walked_of, stops_at, first_known, walk_to, walk_options, read_options};

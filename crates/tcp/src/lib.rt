@@ -3,6 +3,7 @@
 
 // The IP version of an observed packet.
 #![tactic(auto)]
+
 #[derive(Clone, Copy)]
 pub enum IpVersion {
     V4,

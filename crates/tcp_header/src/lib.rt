@@ -1,5 +1,6 @@
 // flow.rs: what the numbers of a TCP header say, its type, whether its flags are valid, and the quirks that they show.
 #![tactic(auto)]
+
 ghost use Rattle.std.specs.Prelude.{◌≡◌, not};
 ghost use Rattle.tcp_header.specs.Flags.{masked_type, flags_invalid};
 ghost use Rattle.tcp_header.specs.HeaderQuirks.{number_quirks, urgent_quirks};

@@ -1,6 +1,7 @@
 // termread: a bundle on standard input, its answers on standard output (document 01, "The bundle program"). What is read and what is
 // written is the library's: this program only moves bytes.
 #![tactic(auto)]
+
 ghost use Rattle.std.specs.Prelude.{true, ◌+◌, ◌≤◌, length};
 ghost use Rattle.report.specs.Pages.{output_of_input};
 ghost use Rattle.io.specs.Counts.{clamp_len};

@@ -1,6 +1,7 @@
 // Text, put into a buffer that the caller lends, from a place on. Each function hands back the place behind what it put; what finds no
 // room is not written, and every other byte stays as it was.
 #![tactic(auto)]
+
 ghost use Rattle.std.specs.Prelude.{◌≡◌, [], ◌∷◌, ◌+◌, ◌-◌, ◌%◌, ◌≤◌, length};
 ghost use Rattle.text.specs.Decimal.{decimal};
 ghost use Rattle.text.specs.Written.{PutAll, Put};

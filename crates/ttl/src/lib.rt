@@ -1,5 +1,6 @@
 // ttl.rs: what the TTL byte of a packet is taken for.
 #![tactic(auto)]
+
 ghost use Rattle.std.specs.Prelude.{◌≡◌};
 ghost use Rattle.ttl.specs.Table.{class_of, each_byte, entry_of};
 ghost use Rattle.ttl.specs.Ttl.{byte_of, guess_of, max_dist, reading_of};

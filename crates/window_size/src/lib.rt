@@ -1,5 +1,6 @@
 // window_size.rs: a window as a multiple of an MSS or of an MTU.
 #![tactic(auto)]
+
 ghost use Rattle.std.specs.Prelude.{◌≡◌, cond, map};
 ghost use Rattle.window_size.specs.Divisors.{divides, held, holding, is_v6, peer_size, twelve};
 ghost use Rattle.window_size.specs.Multiplier.{first_multiple, multiplier_of};

@@ -1,5 +1,6 @@
 // Outside witnesses: the answers as structs of numbers, for C drivers (tools/witness/witness.h); not part of the product.
 #![tactic(auto)]
+
 ghost use Rattle.std.specs.Prelude.{◌≡◌};
 ghost use Rattle.text.specs.Written.{Writes};
 ghost use Rattle.witness.specs.Written.{packet_read, options_read, ttl_read, plain_progress, first_of, next_of, Paged};

@@ -1,5 +1,4 @@
 use Rattle.line_writer.proofs.line_length.Goals as goal
-
 use native.Mathlib.Omega.{arith}
 use Rattle.grammar.specs.Table.{said}
 use Rattle.ttl.specs.Ttl.{byte_of}

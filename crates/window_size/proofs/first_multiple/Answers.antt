@@ -22,12 +22,11 @@ returns-then-divides c =
     ∙ turn_hit _ _ c.loop-i.i (search rules) (sym c.divides.ensures ∙ c.if-divides.true))
 
 pub loop-i-preserved : goal.loop-i-preserved
-loop-i-preserved c =
-    (
-      search rules,
-      turn_miss _ _ c.loop-i.i (search rules) (sym c.divides.ensures ∙ c.if-divides.false)
-          ∙ c.loop-i.invariant.1,
-    )
+loop-i-preserved c = (
+  search rules,
+  turn_miss _ _ c.loop-i.i (search rules) (sym c.divides.ensures ∙ c.if-divides.false)
+      ∙ c.loop-i.invariant.1,
+)
 
 pub returns : goal.returns
 returns c = sym (sym c.loop-i.invariant.1 ∙ turns_end _ _ c.loop-i.i (search rules))
