@@ -53,9 +53,9 @@ read_answer : (f : Fields) (k : ℕ) → (read_as f).answer ≡ answer.Refused k
 unfolding read_as
 read_answer f k e = let z : ◌≡◌ {A = ℕ} 0 1 = cc in omega arith
 
-read_as : (f : Fields) → read_as f ≡ read_of (meaning_of f)
+read_as_lem : (f : Fields) → read_as f ≡ read_of (meaning_of f)
 unfolding read_as
-read_as f = refl
+read_as_lem f = refl
 
 same_meaning : (m n : LineMeaning) → read_of m ≡ read_of n → m ≡ n
 same_meaning m n e =
@@ -71,7 +71,7 @@ module _ (s : List ℕ) (m : LineMeaning) where
   judged_so : length s ≤ longest → read_line s ≡ read_of m → (o : Judgement Fields) → judgement s (fields_read s) ≡ o → SignatureLine s m
   unfolding SignatureLine
   judged_so h e (means f) q =
-      let r : read_of (meaning_of f) ≡ read_of m = sym (read_as f) ∙ sym (short s h ∙ ap answered q) ∙ e in
+      let r : read_of (meaning_of f) ≡ read_of m = sym (read_as_lem f) ∙ sym (short s h ∙ ap answered q) ∙ e in
       (f, (line_judged s (means f)).0 q, sym (same_meaning (meaning_of f) m r))
   judged_so h e (refused k) q = absurd (read_not_refused m k (sym (short s h ∙ ap answered q) ∙ e))
 
@@ -86,7 +86,7 @@ module _ (s : List ℕ) (m : LineMeaning) where
   unfolding SignatureLine
   accepted_all h =
       let l = h.1 in
-      short s h.0 ∙ ap answered ((line_judged s (means l.0)).1 l.1) ∙ read_as l.0 ∙ ap read_of (sym l.2)
+      short s h.0 ∙ ap answered ((line_judged s (means l.0)).1 l.1) ∙ read_as_lem l.0 ∙ ap read_of (sym l.2)
 
   pub accepted : (read_line s ≡ read_of m) ↔ ((length s ≤ longest) × SignatureLine s m)
   accepted = (accepted_only, accepted_all)

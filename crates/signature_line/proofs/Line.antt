@@ -1,11 +1,10 @@
 -- The whole line is read exactly.
 use Prim.Native.Nat.{ℕ, zero, suc, ◌+◌, ◌*◌, ◌≤◌}
 use mathlib.Core.Path.{◌≡◌, refl}
-use mathlib.Core.Bool.{Bool, true, ◌&&◌}
+use mathlib.Core.Bool.{true}
 use mathlib.Core.List.{List, [], ◌∷◌}
 use native.Mathlib.Omega.{arith}
 use native.Mathlib.Decide.{dec_le}
-use lib.Dec.{leb, ltb}
 use borrow.Author.Tests.{ne_eqb, lt-leb}
 use Rattle.basis.specs.Tests.{all_below}
 use Rattle.grammar.specs.LeadingZero.{is_digit}
