@@ -1,11 +1,11 @@
 -- Laws of places: the first option that meets a test is the first, and where a walk stops.
-use mathlib.Core.Path.{◌≡◌, refl, sym, ◌∙◌, ap}
-use mathlib.Core.Bool.{Bool, true, false, cond, ◌&&◌, ◌||◌, true≢false}
+use mathlib.Core.Path.{◌≡◌, refl, sym, ◌∙◌}
+use mathlib.Core.Bool.{Bool, true, false, cond, true≢false}
 use mathlib.Core.List.{List, [], ◌∷◌}
 use Prim.Native.Nat.{ℕ, zero, suc, ◌+◌, ◌<◌, ◌≤◌}
 use native.Mathlib.Omega.{arith}
-use lib.ListN.{length, take, drop, length-take, length-drop}
-use Rattle.one_option.specs.Options.{Opt, asked, runs_past, short_length, option_of, options_after, options_of, option_at, OptionBegins}
+use lib.ListN.{length, drop, length-take, length-drop}
+use Rattle.one_option.specs.Options.{Opt, asked, option_of, options_after, options_of, option_at, OptionBegins}
 use Rattle.one_option.proofs.Options.{skipped}
 use Rattle.one_option.proofs.Begins.{none_begins, followed, option_behind}
 use Rattle.syn_options.specs.declared.Place.{Place}

@@ -1,6 +1,6 @@
 -- The walks of the two readers of document 01 are the walk that stops before nothing, and the one that stops before what runs past the end.
-use mathlib.Core.Path.{◌≡◌, refl, sym, ◌∙◌, ap}
-use mathlib.Core.Bool.{Bool, true, false, cond, ◌&&◌, ◌||◌}
+use mathlib.Core.Path.{◌≡◌, refl, sym, ◌∙◌}
+use mathlib.Core.Bool.{Bool, true, false, cond, ◌||◌}
 use mathlib.Core.List.{List, [], ◌∷◌}
 use Prim.Native.Nat.{ℕ, ◌+◌, ◌≤◌}
 use native.Mathlib.Omega.{arith}
@@ -9,7 +9,7 @@ use lib.ListN.{length, take, length-take}
 use lib.Seq.{take_all, take-take}
 use Rattle.quirks.specs.declared.QuirkSet.{QuirkSet}
 use Rattle.quirks.specs.Named.{empty}
-use Rattle.one_option.specs.Options.{Opt, runs_past, short_length, options_of}
+use Rattle.one_option.specs.Options.{Opt, runs_past, options_of}
 use Rattle.syn_options.specs.declared.Place.{Place}
 use Rattle.syn_options.specs.declared.Place.TheVariants as place
 use Rattle.syn_options.specs.declared.Places.{Places}

@@ -1,6 +1,5 @@
 -- `syn_options::first_place` meets its contract.
 use Rattle.syn_options.specs.Stops.{first_known}
-use borrow.Author.Rules.{rules}
 use Rattle.syn_options.proofs.first_place.Goals as goal
 
 pub returns-in-None : goal.returns-in-None

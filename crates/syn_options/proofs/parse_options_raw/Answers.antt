@@ -1,7 +1,6 @@
 -- `syn_options::parse_options_raw` meets its contract.
 use Rattle.syn_options.proofs.Readers.{parsed_of_walk}
 use Rattle.quirks.proofs.Named.{empty_bits}
-use borrow.Author.Rules.{rules}
 use Rattle.syn_options.proofs.parse_options_raw.Goals as goal
 
 pub returns : goal.returns

@@ -4,7 +4,6 @@ use native.Mathlib.Omega.{arith}
 use lib.ListN.{length}
 use Rattle.syn_options.specs.Stops.{read_options}
 use Rattle.quirks.proofs.Named.{empty_bits}
-use borrow.Author.Rules.{rules}
 use Rattle.syn_options.proofs.read_options.Goals as goal
 
 pub returns-then-buf-gt-MOST_OPTIONS : goal.returns-then-buf-gt-MOST_OPTIONS

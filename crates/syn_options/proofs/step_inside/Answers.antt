@@ -1,6 +1,5 @@
 -- `syn_options::step_inside` meets its contract.
 use Rattle.one_option.proofs.Options.{step_lies}
-use borrow.Author.Rules.{rules}
 use Rattle.syn_options.proofs.step_inside.Goals as goal
 
 pub returns : goal.returns

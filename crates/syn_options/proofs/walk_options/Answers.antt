@@ -1,10 +1,7 @@
 -- `syn_options::walk_options` meets its contract.
 use Rattle.syn_options.proofs.Walk.{forty}
 use Rattle.syn_options.specs.Stops.{walk_to, walk_options}
-use Prim.Native.Nat.{ℕ}
-use mathlib.Core.List.{List}
 use mathlib.Core.Path.{◌∙◌, ap}
-use borrow.Author.Rules.{rules}
 use Rattle.syn_options.proofs.walk_options.Goals as goal
 
 pub returns : goal.returns
