@@ -17,7 +17,8 @@ abbrev pub decreases-loop-i : goal.decreases-loop-i
 decreases-loop-i l = l.size - l.i
 
 abbrev pub invariant-loop-i-2 : goal.invariant-loop-i-2
-invariant-loop-i-2 l = invariant-loop l.count l.wscale l.list l.from l.first l.size l.initial.i l.i
+invariant-loop-i-2 l = (l.from ≤ l.i) × (l.i ≤ l.size) × (l.first ≡ records_offset l.list) × (l.first + 24 * l.size ≤ length l.list)
+    × FailTo (count_and_scale_match l.count l.wscale) l.list l.from l.i
 
 abbrev pub decreases-loop-i-2 : goal.decreases-loop-i-2
 decreases-loop-i-2 l = l.size - l.i

@@ -10,10 +10,10 @@ use Rattle.found.proofs.Examined.{answers}
 use Rattle.found.proofs.Rank.{taken, left}
 use Prim.Native.Nat.{◌-◌, ◌≤◌, ◌<◌}
 use native.Mathlib.Omega.{arith}
-use mathlib.Core.Logic.{⊎_elim}
 use mathlib.Core.Path.{◌≡◌, refl, sym, ◌∙◌, ap}
 use borrow.Author.Rules.{rules}
 use Rattle.search.proofs.finding.search_records.Goals as goal
+use Rattle.search.proofs.finding.search_records.Goals.{then-rank-best, else-rank-best}
 
 pub returns-then-observed-gt40 : goal.returns-then-observed-gt40
 returns-then-observed-gt40 c =
@@ -65,17 +65,26 @@ loop-i-preserved c =
     let found = c.candidate_at-found in
     let next = c.next_candidate-i in
     let l = c.loop-i in
-    let new =
-    ⊎_elim (λ w. w.1 ∙ taken l.held found.result _ _ _ found.ensures l.invariant.4 rank.ensures w.0.taken)
-    (λ w. w.1 ∙ left l.held found.result _ _ _ found.ensures l.invariant.4 rank.ensures w.0.left)
-    c.if-rank-best.branch in (
-      search rules,
-      l.invariant.1,
-      l.invariant.2,
-      after _ _ _ _ _ l.i _ _ _ l.invariant.2 l.invariant.3 next.ensures new,
-      ⊎_elim (λ w. w.2 ∙ rank.ensures ∙ ap rank_of (sym w.1)) (λ w. w.2 ∙ l.invariant.4 ∙ ap rank_of (sym w.1)) c.if-rank-best.branch,
-      ⊎_elim (λ w. omega (arith, w.2, c.if-rank-eq0.false)) (λ w. omega (arith, w.2, l.invariant.5)) c.if-rank-best.branch,
-    )
+    elim c.if-rank-best.branch [
+      | then-rank-best w ↦ (
+            search rules,
+            l.invariant.1,
+            l.invariant.2,
+            after _ _ _ _ _ l.i _ _ _ l.invariant.2 l.invariant.3 next.ensures
+                (w.held-is ∙ taken l.held found.result _ _ _ found.ensures l.invariant.4 rank.ensures w.if-rank-best.true),
+            w.best-is ∙ rank.ensures ∙ ap rank_of (sym w.held-is),
+            omega (arith, w.best-is, c.if-rank-eq0.false),
+          )
+      | else-rank-best w ↦ (
+            search rules,
+            l.invariant.1,
+            l.invariant.2,
+            after _ _ _ _ _ l.i _ _ _ l.invariant.2 l.invariant.3 next.ensures
+                (w.held-is ∙ left l.held found.result _ _ _ found.ensures l.invariant.4 rank.ensures w.if-rank-best.false),
+            w.best-is ∙ l.invariant.4 ∙ ap rank_of (sym w.held-is),
+            omega (arith, w.best-is, l.invariant.5),
+          )
+    ]
 
 pub returns : goal.returns
 returns c =
