@@ -8,7 +8,6 @@ use native.Mathlib.Omega.{arith}
 use lib.ListN.{get_or}
 use Rattle.matching.specs.declared.Features.{Features}
 use Rattle.matching.specs.declared.SignatureFit.TheVariants as fit
-use Rattle.matching.specs.Fit.{passes}
 use Rattle.found.specs.declared.Found.{Found}
 use Rattle.found.specs.declared.Found.TheVariants as found
 use Rattle.found.specs.Least.{unranked, Place, nowhere, at, rank_there, prefer, least_from, first_least, numbers_from}

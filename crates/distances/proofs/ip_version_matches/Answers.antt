@@ -1,6 +1,5 @@
 -- `distances::ip_version_matches` meets its contract.
 use Rattle.distances.proofs.Codes.{v4_passes, v6_passes}
-use borrow.Author.Rules.{rules}
 use Rattle.distances.proofs.ip_version_matches.Goals as goal
 
 pub returns-in-V4 : goal.returns-in-V4

@@ -1,6 +1,5 @@
 -- `distances::multiple_matches` meets its contract.
 use Rattle.basis.proofs.Rules.{cases}
-use borrow.Author.Rules.{rules}
 use Rattle.distances.proofs.multiple_matches.Goals as goal
 
 pub returns-then-found-declared : goal.returns-then-found-declared

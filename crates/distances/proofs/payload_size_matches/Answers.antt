@@ -1,6 +1,5 @@
 -- `distances::payload_size_matches` meets its contract.
 use Rattle.distances.proofs.Codes.{empty_passes, data_passes}
-use borrow.Author.Rules.{rules}
 use Rattle.distances.proofs.payload_size_matches.Goals as goal
 
 pub returns-in-Zero : goal.returns-in-Zero

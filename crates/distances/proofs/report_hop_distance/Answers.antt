@@ -1,6 +1,5 @@
 -- `distances::report_hop_distance` meets its contract.
 use Rattle.distances.proofs.Hops.{reported}
-use borrow.Author.Rules.{rules}
 use Rattle.distances.proofs.report_hop_distance.Goals as goal
 
 pub returns-in-Rejected : goal.returns-in-Rejected

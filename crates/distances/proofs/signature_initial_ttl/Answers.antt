@@ -1,6 +1,5 @@
 -- `distances::signature_initial_ttl` meets its contract.
 use Rattle.basis.proofs.Rules.{cases}
-use borrow.Author.Rules.{rules}
 use Rattle.distances.proofs.signature_initial_ttl.Goals as goal
 
 pub returns-in-Value : goal.returns-in-Value

@@ -4,7 +4,6 @@ use Prim.Native.Nat.{◌-◌}
 use mathlib.Core.Path.{◌≡◌}
 use Rattle.basis.proofs.Rules.{cases}
 use Rattle.distances.specs.Distances.{ttl_fit}
-use borrow.Author.Rules.{rules}
 use Rattle.distances.proofs.ttl_fit.Goals as goal
 
 pub returns-then-is_bad : goal.returns-then-is_bad

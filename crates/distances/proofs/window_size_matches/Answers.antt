@@ -1,7 +1,6 @@
 -- `distances::window_size_matches` meets its contract.
 use Rattle.basis.proofs.Rules.{cases}
 use Rattle.distances.specs.DistanceGates.{window_matches}
-use borrow.Author.Rules.{rules}
 use Rattle.distances.proofs.window_size_matches.Goals as goal
 
 pub returns-then-modulus-eq0 : goal.returns-then-modulus-eq0

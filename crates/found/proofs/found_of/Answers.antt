@@ -1,6 +1,5 @@
 -- `found::found_of` meets its contract.
 use Rattle.found.specs.Rank.{found_of}
-use borrow.Author.Rules.{rules}
 use Rattle.found.proofs.found_of.Goals as goal
 
 pub returns-in-None : goal.returns-in-None

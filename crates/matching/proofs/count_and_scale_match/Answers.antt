@@ -3,7 +3,6 @@ use Rattle.matching.specs.Asked.{count_and_scale_match}
 use Rattle.sigrecord.specs.Record.{entry_count}
 use mathlib.Core.Path.{sym, ◌∙◌}
 use borrow.Author.Tests.{eq-eqb, ne_eqb}
-use borrow.Author.Rules.{rules}
 use Rattle.matching.proofs.count_and_scale_match.Goals as goal
 
 pub returns-then-count-entry_count : goal.returns-then-count-entry_count

@@ -1,6 +1,5 @@
 -- `matching::features_of` meets its contract.
 use Rattle.matching.specs.Fit.{features_of}
-use borrow.Author.Rules.{rules}
 use Rattle.matching.proofs.features_of.Goals as goal
 
 pub returns : goal.returns

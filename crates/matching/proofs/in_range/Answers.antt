@@ -1,6 +1,5 @@
 -- `matching::in_range` meets its contract.
 use Rattle.matching.specs.Tolerance.{judge_in_range}
-use borrow.Author.Rules.{rules}
 use Rattle.matching.proofs.in_range.Goals as goal
 
 pub returns-then-is_empty-2 : goal.returns-then-is_empty-2

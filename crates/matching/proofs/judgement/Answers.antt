@@ -1,7 +1,6 @@
 -- `matching::judgement` meets its contract.
 use Rattle.basis.proofs.Rules.{cases}
 use Rattle.matching.specs.Tolerance.{judge}
-use borrow.Author.Rules.{rules}
 use Rattle.matching.proofs.judgement.Goals as goal
 
 pub returns-in-Rejected : goal.returns-in-Rejected

@@ -1,7 +1,6 @@
 -- `matching::mask_signature_quirks` meets its contract.
 use Rattle.matching.specs.Tolerance.{masked_quirks}
 use Rattle.quirks.proofs.Named.{mask_when_obs_v4_bits, mask_when_obs_v6_bits}
-use borrow.Author.Rules.{rules}
 use Rattle.matching.specs.Tolerance.{masked_quirks}
 use Rattle.matching.proofs.mask_signature_quirks.Goals as goal
 

@@ -1,6 +1,5 @@
 -- `matching::mss_matches` meets its contract.
 use Rattle.matching.specs.Gates.{mss_matches}
-use borrow.Author.Rules.{rules}
 use Rattle.matching.proofs.mss_matches.Goals as goal
 
 pub returns-in-Absent : goal.returns-in-Absent

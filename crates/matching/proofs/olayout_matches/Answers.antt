@@ -5,7 +5,6 @@ use native.Mathlib.Omega.{arith}
 use Prim.Native.Nat.{◌*◌}
 use Rattle.basis.proofs.Rules.{cases}
 use Rattle.matching.specs.Gates.{layout_matches}
-use borrow.Author.Rules.{rules}
 use Rattle.matching.proofs.olayout_matches.Goals as goal
 
 pub returns-then-count-declared : goal.returns-then-count-declared

@@ -3,8 +3,6 @@ use Rattle.matching.specs.Asked.{other_gates_match}
 use Rattle.sigrecord.specs.Record.{signature_of}
 use Rattle.basis.proofs.Tests.{and_false}
 use mathlib.Core.Path.{sym, ◌∙◌}
-use borrow.Author.Tests.{not-true, not-false}
-use borrow.Author.Rules.{rules}
 use Rattle.matching.proofs.other_gates_match.Goals as goal
 
 pub returns-then-not-mss_matches : goal.returns-then-not-mss_matches

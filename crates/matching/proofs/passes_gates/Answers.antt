@@ -3,8 +3,7 @@ use Rattle.matching.specs.Fit.{scalar_gates, passes}
 use Rattle.sigrecord.specs.Record.{signature_of, entry_count}
 use Rattle.basis.proofs.Tests.{and_false, and_true}
 use mathlib.Core.Path.{sym, ◌∙◌}
-use borrow.Author.Tests.{not-true, not-false, eq-eqb, ne_eqb}
-use borrow.Author.Rules.{rules}
+use borrow.Author.Tests.{eq-eqb, ne_eqb}
 use Rattle.matching.proofs.passes_gates.Goals as goal
 
 pub returns-then-observed-entry_count : goal.returns-then-observed-entry_count

@@ -1,8 +1,6 @@
 -- `matching::quirks_fit` meets its contract.
 use Rattle.quirks.proofs.Named.{fuzzy_deletable_bits, fuzzy_addable_bits}
-use borrow.Author.Tests.{not-true, not-false}
 use Rattle.matching.specs.Tolerance.{quirks_fit}
-use borrow.Author.Rules.{rules}
 use Rattle.matching.proofs.quirks_fit.Goals as goal
 
 pub returns-then-not-is_empty : goal.returns-then-not-is_empty

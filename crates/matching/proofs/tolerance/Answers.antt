@@ -1,6 +1,5 @@
 -- `matching::tolerance` meets its contract.
 use Rattle.matching.specs.Fit.{tolerance_of}
-use borrow.Author.Rules.{rules}
 use Rattle.matching.proofs.tolerance.Goals as goal
 
 pub returns : goal.returns

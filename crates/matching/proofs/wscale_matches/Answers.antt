@@ -1,6 +1,5 @@
 -- `matching::wscale_matches` meets its contract.
 use Rattle.matching.specs.Gates.{scale_matches}
-use borrow.Author.Rules.{rules}
 use Rattle.matching.proofs.wscale_matches.Goals as goal
 
 pub returns-in-Absent : goal.returns-in-Absent

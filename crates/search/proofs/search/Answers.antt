@@ -3,7 +3,6 @@ use borrow.Author.Tests.{le-ltb}
 use mathlib.Core.Path.{sym, ◌∙◌}
 use Rattle.basis.proofs.Rules.{cases}
 use Rattle.search.specs.Search.{search_list}
-use borrow.Author.Rules.{rules}
 use Rattle.search.proofs.search.Goals as goal
 
 pub returns-then-count-gt40 : goal.returns-then-count-gt40

@@ -3,7 +3,6 @@ use Rattle.search.proofs.Examined.{none_examined}
 use Rattle.siglist.proofs.List.{list_fits_lem, header_areas, header_none}
 use Rattle.search.specs.Search.{search_over, search_all, searched}
 use mathlib.Core.Path.{sym, ◌∙◌}
-use borrow.Author.Rules.{rules}
 use Rattle.search.proofs.search_checked.Goals as goal
 
 pub returns-in_default : goal.returns-in_default

@@ -1,15 +1,9 @@
 -- `matching::entries_match` meets its contract.
-use mathlib.Core.Path.{◌≡◌, sym, ◌∙◌}
+use mathlib.Core.Path.{◌≡◌}
 use mathlib.Core.Bool.{true}
 use Prim.Native.Nat.{◌≤◌, ◌-◌}
-use native.Mathlib.Omega.{arith}
-use borrow.Author.Tests.{not-true, not-false}
-use Rattle.basis.proofs.Tests.{and_false}
 use Rattle.sigrecord.specs.Layout.{entries_good}
-use Rattle.sigrecord.proofs.Laws.{none_bad, one_more_good, one_bad}
 use Rattle.matching.specs.Gates.{entries_match}
-use Rattle.matching.proofs.Entries.{no_entry, entry_matches, kind_differs, byte_differs}
-use borrow.Author.Rules.{rules}
 use Rattle.matching.proofs.gates.entries_match.Given as goal
 
 abbrev pub invariant-loop-i : goal.invariant-loop-i

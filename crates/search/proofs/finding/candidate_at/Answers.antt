@@ -3,9 +3,7 @@ use Rattle.search.proofs.Rows.{none_there}
 use Rattle.search.specs.Search.{candidate_at}
 use Rattle.search.proofs.Fits.{not_held, tolerated}
 use Rattle.siglist.proofs.List.{record_of_list}
-use borrow.Author.Tests.{not-true, not-false}
 use mathlib.Core.Path.{sym, ◌∙◌}
-use borrow.Author.Rules.{rules}
 use Rattle.search.proofs.finding.candidate_at.Goals as goal
 
 pub returns-then-not-record_holds : goal.returns-then-not-record_holds

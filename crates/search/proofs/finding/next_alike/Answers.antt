@@ -1,10 +1,7 @@
 -- `search::next_alike` meets its contract.
-use Rattle.search.proofs.Onward.{FailTo, none_yet, one_more, two_more, three_more, four_more, here, at_end, of_record}
+use Rattle.search.proofs.Onward.{none_yet, one_more, two_more, three_more, four_more, here, at_end, of_record}
 use Rattle.matching.specs.Asked.{count_and_scale_match}
-use Rattle.siglist.specs.List.{records_offset}
-use lib.ListN.{length}
-use mathlib.Core.Path.{◌≡◌}
-use Prim.Native.Nat.{◌+◌, ◌*◌, ◌-◌, ◌≤◌}
+use Prim.Native.Nat.{◌+◌, ◌*◌}
 use native.Mathlib.Omega.{arith}
 use borrow.Author.Rules.{rules}
 use Rattle.search.proofs.finding.next_alike.Goals as goal

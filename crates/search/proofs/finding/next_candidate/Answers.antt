@@ -1,9 +1,8 @@
 -- `search::next_candidate` meets its contract.
-use Rattle.search.proofs.Onward.{FailTo, none_yet, one_more, here, at_end, as_far, others_decide, by_gates}
+use Rattle.search.proofs.Onward.{none_yet, one_more, here, at_end, as_far, others_decide, by_gates}
 use Rattle.siglist.proofs.List.{record_of_list}
 use Rattle.matching.specs.Fit.{passes}
 use mathlib.Core.Path.{sym, ◌∙◌}
-use Prim.Native.Nat.{◌-◌, ◌≤◌}
 use native.Mathlib.Omega.{arith}
 use borrow.Author.Rules.{rules}
 use Rattle.search.proofs.finding.next_candidate.Goals as goal

@@ -2,7 +2,6 @@
 use Rattle.found.proofs.Examined.{all_examined, unranked_none, answers}
 use native.Mathlib.Omega.{arith}
 use mathlib.Core.Path.{refl, sym, ◌∙◌}
-use borrow.Author.Rules.{rules}
 use Rattle.search.proofs.finding.none_ended.Goals as goal
 
 pub returns-then-best-eq-UNRANKED : goal.returns-then-best-eq-UNRANKED

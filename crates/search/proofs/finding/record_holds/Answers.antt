@@ -1,7 +1,6 @@
 -- `search::record_holds` meets its contract.
 use Rattle.search.proofs.Fits.{layout_fails, bad_place, scalars_decide}
 use Rattle.siglist.proofs.List.{lie_within}
-use borrow.Author.Tests.{not-true, not-false}
 use mathlib.Core.Path.{sym, ◌∙◌}
 use borrow.Author.Rules.{rules}
 use Rattle.search.proofs.finding.record_holds.Goals as goal

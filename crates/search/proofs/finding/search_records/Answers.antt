@@ -1,14 +1,11 @@
 -- `search::search_records` meets its contract.
 use Rattle.search.proofs.Rows.{none_fits, at_start, skipped, after, ended_at, first_best}
 use Rattle.search.proofs.Fits.{over_forty}
-use Rattle.search.specs.Search.{search_row}
-use Rattle.siglist.specs.List.{record_count, AreasFit}
-use Rattle.found.specs.Least.{numbers_from}
+use Rattle.siglist.specs.List.{record_count}
 use Rattle.found.specs.Rank.{rank_of}
 use Rattle.found.specs.Examined.{searched_in}
 use Rattle.found.proofs.Examined.{answers}
 use Rattle.found.proofs.Rank.{taken, left}
-use Prim.Native.Nat.{◌-◌, ◌≤◌, ◌<◌}
 use native.Mathlib.Omega.{arith}
 use mathlib.Core.Path.{◌≡◌, refl, sym, ◌∙◌, ap}
 use borrow.Author.Rules.{rules}
@@ -67,23 +64,23 @@ loop-i-preserved c =
     let l = c.loop-i in
     elim c.if-rank-best.branch [
       | then-rank-best w ↦ (
-            search rules,
-            l.invariant.1,
-            l.invariant.2,
-            after _ _ _ _ _ l.i _ _ _ l.invariant.2 l.invariant.3 next.ensures
-                (w.held-is ∙ taken l.held found.result _ _ _ found.ensures l.invariant.4 rank.ensures w.if-rank-best.true),
-            w.best-is ∙ rank.ensures ∙ ap rank_of (sym w.held-is),
-            omega (arith, w.best-is, c.if-rank-eq0.false),
-          )
+        search rules,
+        l.invariant.1,
+        l.invariant.2,
+        after _ _ _ _ _ l.i _ _ _ l.invariant.2 l.invariant.3 next.ensures
+            (w.held-is ∙ taken l.held found.result _ _ _ found.ensures l.invariant.4 rank.ensures w.if-rank-best.true),
+        w.best-is ∙ rank.ensures ∙ ap rank_of (sym w.held-is),
+        omega (arith, w.best-is, c.if-rank-eq0.false),
+      )
       | else-rank-best w ↦ (
-            search rules,
-            l.invariant.1,
-            l.invariant.2,
-            after _ _ _ _ _ l.i _ _ _ l.invariant.2 l.invariant.3 next.ensures
-                (w.held-is ∙ left l.held found.result _ _ _ found.ensures l.invariant.4 rank.ensures w.if-rank-best.false),
-            w.best-is ∙ l.invariant.4 ∙ ap rank_of (sym w.held-is),
-            omega (arith, w.best-is, l.invariant.5),
-          )
+        search rules,
+        l.invariant.1,
+        l.invariant.2,
+        after _ _ _ _ _ l.i _ _ _ l.invariant.2 l.invariant.3 next.ensures
+            (w.held-is ∙ left l.held found.result _ _ _ found.ensures l.invariant.4 rank.ensures w.if-rank-best.false),
+        w.best-is ∙ l.invariant.4 ∙ ap rank_of (sym w.held-is),
+        omega (arith, w.best-is, l.invariant.5),
+      )
     ]
 
 pub returns : goal.returns
