@@ -1,6 +1,5 @@
 -- `ip::ipv4_facts` meets its contract.
 use Rattle.ip.specs.Ip.{ipv4_facts}
-use borrow.Author.Rules.{rules}
 use Rattle.ip.proofs.ipv4_facts.Goals as goal
 
 pub returns : goal.returns

@@ -1,11 +1,6 @@
 -- `ip::ipv6_facts` meets its contract.
-use native.Mathlib.Omega.{arith}
 use Rattle.ip.specs.Ip.{ipv6_facts}
-use borrow.Author.Rules.{rules}
 use Rattle.ip.proofs.ipv6_facts.Goals as goal
-
-pub overflow_add-class : goal.overflow_add-class
-overflow_add-class c = omega (arith, c.shared_slice_known-2-1.given 1)
 
 pub returns : goal.returns
 unfolding ipv6_facts

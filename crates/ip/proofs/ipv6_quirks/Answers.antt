@@ -1,7 +1,6 @@
 -- `ip::ipv6_quirks` meets its contract.
 use Rattle.ip.specs.Ip.{ipv6_quirks}
 use Rattle.quirks.proofs.Named.{empty_bits}
-use borrow.Author.Rules.{rules}
 use Rattle.ip.proofs.ipv6_quirks.Goals as goal
 
 pub returns : goal.returns

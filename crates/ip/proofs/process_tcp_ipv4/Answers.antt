@@ -6,7 +6,6 @@ use mathlib.Core.Path.{◌≡◌, sym, ◌∙◌, ap}
 use Rattle.rfc.specs.Rfc791.{data_start, data_end}
 use Rattle.basis.proofs.Rules.{cases}
 use native.Mathlib.Omega.{arith}
-use borrow.Author.Rules.{rules}
 use Rattle.ip.proofs.process_tcp_ipv4.Goals as goal
 
 pub returns-then-packet-lt-IPV4_HEADER : goal.returns-then-packet-lt-IPV4_HEADER

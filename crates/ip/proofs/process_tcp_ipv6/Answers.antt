@@ -6,7 +6,6 @@ use mathlib.Core.Path.{◌≡◌, sym, ◌∙◌, ap}
 use Rattle.rfc.specs.Rfc8200.{payload_end}
 use Rattle.basis.proofs.Rules.{cases}
 use native.Mathlib.Omega.{arith}
-use borrow.Author.Rules.{rules}
 use Rattle.ip.proofs.process_tcp_ipv6.Goals as goal
 
 pub returns-then-packet-lt-IPV6_HEADER : goal.returns-then-packet-lt-IPV6_HEADER

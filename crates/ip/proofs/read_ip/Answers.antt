@@ -1,7 +1,6 @@
 -- `ip::read_ip` meets its contract.
 use Rattle.ip.specs.Ip.{read_ip}
 use Rattle.basis.proofs.Rules.{cases}
-use borrow.Author.Rules.{rules}
 use Rattle.ip.proofs.read_ip.Goals as goal
 
 pub returns-then-packet-eq0 : goal.returns-then-packet-eq0
