@@ -1,13 +1,12 @@
 -- Numbers: one turn of the loop over one, its ends, and a whole numeral.
 use Prim.Native.Nat.{ℕ, suc, ◌+◌, ◌*◌, ◌-◌, ◌<◌, ◌≤◌}
 use mathlib.Core.Path.{◌≡◌, refl, sym, ◌∙◌, ap}
-use mathlib.Core.Bool.{Bool, true, false, cond, not}
+use mathlib.Core.Bool.{Bool, true, false, cond}
 use mathlib.Core.List.{List, [], ◌∷◌}
 use native.Mathlib.Omega.{arith}
 use native.Mathlib.Numerals.{add-one}
 use lib.ListN.{length, take, drop, drop_of_length-le}
 use lib.Seq.{drop-cons}
-use borrow.Author.Tests.{not-true, not-false}
 use Rattle.basis.specs.Bytes.{byte_at}
 use Rattle.grammar.specs.Numeral.{any, decimal_value}
 use Rattle.grammar.specs.Reading.{Read}
@@ -45,13 +44,13 @@ module _ (max n : ℕ) (s : List ℕ) (i : ℕ) where
 
 -- The test of a digit as the code's branches have it.
 module _ (r : Bool) (max n b : ℕ) (e : r ≡ fits max n b) where
-  pub passed : not r ≡ false → fits max n b ≡ true
-  passed h = sym e ∙ not-false r h
+  pub passed : r ≡ true → fits max n b ≡ true
+  passed h = sym e ∙ h
 
-  pub failed : not r ≡ true → fits max n b ≡ false
-  failed h = sym e ∙ not-true r h
+  pub failed : r ≡ false → fits max n b ≡ false
+  failed h = sym e ∙ h
 
-  pub bounds : not r ≡ false → (48 ≤ b) × (b < 58) × (n * 10 + (b - 48) ≤ max)
+  pub bounds : r ≡ true → (48 ≤ b) × (b < 58) × (n * 10 + (b - 48) ≤ max)
   bounds h = fits_digit max n b (passed h)
 
 -- ---- a numeral

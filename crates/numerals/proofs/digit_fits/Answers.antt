@@ -1,7 +1,6 @@
 -- `numerals::digit_fits` meets its contract.
 use Rattle.basis.proofs.Rules.{cases}
 use Rattle.grammar.specs.States.{fits}
-use borrow.Author.Rules.{rules}
 use Rattle.numerals.proofs.digit_fits.Goals as goal
 
 pub returns-then-byte-lt48 : goal.returns-then-byte-lt48

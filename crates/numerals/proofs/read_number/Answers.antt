@@ -1,10 +1,7 @@
 -- `numerals::read_number` meets its contract.
-use Prim.Native.Nat.{◌≤◌, ◌-◌}
-use mathlib.Core.Path.{◌≡◌, refl, ◌∙◌}
+use mathlib.Core.Path.{refl, ◌∙◌}
 use native.Mathlib.Omega.{arith}
-use lib.ListN.{length}
 use Rattle.basis.specs.Bytes.{byte_at}
-use Rattle.numerals.specs.Pieces.{number_from}
 use Rattle.numerals.proofs.NumberLaws.{turn, stop, finish, passed, failed, bounds}
 use borrow.Author.Rules.{rules}
 use Rattle.numerals.proofs.read_number.Goals as goal

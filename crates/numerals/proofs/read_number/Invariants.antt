@@ -1,12 +1,8 @@
 -- `numerals::read_number` meets its contract.
 use Prim.Native.Nat.{◌≤◌, ◌-◌}
-use mathlib.Core.Path.{◌≡◌, refl, ◌∙◌}
-use native.Mathlib.Omega.{arith}
+use mathlib.Core.Path.{◌≡◌}
 use lib.ListN.{length}
-use Rattle.basis.specs.Bytes.{byte_at}
 use Rattle.numerals.specs.Pieces.{number_from}
-use Rattle.numerals.proofs.NumberLaws.{turn, stop, finish, passed, failed, bounds}
-use borrow.Author.Rules.{rules}
 use Rattle.numerals.proofs.read_number.Given as goal
 
 abbrev pub invariant-loop-i : goal.invariant-loop-i

@@ -2,7 +2,6 @@
 use mathlib.Core.Path.{◌∙◌}
 use Rattle.grammar.specs.Numeral.{any}
 use Rattle.numerals.proofs.NumberLaws.{gave_none, gave_wanted, all_wanted}
-use borrow.Author.Rules.{rules}
 use Rattle.numerals.proofs.read_numeral.Goals as goal
 
 pub returns-then-number-from : goal.returns-then-number-from

@@ -1,9 +1,7 @@
 -- `numerals::read_unnamed` meets its contract.
 use mathlib.Core.Path.{sym, ◌∙◌}
-use borrow.Author.Tests.{not-true, not-false}
 use Rattle.signature_line.specs.Words.{unnamed}
 use Rattle.numerals.proofs.NumberLaws.{gave_none, gave_unwanted, gave_wanted}
-use borrow.Author.Rules.{rules}
 use Rattle.numerals.proofs.read_unnamed.Goals as goal
 
 pub returns-then-number-from : goal.returns-then-number-from
