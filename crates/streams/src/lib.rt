@@ -1,11 +1,12 @@
-// What the programs beside termread share: how their input ended, a message on standard error. What is answered is the system's, so
+// What the programs beside termread share: how their input ended, a text or a message written whole. What is answered is the system's, so
 // nothing here promises an equation (docs/ANSWERS.md, "Exceptions"). Streams that do not wait are not tried again: a call that would have
 // to wait has failed.
 #![tactic(auto)]
 
+ghost use Rattle.std.specs.Prelude.{◌≤◌, length};
 ghost use Rattle.streams.specs.Ends.{LongerIfFull};
 
-use libc::{STDERR_FILENO, STDIN_FILENO};
+use std::io::{Read, Stderr, Stdin, Stdout, Write};
 
 // How the input ends behind what was read.
 #[derive(Clone, Copy)]
@@ -17,17 +18,33 @@ pub enum Ending {
     Failed,
 }
 
+// Reads until the buffer is full, the input ends or a read fails: how many bytes came.
+pub fn read_full(mut stdin: Stdin, buffer: &mut [u8]) -> usize
+    ensures { result ≤ length buffer.new }
+{
+    let mut count = 0;
+    while count < buffer.len() {
+        let Ok(more) = stdin.read(&mut buffer[count..]) else {
+            return count;
+        };
+        if more == 0 {
+            return count;
+        }
+        count += more;
+    }
+    count
+}
+
 // What a reading that stops early is: one read more tells whether the input ended, or a read failed before.
-pub fn ends_as(full: bool) -> Ending
+pub fn ends_as(mut stdin: Stdin, full: bool) -> Ending
     ensures { LongerIfFull full result }
 {
     let mut one = [0u8; 1];
-    let got = libc::read(STDIN_FILENO, &mut one);
+    let Ok(got) = stdin.read(&mut one) else {
+        return Ending::Failed;
+    };
     if got == 0 {
         return Ending::Whole;
-    }
-    if got < 0 {
-        return Ending::Failed;
     }
     if full {
         return Ending::Longer;
@@ -35,26 +52,44 @@ pub fn ends_as(full: bool) -> Ending
     Ending::Failed
 }
 
-// A message, on standard error.
-pub fn say(text: &[u8]) {
-    io::write_all(STDERR_FILENO, text);
+// Writes until all of a text is taken, or a write takes nothing or fails. Whether all of it was taken.
+pub fn write_all(mut stdout: Stdout, text: &[u8]) -> bool {
+    let mut done = 0;
+    while done < text.len() {
+        let Ok(more) = stdout.write(&text[done..]) else {
+            return false;
+        };
+        if more == 0 {
+            return false;
+        }
+        done += more;
+    }
+    true
+}
+
+// A message, on standard error. One that is not taken is lost.
+pub fn say(mut stderr: Stderr, text: &[u8]) {
+    let _ = stderr.write_all(text);
 }
 
 // A number of it.
-pub fn say_number(n: usize) {
-    io::print_decimal(STDERR_FILENO, n as u64);
+pub fn say_number(stderr: Stderr, n: usize) {
+    let _ = eprint!(stderr; "{n}");
 }
 
 // What a program of this name says if its output was not taken whole.
-pub fn tell_cut(name: &[u8], whole: bool) {
+pub fn tell_cut(stderr: Stderr, name: &[u8], whole: bool) {
     if !whole {
-        say(name);
-        say(b": standard output could not be written, and ends early\n");
+        say(stderr, name);
+        say(
+            stderr,
+            b": standard output could not be written, and ends early\n",
+        );
     }
 }
 
 // And if its input failed.
-pub fn tell_unread(name: &[u8]) {
-    say(name);
-    say(b": standard input could not be read\n");
+pub fn tell_unread(stderr: Stderr, name: &[u8]) {
+    say(stderr, name);
+    say(stderr, b": standard input could not be read\n");
 }
