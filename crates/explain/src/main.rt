@@ -10,7 +10,6 @@ ghost use Rattle.explain.specs.RecordLine.{CheckedList};
 
 use bundle::{BundleCheck, PacketAt, check_bundle, packet_at};
 use flow::Reading;
-use libc::{STDIN_FILENO, STDOUT_FILENO};
 use nearest::{answered_number, write_below};
 use numbers::be16_at;
 use packet_answer::PacketAnswer;
@@ -18,7 +17,8 @@ use packet_line::{put_packet, reading_at};
 use refusals::{Refusal, refusal_number};
 use report::lines::put_numbered;
 use siglist::{Areas, Header, read_header};
-use streams::{Ending, ends_as, tell_cut, tell_unread};
+use std::io::Stdout;
+use streams::{Ending, ends_as, read_full, tell_cut, tell_unread, write_all};
 
 mod gates;
 mod lines;
@@ -29,18 +29,31 @@ const LINE: usize = 452;
 
 // ---- the output: whether all of it was taken
 
-fn write_packet(answer: PacketAnswer, reading: Reading, list: &[u8], areas: Areas) -> bool
+fn write_packet(
+    stdout: Stdout,
+    answer: PacketAnswer,
+    reading: Reading,
+    list: &[u8],
+    areas: Areas,
+) -> bool
     requires { CheckedList list.now areas }
 {
     let mut line = [0u8; LINE];
     let filled = put_packet(&mut line, 0, answer, reading);
-    if !io::write_all(STDOUT_FILENO, &line[0..filled]) {
+    if !write_all(stdout, &line[0..filled]) {
         return false;
     }
-    write_below(answered_number(answer), reading, list, areas)
+    write_below(stdout, answered_number(answer), reading, list, areas)
 }
 
-fn write_packets(bundle: &[u8], list: &[u8], areas: Areas, offset: usize, count: usize) -> bool
+fn write_packets(
+    stdout: Stdout,
+    bundle: &[u8],
+    list: &[u8],
+    areas: Areas,
+    offset: usize,
+    count: usize,
+) -> bool
     requires { CheckedList list.now areas }
 {
     let mut at = offset;
@@ -50,7 +63,7 @@ fn write_packets(bundle: &[u8], list: &[u8], areas: Areas, offset: usize, count:
             return true;
         };
         let reading = reading_at(bundle, at, end);
-        if !write_packet(answer, reading, list, areas) {
+        if !write_packet(stdout, answer, reading, list, areas) {
             return false;
         }
         at = end;
@@ -60,14 +73,14 @@ fn write_packets(bundle: &[u8], list: &[u8], areas: Areas, offset: usize, count:
 }
 
 // A line of a word and a number.
-fn write_numbered(word: &[u8], n: u16) -> bool {
+fn write_numbered(stdout: Stdout, word: &[u8], n: u16) -> bool {
     let mut line = [0u8; LINE];
     let filled = put_numbered(&mut line, 0, word, n);
-    io::write_all(STDOUT_FILENO, &line[0..filled])
+    write_all(stdout, &line[0..filled])
 }
 
-fn write_refused(refusal: Refusal) -> bool {
-    write_numbered(b"refused ", refusal_number(refusal) as u16)
+fn write_refused(stdout: Stdout, refusal: Refusal) -> bool {
+    write_numbered(stdout, b"refused ", refusal_number(refusal) as u16)
 }
 
 // The list's bytes.
@@ -81,7 +94,7 @@ fn list_of<'a>(bundle: &'a [u8]) -> &'a [u8]
 }
 
 // The lines of a bundle that passed its check.
-fn write_good(bundle: &[u8]) -> bool
+fn write_good(stdout: Stdout, bundle: &[u8]) -> bool
     requires { check_bundle bundle.now ≡ check.Good }
 {
     let count = be16_at(bundle, 0);
@@ -90,28 +103,35 @@ fn write_good(bundle: &[u8]) -> bool
     let Header::Fits(areas) = read_header(list) else {
         return true;
     };
-    if !write_numbered(b"packets ", count) {
+    if !write_numbered(stdout, b"packets ", count) {
         return false;
     }
-    write_packets(bundle, list, areas, offset as usize, count as usize)
+    write_packets(stdout, bundle, list, areas, offset as usize, count as usize)
 }
 
-fn write_output(bundle: &[u8]) -> bool {
+fn write_output(stdout: Stdout, bundle: &[u8]) -> bool {
     match check_bundle(bundle) {
-        BundleCheck::Good => write_good(bundle),
-        BundleCheck::DoesNotFit => write_refused(Refusal::BundleDoesNotFit),
-        BundleCheck::List(refusal) => write_refused(Refusal::List(refusal)),
+        BundleCheck::Good => write_good(stdout, bundle),
+        BundleCheck::DoesNotFit => write_refused(stdout, Refusal::BundleDoesNotFit),
+        BundleCheck::List(refusal) => write_refused(stdout, Refusal::List(refusal)),
     }
 }
 
 // ---- the streams
 
-fn main() {
+fn main(rt: HostRuntime) {
+    let stdin = rt.stdin();
+    let stdout = rt.stdout();
+    let stderr = rt.stderr();
     let mut buffer = [0u8; 65535];
-    let count = io::read_full(STDIN_FILENO, &mut buffer);
-    match ends_as(count == 65535) {
-        Ending::Whole => tell_cut(b"explain", write_output(&buffer[0..count])),
-        Ending::Longer => tell_cut(b"explain", write_refused(Refusal::BundleDoesNotFit)),
-        Ending::Failed => tell_unread(b"explain"),
+    let count = read_full(stdin, &mut buffer);
+    match ends_as(stdin, count == 65535) {
+        Ending::Whole => tell_cut(stderr, b"explain", write_output(stdout, &buffer[0..count])),
+        Ending::Longer => tell_cut(
+            stderr,
+            b"explain",
+            write_refused(stdout, Refusal::BundleDoesNotFit),
+        ),
+        Ending::Failed => tell_unread(stderr, b"explain"),
     }
 }

@@ -8,11 +8,12 @@ use crate::gates::{failing, gates_at, row_of};
 use crate::lines::put_explained;
 use flow::{Answer, Reading};
 use found::Found;
-use libc::STDOUT_FILENO;
 use matching::{Features, features_of};
 use observable::TcpObservation;
 use packet_answer::PacketAnswer;
 use siglist::Areas;
+use std::io::Stdout;
+use streams::write_all;
 use text::{put_decimal, put_word};
 
 // The longest line: a number and a label of five digits each, `generic`, the nine names, and the longest signature line.
@@ -81,6 +82,7 @@ fn fewest(seen: Features, kinds: &[u8; 40], bytes: &[u8; 40], list: &[u8], areas
 }
 
 fn write_explained(
+    stdout: Stdout,
     seen: Features,
     kinds: &[u8; 40],
     bytes: &[u8; 40],
@@ -93,16 +95,16 @@ fn write_explained(
     let gates = gates_at(seen, kinds, bytes, list, areas, i);
     let mut line = [0u8; LINE];
     let filled = put_explained(&mut line, gates, list, areas, i);
-    io::write_all(STDOUT_FILENO, &line[0..filled])
+    write_all(stdout, &line[0..filled])
 }
 
 // So many more are as near as those that are shown.
-fn write_more(more: u16) -> bool {
+fn write_more(stdout: Stdout, more: u16) -> bool {
     let mut line = [0u8; LINE];
     let number = put_word(&mut line, 0, b"  and ");
     let behind = put_decimal(&mut line, number, more);
     let filled = put_word(&mut line, behind, b" more fail as few\n");
-    io::write_all(STDOUT_FILENO, &line[0..filled])
+    write_all(stdout, &line[0..filled])
 }
 
 // Whether so many fields of record i fail, and it is not the one that was answered, which is shown before.
@@ -126,6 +128,7 @@ fn is_near(
 
 // The records of which so many fields fail: the first five, and how many more there are.
 fn write_chosen(
+    stdout: Stdout,
     seen: Features,
     kinds: &[u8; 40],
     bytes: &[u8; 40],
@@ -141,7 +144,7 @@ fn write_chosen(
     while i < areas.records as usize {
         if is_near(seen, kinds, bytes, list, areas, least, answered, i) {
             if found < SHOWN {
-                if !write_explained(seen, kinds, bytes, list, areas, i) {
+                if !write_explained(stdout, seen, kinds, bytes, list, areas, i) {
                     return false;
                 }
             }
@@ -152,11 +155,17 @@ fn write_chosen(
     if found <= SHOWN {
         return true;
     }
-    write_more((found - SHOWN) as u16)
+    write_more(stdout, (found - SHOWN) as u16)
 }
 
 // The record that was answered, if one was, and the nearest of the others.
-fn write_nearest(observation: TcpObservation, answered: usize, list: &[u8], areas: Areas) -> bool
+fn write_nearest(
+    stdout: Stdout,
+    observation: TcpObservation,
+    answered: usize,
+    list: &[u8],
+    areas: Areas,
+) -> bool
     requires { CheckedList list.now areas }
 {
     let seen = features_of(observation);
@@ -164,23 +173,29 @@ fn write_nearest(observation: TcpObservation, answered: usize, list: &[u8], area
     let kinds = layout.kinds;
     let bytes = layout.bytes;
     if answered < areas.records as usize {
-        if !write_explained(seen, &kinds, &bytes, list, areas, answered) {
+        if !write_explained(stdout, seen, &kinds, &bytes, list, areas, answered) {
             return false;
         }
     }
     let least = fewest(seen, &kinds, &bytes, list, areas);
-    write_chosen(seen, &kinds, &bytes, list, areas, least, answered)
+    write_chosen(stdout, seen, &kinds, &bytes, list, areas, least, answered)
 }
 
 // Below the line of a SYN or SYN+ACK, of which this record was answered.
-pub(crate) fn write_below(answered: usize, reading: Reading, list: &[u8], areas: Areas) -> bool
+pub(crate) fn write_below(
+    stdout: Stdout,
+    answered: usize,
+    reading: Reading,
+    list: &[u8],
+    areas: Areas,
+) -> bool
     requires { CheckedList list.now areas }
 {
     let answer = reading.answer;
     let observation = reading.observation;
     match answer {
-        Answer::Syn => write_nearest(observation, answered, list, areas),
-        Answer::SynAck => write_nearest(observation, answered, list, areas),
+        Answer::Syn => write_nearest(stdout, observation, answered, list, areas),
+        Answer::SynAck => write_nearest(stdout, observation, answered, list, areas),
         Answer::Nothing => true,
         Answer::Refused(_) => true,
     }

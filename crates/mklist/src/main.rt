@@ -5,10 +5,10 @@
 ghost use Rattle.std.specs.Prelude.{◌<◌, ◌≤◌, length};
 
 use keeper_file::Compiled;
-use libc::{STDERR_FILENO, STDIN_FILENO, STDOUT_FILENO};
 use list_compiler::compile_list;
 use refusals::Refusal;
-use streams::{Ending, ends_as, say, say_number, tell_cut, tell_unread};
+use std::io::{Stderr, Stdout};
+use streams::{Ending, ends_as, read_full, say, say_number, tell_cut, tell_unread, write_all};
 
 // The most bytes of a file, and of a list: so much is a list in a bundle, and what `showlist` reads.
 const MOST: usize = 65535;
@@ -97,103 +97,109 @@ fn signature_behind(file: &[u8], label_end: usize) -> usize
 // ---- words
 
 // `'x'`, or a byte that cannot be shown so by its number.
-fn say_byte(byte: u8) {
+fn say_byte(stderr: Stderr, byte: u8) {
     if 32 < byte {
         if byte < 127 {
             let shown = [b'\'', byte, b'\''];
-            say(&shown);
+            say(stderr, &shown);
             return;
         }
     }
     if byte == 32 {
-        say(b"a blank");
+        say(stderr, b"a blank");
         return;
     }
-    say(b"the byte 0x");
-    io::print_hex(STDERR_FILENO, byte as u64, 2);
+    say(stderr, b"the byte 0x");
+    let _ = eprint!(stderr; "{byte:02x}");
 }
 
-fn say_place(line: usize, column: usize) {
-    say(b"line ");
-    say_number(line);
-    say(b", column ");
-    say_number(column);
-    say(b": ");
+fn say_place(stderr: Stderr, line: usize, column: usize) {
+    say(stderr, b"line ");
+    say_number(stderr, line);
+    say(stderr, b", column ");
+    say_number(stderr, column);
+    say(stderr, b": ");
 }
 
 // What goes on no more at a place: the label, or the signature behind it.
-fn say_part(file: &[u8], start: usize, at: usize)
+fn say_part(stderr: Stderr, file: &[u8], start: usize, at: usize)
     requires { (start ≤ at) × (at < length file.now) }
 {
     let label_end = behind_digits(file, start);
     if at <= label_end {
-        say(b"no label goes on with ");
-        say_byte(file[at]);
+        say(stderr, b"no label goes on with ");
+        say_byte(stderr, file[at]);
         return;
     }
     if at - label_end == signature_behind(file, label_end) + LONGEST {
-        say(b"the signature is longer than 512 bytes");
+        say(stderr, b"the signature is longer than 512 bytes");
         return;
     }
-    say(b"no signature goes on with ");
-    say_byte(file[at]);
+    say(stderr, b"no signature goes on with ");
+    say_byte(stderr, file[at]);
 }
 
-fn say_bad(file: &[u8], line: usize, offset: usize) {
+fn say_bad(stderr: Stderr, file: &[u8], line: usize, offset: usize) {
     let start = line_start(file, line);
     let left = file.len() - start;
     if left <= offset {
-        say_place(line, left + 1);
-        say(b"the line ends too soon\n");
+        say_place(stderr, line, left + 1);
+        say(stderr, b"the line ends too soon\n");
         return;
     }
     let at = start + offset;
-    say_place(line, offset + 1);
+    say_place(stderr, line, offset + 1);
     if ends_at(file, at) {
-        say(b"the line ends too soon\n");
+        say(stderr, b"the line ends too soon\n");
         return;
     }
-    say_part(file, start, at);
-    say(b"\n");
+    say_part(stderr, file, start, at);
+    say(stderr, b"\n");
 }
 
-fn say_many(line: usize, text: &[u8]) {
-    say(b"line ");
-    say_number(line);
-    say(text);
+fn say_many(stderr: Stderr, line: usize, text: &[u8]) {
+    say(stderr, b"line ");
+    say_number(stderr, line);
+    say(stderr, text);
 }
 
-fn say_refused(file: &[u8], line: usize, refusal: Refusal) {
+fn say_refused(stderr: Stderr, file: &[u8], line: usize, refusal: Refusal) {
     match refusal {
-        Refusal::BadLine(offset) => say_bad(file, line, offset),
-        Refusal::TooManySignatures => say_many(line, b": more than 65535 signatures\n"),
+        Refusal::BadLine(offset) => say_bad(stderr, file, line, offset),
+        Refusal::TooManySignatures => say_many(stderr, line, b": more than 65535 signatures\n"),
         Refusal::TooManyEntries => say_many(
+            stderr,
             line,
             b": more than 32763 options in the layouts up to here\n",
         ),
-        _ => say(b"mklist: the list would be longer than 65535 bytes\n"),
+        _ => say(
+            stderr,
+            b"mklist: the list would be longer than 65535 bytes\n",
+        ),
     }
 }
 
 // ---- the program
 
-fn compile(file: &[u8]) {
+fn compile(stdout: Stdout, stderr: Stderr, file: &[u8]) {
     let mut list = [0u8; MOST];
     match compile_list(&mut list, file) {
         Compiled::List(size) => {
-            let whole = io::write_all(STDOUT_FILENO, &list[0..size]);
-            tell_cut(b"mklist", whole);
+            let whole = write_all(stdout, &list[0..size]);
+            tell_cut(stderr, b"mklist", whole);
         }
-        Compiled::Refused(line, refusal) => say_refused(file, line, refusal),
+        Compiled::Refused(line, refusal) => say_refused(stderr, file, line, refusal),
     }
 }
 
-fn main() {
+fn main(rt: HostRuntime) {
+    let stdin = rt.stdin();
+    let stderr = rt.stderr();
     let mut file = [0u8; MOST];
-    let count = io::read_full(STDIN_FILENO, &mut file);
-    match ends_as(count == MOST) {
-        Ending::Whole => compile(&file[0..count]),
-        Ending::Longer => say(b"mklist: the file is longer than 65535 bytes\n"),
-        Ending::Failed => tell_unread(b"mklist"),
+    let count = read_full(stdin, &mut file);
+    match ends_as(stdin, count == MOST) {
+        Ending::Whole => compile(rt.stdout(), stderr, &file[0..count]),
+        Ending::Longer => say(stderr, b"mklist: the file is longer than 65535 bytes\n"),
+        Ending::Failed => tell_unread(stderr, b"mklist"),
     }
 }

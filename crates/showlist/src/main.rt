@@ -3,21 +3,21 @@
 #![tactic(auto)]
 
 use file_writer::{FILE_LINE, put_shown};
-use libc::{STDIN_FILENO, STDOUT_FILENO};
 use refusals::ListRefusal;
 use siglist::{Header, ListAnswer, check_list, read_header};
-use streams::{Ending, ends_as, say, say_number, tell_cut, tell_unread};
+use std::io::{Stderr, Stdout};
+use streams::{Ending, ends_as, read_full, say, say_number, tell_cut, tell_unread, write_all};
 
 // The most bytes of a list that is read.
 const MOST: usize = 65535;
 
 // The lines of so many records; whether all were taken.
-fn write_records(list: &[u8], count: usize) -> bool {
+fn write_records(stdout: Stdout, list: &[u8], count: usize) -> bool {
     let mut line = [0u8; FILE_LINE];
     let mut i = 0;
     while i < count {
         let filled = put_shown(&mut line, 0, list, i);
-        if !io::write_all(STDOUT_FILENO, &line[0..filled]) {
+        if !write_all(stdout, &line[0..filled]) {
             return false;
         }
         i += 1;
@@ -25,40 +25,46 @@ fn write_records(list: &[u8], count: usize) -> bool {
     true
 }
 
-fn write_good(list: &[u8]) -> bool {
+fn write_good(stdout: Stdout, list: &[u8]) -> bool {
     let Header::Fits(areas) = read_header(list) else {
         return true;
     };
-    write_records(list, areas.records as usize)
+    write_records(stdout, list, areas.records as usize)
 }
 
 // Records are counted from 0, as everywhere.
-fn say_refused(refusal: ListRefusal) {
+fn say_refused(stderr: Stderr, refusal: ListRefusal) {
     match refusal {
         ListRefusal::DoesNotFit => say(
+            stderr,
             b"showlist: this is no signature list: its header or its areas do not fit\n",
         ),
         ListRefusal::BadRecord(index) => {
-            say(b"showlist: record ");
-            say_number(index);
-            say(b" of the list, counted from 0, is not well formed\n");
+            say(stderr, b"showlist: record ");
+            say_number(stderr, index);
+            say(
+                stderr,
+                b" of the list, counted from 0, is not well formed\n",
+            );
         }
     }
 }
 
-fn show(list: &[u8]) {
+fn show(stdout: Stdout, stderr: Stderr, list: &[u8]) {
     match check_list(list) {
-        ListAnswer::Good => tell_cut(b"showlist", write_good(list)),
-        ListAnswer::Refused(refusal) => say_refused(refusal),
+        ListAnswer::Good => tell_cut(stderr, b"showlist", write_good(stdout, list)),
+        ListAnswer::Refused(refusal) => say_refused(stderr, refusal),
     }
 }
 
-fn main() {
+fn main(rt: HostRuntime) {
+    let stdin = rt.stdin();
+    let stderr = rt.stderr();
     let mut list = [0u8; MOST];
-    let count = io::read_full(STDIN_FILENO, &mut list);
-    match ends_as(count == MOST) {
-        Ending::Whole => show(&list[0..count]),
-        Ending::Longer => say(b"showlist: the list is longer than 65535 bytes\n"),
-        Ending::Failed => tell_unread(b"showlist"),
+    let count = read_full(stdin, &mut list);
+    match ends_as(stdin, count == MOST) {
+        Ending::Whole => show(rt.stdout(), stderr, &list[0..count]),
+        Ending::Longer => say(stderr, b"showlist: the list is longer than 65535 bytes\n"),
+        Ending::Failed => tell_unread(stderr, b"showlist"),
     }
 }
