@@ -14,14 +14,14 @@ def refuse(script, why):
 
 
 def need(usage, fits, programs=(), by=None, ask=False):
-    """The words fit the usage, whose first is the test's name; the programs are built, by `rt check` or as said; tools/ask answers."""
+    """The words fit the usage, whose first is the test's name; the programs are built, by `tools/build` or as said; tools/ask answers."""
     script = usage.split()[0]
     if not fits or any(word.startswith("-") for word in sys.argv[1:]):
         refuse(script, f"usage: {usage}")
     for path in programs:
         if not os.path.isfile(path) or not os.access(path, os.X_OK):
             if not by and os.path.dirname(path) == os.path.join(ROOT, "target", "bin"):
-                by = f"rt check {os.path.basename(path)}"
+                by = f"tools/build {os.path.basename(path)}"
             refuse(script, f"{path} is not built: {by}" if by else f"there is no program {path}")
     if ask and not shutil.which("rt"):
         refuse(script, "the Rattle toolchain (rt) is not on PATH, and tools/ask needs it")

@@ -15,8 +15,7 @@ use witness::{PlainLine, PlainPacket, witness_line};
 
 // The reading of a packet in the plain mode, whole, as a struct that C can read; the window's multiplier, which a search computes, is
 // left out.
-#[unsafe(no_mangle)]
-pub extern "C" fn counted_observe(packet: &[u8], peer: u16) -> PlainPacket
+pub fn counted_observe(packet: &[u8], peer: u16) -> PlainPacket
     ensures { result ≡ counted_reading packet.now peer }
 {
     plain_packet(
@@ -26,8 +25,7 @@ pub extern "C" fn counted_observe(packet: &[u8], peer: u16) -> PlainPacket
 }
 
 // The reading in the plain mode, of which only the answer is handed on: what was read is left where it is.
-#[unsafe(no_mangle)]
-pub extern "C" fn counted_read(packet: &[u8], peer: u16) -> u8
+pub fn counted_read(packet: &[u8], peer: u16) -> u8
     ensures { result ≡ counted_kind packet.now peer }
 {
     let reading = flow::read_packet_in(packet, peer_of(peer), Mode::PLAIN);
@@ -36,8 +34,7 @@ pub extern "C" fn counted_read(packet: &[u8], peer: u16) -> u8
 }
 
 // The same as `counted_observe` in a mode that is given as for C.
-#[unsafe(no_mangle)]
-pub extern "C" fn counted_observe_in(packet: &[u8], peer: u16, bits: u8) -> PlainPacket
+pub fn counted_observe_in(packet: &[u8], peer: u16, bits: u8) -> PlainPacket
     ensures { result ≡ counted_reading_in (mode_of bits) packet.now peer }
 {
     plain_packet(
@@ -60,8 +57,7 @@ fn searched_code(searched: Searched) -> u64
 }
 
 // From a packet to what the search of a checked list answers for it.
-#[unsafe(no_mangle)]
-pub extern "C" fn counted_answer(packet: &[u8], peer: u16, list: &[u8]) -> u64
+pub fn counted_answer(packet: &[u8], peer: u16, list: &[u8]) -> u64
     ensures { result ≡ counted_answer packet.now peer list.now }
 {
     let reading = flow::read_packet_in(packet, peer_of(peer), Mode::PLAIN);
@@ -70,8 +66,7 @@ pub extern "C" fn counted_answer(packet: &[u8], peer: u16, list: &[u8]) -> u64
 }
 
 // The reading of a signature line, whole, as a struct that C can read.
-#[unsafe(no_mangle)]
-pub extern "C" fn counted_line(line: &[u8]) -> PlainLine
+pub fn counted_line(line: &[u8]) -> PlainLine
     ensures { result ≡ line_read line.now }
 {
     witness_line(line)

@@ -261,8 +261,7 @@ fn packet_line(buffer: &mut [u8], packet: &[u8], peer: u16, mode: Mode) -> Termr
 // ---- what is exported
 
 // Whether a list is well formed: outcome 0, or its refusal.
-#[unsafe(no_mangle)]
-pub extern "C" fn termread_check_list(list: &[u8]) -> TermreadResult
+pub fn termread_check_list(list: &[u8]) -> TermreadResult
     ensures { result ≡ list_parts (check_list list.now) }
 {
     match check_list(list) {
@@ -272,16 +271,14 @@ pub extern "C" fn termread_check_list(list: &[u8]) -> TermreadResult
 }
 
 // The answer of a packet against a list that was checked: what is not a well-formed record of it does not fit.
-#[unsafe(no_mangle)]
-pub extern "C" fn termread_answer_checked(packet: &[u8], peer: u16, list: &[u8]) -> TermreadResult
+pub fn termread_answer_checked(packet: &[u8], peer: u16, list: &[u8]) -> TermreadResult
     ensures { result ≡ packet_parts (answer_of packet.now (peer_of peer) list.now) }
 {
     answered(packet, peer, list, Mode::PLAIN)
 }
 
 // The answer of a packet against a list that was not checked: refusals 9 and 10 come before the packet's.
-#[unsafe(no_mangle)]
-pub extern "C" fn termread_answer(packet: &[u8], peer: u16, list: &[u8]) -> TermreadResult
+pub fn termread_answer(packet: &[u8], peer: u16, list: &[u8]) -> TermreadResult
     ensures { result ≡ parts_of (gateway_answer packet.now peer list.now) }
 {
     match check_list(list) {
@@ -291,8 +288,7 @@ pub extern "C" fn termread_answer(packet: &[u8], peer: u16, list: &[u8]) -> Term
 }
 
 // Both in any mode, as one number: bit 0 is strict, and the other bits are not read.
-#[unsafe(no_mangle)]
-pub extern "C" fn termread_answer_checked_in(
+pub fn termread_answer_checked_in(
     packet: &[u8],
     peer: u16,
     list: &[u8],
@@ -303,8 +299,7 @@ pub extern "C" fn termread_answer_checked_in(
     answered(packet, peer, list, mode_of(bits))
 }
 
-#[unsafe(no_mangle)]
-pub extern "C" fn termread_answer_in(
+pub fn termread_answer_in(
     packet: &[u8],
     peer: u16,
     list: &[u8],
@@ -320,16 +315,14 @@ pub extern "C" fn termread_answer_in(
 
 // The raw line of a packet, written from the buffer's start: outcome 6 with its length, nothing, or a refusal, 15 the last. Whatever is
 // answered, bytes past the line are as they were.
-#[unsafe(no_mangle)]
-pub extern "C" fn termread_raw_line(buffer: &mut [u8], packet: &[u8], peer: u16) -> TermreadResult
+pub fn termread_raw_line(buffer: &mut [u8], packet: &[u8], peer: u16) -> TermreadResult
     ensures { Writes buffer.old (raw_line packet.now peer) result buffer.new }
 {
     packet_line(buffer, packet, peer, Mode::PLAIN)
 }
 
 // The same in any mode.
-#[unsafe(no_mangle)]
-pub extern "C" fn termread_raw_line_in(
+pub fn termread_raw_line_in(
     buffer: &mut [u8],
     packet: &[u8],
     peer: u16,
@@ -341,8 +334,7 @@ pub extern "C" fn termread_raw_line_in(
 }
 
 // The line of record `index` of a list, in the same way: refusals 9, 10, 23 and 15.
-#[unsafe(no_mangle)]
-pub extern "C" fn termread_record_line(
+pub fn termread_record_line(
     buffer: &mut [u8],
     list: &[u8],
     index: usize,
@@ -353,8 +345,7 @@ pub extern "C" fn termread_record_line(
 }
 
 // A keeper's file compiled into a list, from the buffer's start on: its length, or a refusal, 13, 24, 25 or 15, with the line.
-#[unsafe(no_mangle)]
-pub extern "C" fn termread_compile_list(buffer: &mut [u8], file: &[u8]) -> TermreadCompiled
+pub fn termread_compile_list(buffer: &mut [u8], file: &[u8]) -> TermreadCompiled
     ensures { Writes buffer.old (compile_parts file.now) result buffer.new }
 {
     compiled_parts(compile_list(buffer, file))

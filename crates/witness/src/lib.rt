@@ -151,8 +151,7 @@ pub struct PlainProgress {
 }
 
 // The reading of a packet, in a mode that is given as for C; a peer's MSS of 0 is an absent one.
-#[unsafe(no_mangle)]
-pub extern "C" fn witness_packet(packet: &[u8], peer: u16, bits: u8) -> PlainPacket
+pub fn witness_packet(packet: &[u8], peer: u16, bits: u8) -> PlainPacket
     ensures { result ≡ packet_read bits packet.now peer }
 {
     let reading = flow::read_packet_in(packet, peer_of(peer), mode_of(bits));
@@ -160,8 +159,7 @@ pub extern "C" fn witness_packet(packet: &[u8], peer: u16, bits: u8) -> PlainPac
     plain_packet(reading, observation.window_multiplier())
 }
 
-#[unsafe(no_mangle)]
-pub extern "C" fn witness_options(options: &[u8]) -> PlainOptions
+pub fn witness_options(options: &[u8]) -> PlainOptions
     ensures { result ≡ options_read options.now }
 {
     plain_options(syn_options::parse_options_raw(options))
@@ -169,47 +167,41 @@ pub extern "C" fn witness_options(options: &[u8]) -> PlainOptions
 
 // The walk of an option string as of a SYN or not, from no quirks. It stops before the first option that runs past the end if bit 0 is
 // set, before the first of a short length if bit 1 is; the other bits are not read.
-#[unsafe(no_mangle)]
-pub extern "C" fn witness_walk(options: &[u8], stop: u8, syn: bool) -> PlainWalk
+pub fn witness_walk(options: &[u8], stop: u8, syn: bool) -> PlainWalk
     ensures { result ≡ walk_read stop syn options.now }
 {
     plain_walk(syn_options::read_options(options, stop_of(stop), syn, QuirkSet::EMPTY))
 }
 
 // The reading of a line of p0f's text form.
-#[unsafe(no_mangle)]
-pub extern "C" fn witness_line(line: &[u8]) -> PlainLine
+pub fn witness_line(line: &[u8]) -> PlainLine
     ensures { result ≡ line_read line.now }
 {
     plain_line(parse_tcp::parse_tcp_signature(line))
 }
 
 // The raw line of an observation, into a lent buffer.
-#[unsafe(no_mangle)]
-pub extern "C" fn witness_raw(buffer: &mut [u8], observation: PlainObservation) -> PlainWrote
+pub fn witness_raw(buffer: &mut [u8], observation: PlainObservation) -> PlainWrote
     ensures { Writes buffer.old (raw_line observation) result buffer.new }
 {
     plain_wrote(write_observation(buffer, observation_of(observation)))
 }
 
 // The line of a list's record, by its number from 0, into a lent buffer.
-#[unsafe(no_mangle)]
-pub extern "C" fn witness_record(buffer: &mut [u8], list: &[u8], index: usize) -> PlainWrote
+pub fn witness_record(buffer: &mut [u8], list: &[u8], index: usize) -> PlainWrote
     ensures { Writes buffer.old (line_at list.now index) result buffer.new }
 {
     plain_wrote(write_record(buffer, list, index))
 }
 
-#[unsafe(no_mangle)]
-pub extern "C" fn witness_search(observation: PlainObservation, list: &[u8]) -> PlainSearch
+pub fn witness_search(observation: PlainObservation, list: &[u8]) -> PlainSearch
     ensures { result ≡ search_read observation list.now }
 {
     plain_search(search::search(observation_of(observation), list))
 }
 
 // The entry of a TTL byte in the table: what it is taken for, by the codes of a record, and its guess.
-#[unsafe(no_mangle)]
-pub extern "C" fn witness_ttl(ttl: u8) -> PlainTtl
+pub fn witness_ttl(ttl: u8) -> PlainTtl
     ensures { result ≡ ttl_read ttl }
 {
     let entry = ttl_entry(ttl);
@@ -220,8 +212,7 @@ pub extern "C" fn witness_ttl(ttl: u8) -> PlainTtl
 }
 
 // The hop distance that is reported for two TTLs of three bytes each (form, TTL, distance): an observed one, then a signature's.
-#[unsafe(no_mangle)]
-pub extern "C" fn witness_hops(ttls: &[u8]) -> u8
+pub fn witness_hops(ttls: &[u8]) -> u8
     ensures { result ≡ hops_read ttls.now }
 {
     if ttls.len() < 6 {
@@ -244,8 +235,7 @@ fn plain_progress(progress: report::Progress) -> PlainProgress
 }
 
 // The first page of a bundle's output in such a mode, and the next one after a progress.
-#[unsafe(no_mangle)]
-pub extern "C" fn witness_first_page(
+pub fn witness_first_page(
     bundle: &[u8],
     page: &mut [u8; PAGE],
     bits: u8,
@@ -255,8 +245,7 @@ pub extern "C" fn witness_first_page(
     plain_progress(report::first_page_in(bundle, false, page, mode_of(bits)))
 }
 
-#[unsafe(no_mangle)]
-pub extern "C" fn witness_next_page(
+pub fn witness_next_page(
     bundle: &[u8],
     progress: PlainProgress,
     page: &mut [u8; PAGE],
