@@ -133,18 +133,18 @@ module _ (rows : List Row) (s : List ℕ) (from : LinePlace) where
 -- ---- the byte behind a field
 
 module _ (byte : ℕ) (s : List ℕ) (at : ℕ) (good : Bool) where
-  pub behind_nothing : not good ≡ true → place at false ≡ behind_at byte s at good
+  pub behind_nothing : good ≡ false → place at false ≡ behind_at byte s at good
   unfolding behind_at
-  behind_nothing h = rw (not-true good h)
+  behind_nothing h = rw h
 
-  module _ (g : not good ≡ false) {k : Bool} (e : k ≡ (ltb at (length s) && eqb (byte_at s at) byte)) where
+  module _ (g : good ≡ true) {k : Bool} (e : k ≡ (ltb at (length s) && eqb (byte_at s at) byte)) where
     pub behind_other : k ≡ false → place at false ≡ behind_at byte s at good
     unfolding behind_at
-    behind_other h = rw (not-false good g, ← e, h)
+    behind_other h = rw (g, ← e, h)
 
     pub behind_there : k ≡ true → place (at + 1) true ≡ behind_at byte s at good
     unfolding behind_at
-    behind_there h = rw (not-false good g, ← e, h)
+    behind_there h = rw (g, ← e, h)
 
 -- ---- a TTL, over what the calls gave
 

@@ -1,5 +1,4 @@
 -- `one_field::behind` meets its contract.
-use borrow.Author.Tests.{not-true, not-false}
 use Rattle.one_field.proofs.PlaceLaws.{behind_nothing, behind_other, behind_there}
 use Rattle.one_field.proofs.LetterLaws.{within}
 use borrow.Author.Rules.{rules}

@@ -1,6 +1,5 @@
 -- `one_field::parse_mss` meets its contract.
 use Rattle.signature_line.specs.Words.{mss}
-use borrow.Author.Rules.{rules}
 use Rattle.one_field.proofs.parse_mss.Goals as goal
 
 pub returns : goal.returns

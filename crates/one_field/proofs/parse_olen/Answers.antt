@@ -2,7 +2,6 @@
 use mathlib.Core.Path.{sym, ◌∙◌}
 use Rattle.signature_line.specs.Words.{bare_byte}
 use Rattle.one_field.proofs.PlaceLaws.{field_missing, field_here}
-use borrow.Author.Rules.{rules}
 use Rattle.one_field.proofs.parse_olen.Goals as goal
 
 pub returns-then-not-from : goal.returns-then-not-from

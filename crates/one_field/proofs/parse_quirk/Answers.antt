@@ -11,7 +11,6 @@ use Rattle.grammar.specs.States.{start, after, done}
 use Rattle.signature_line.specs.Words.{quirk_word}
 use Rattle.one_field.proofs.PlaceLaws.{ends, stays, goes_on}
 use Rattle.one_field.proofs.BehindWord.{word_then}
-use borrow.Author.Rules.{rules}
 use Rattle.one_field.proofs.parse_quirk.Goals as goal
 
 pub returns-then-s-from : goal.returns-then-s-from

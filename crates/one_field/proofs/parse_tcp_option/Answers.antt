@@ -9,7 +9,6 @@ use Rattle.grammar.specs.States.{start, after, done}
 use Rattle.signature_line.specs.Words.{up_to255, entry}
 use Rattle.one_field.proofs.PlaceLaws.{ends, stays, goes_on}
 use Rattle.one_field.proofs.BehindWord.{word_then}
-use borrow.Author.Rules.{rules}
 use Rattle.one_field.proofs.parse_tcp_option.Goals as goal
 
 pub returns-then-s-from : goal.returns-then-s-from

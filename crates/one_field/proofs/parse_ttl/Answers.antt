@@ -1,6 +1,5 @@
 -- `one_field::parse_ttl` meets its contract.
 use Rattle.one_field.proofs.PlaceLaws.{ttl_missing, ttl_there}
-use borrow.Author.Rules.{rules}
 use Rattle.one_field.proofs.parse_ttl.Goals as goal
 
 pub returns-then-not-ttl : goal.returns-then-not-ttl

@@ -2,7 +2,6 @@
 use mathlib.Core.Path.{refl, sym, ◌∙◌}
 use mathlib.Core.List.{[], ◌∷◌}
 use Rattle.basis.specs.Ascii.{ascii}
-use Rattle.grammar.specs.Table.{nothing}
 use Rattle.grammar.specs.States.{letters, start, fits, after, done}
 use Rattle.signature_line.specs.Words.{up_to255, up_to65535, window}
 use Rattle.one_field.proofs.PlaceLaws.{field_missing, field_here}

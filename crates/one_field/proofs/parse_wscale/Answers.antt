@@ -1,6 +1,5 @@
 -- `one_field::parse_wscale` meets its contract.
 use Rattle.signature_line.specs.Words.{scale}
-use borrow.Author.Rules.{rules}
 use Rattle.one_field.proofs.parse_wscale.Goals as goal
 
 pub returns : goal.returns

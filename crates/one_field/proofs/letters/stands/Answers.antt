@@ -1,9 +1,5 @@
 -- `one_field::letters::stands` meets its contract.
 use Rattle.basis.proofs.Rules.{cases}
-use mathlib.Core.Path.{◌≡◌}
-use mathlib.Core.Bool.{false, ◌&&◌}
-use lib.Dec.{eqb}
-use borrow.Author.Rules.{rules}
 use Rattle.one_field.proofs.letters.stands.Goals as goal
 
 pub returns-then-s-at : goal.returns-then-s-at

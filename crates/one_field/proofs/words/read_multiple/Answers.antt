@@ -9,7 +9,6 @@ use Rattle.grammar.specs.States.{Awaited, letters, after, done}
 use Rattle.signature_line.specs.Words.{up_to255}
 use Rattle.one_field.proofs.PlaceLaws.{ends, stays, goes_on}
 use Rattle.one_field.proofs.BehindWord.{word_then}
-use borrow.Author.Rules.{rules}
 use Rattle.one_field.proofs.words.read_multiple.Goals as goal
 
 abbrev multiples : List Awaited

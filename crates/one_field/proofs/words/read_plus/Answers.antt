@@ -1,5 +1,5 @@
 -- `one_field::words::read_plus` meets its contract.
-use mathlib.Core.Path.{refl, sym, ◌∙◌}
+use mathlib.Core.Path.{refl, ◌∙◌}
 use mathlib.Core.List.{List, [], ◌∷◌}
 use Rattle.basis.specs.Ascii.{ascii}
 use Rattle.grammar.specs.Table.{nothing}
