@@ -38,7 +38,7 @@ module _ {A : Type 0} {signature : kit.Signature} {κs : Lfts signature.lifetime
       → writable signature κs ≡ []
       → PartAnswers signature κs pre post a d
   part_answered asked u lent says reads =
-      let r : Bor (List ℕ) = record { ref_ptr = lent.ref_ptr; ghost_name = lent.name; now = u.the } in
+      let r : Bor (List ℕ) = record { ref_ptr = lent.ref_ptr; now = u.the } in
       record { asks_nothing = asked; one = u; is = says r (u.meets r refl); no_other = says; only_reads = reads }
 
   pub page_answered

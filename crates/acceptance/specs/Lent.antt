@@ -4,7 +4,8 @@ use Rattle.std.specs.Prelude.{Bool, true, false, ◌&&◌, cond, List, [], ◌�
 use contract.Lifetimes.{Lfts}
 use Rattle.std.specs.Borrow.{RattleType}
 use denote.Signature.{Signature, types_at}
-use mir.Syntax.{Ty, Tys, Tyss, ty_int, ty_bool, ty_float, ty_ptr, ty_ref, ty_array, ty_unit, ty_struct, ty_enum, ty_named, tnil, tcons, ttnil, ttcons}
+use mir.Syntax.{Ty, Tys, Tyss, ty_int, ty_bool, ty_float, ty_ptr, ty_ref, ty_array, ty_unit, ty_struct, ty_enum}
+use mir.Syntax.{ty_param, ty_const, ty_array_p, ty_named, tnil, tcons, ttnil, ttcons}
 use mir.Syntax.{imm, mut}
 
 -- Nothing can be written through a value of the type: it holds no `&mut`, and no pointer of which nothing is said.
@@ -20,7 +21,10 @@ abbrev mutual
   read_only ty_unit = true
   read_only (ty_struct s ts) = all_read_only ts
   read_only (ty_enum s tss) = every_read_only tss
-  read_only (ty_named h) = false
+  read_only (ty_param n) = false
+  read_only (ty_const n) = false
+  read_only (ty_array_p t n) = false
+  read_only (ty_named h ts) = false
 
   pub all_read_only : Tys → Bool
   all_read_only tnil = true
