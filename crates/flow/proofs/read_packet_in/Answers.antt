@@ -46,8 +46,7 @@ bounds-tcp-13 c =
 
 pub returns-then-sets_aside : goal.returns-then-sets_aside
 returns-then-sets_aside c =
-    let facts = c.facts-1 in
-    let handed = sym c.read_ip.ensures ∙ facts.given.1 in
+    let handed = sym c.read_ip.ensures ∙ c.in-Facts.is in
     let a = c.args in
     rw (
       c.refuse-then-sets_aside.ensures,
@@ -62,10 +61,8 @@ observe-requires c =
 
 pub returns-then-syn-masked : goal.returns-then-syn-masked
 returns-then-syn-masked c =
-    let facts = c.facts-1 in
-    let handed = sym c.read_ip.ensures ∙ facts.given.1 in
+    let handed = sym c.read_ip.ensures ∙ c.in-Facts.is in
     let a = c.args in
-    let byte = c.shared_slice_known-in-Facts-1.given 13 in
     let kept = sym c.sets_aside.ensures ∙ c.if-sets_aside.false in
     rw (
       c.observe.ensures,
@@ -73,12 +70,11 @@ returns-then-syn-masked c =
       c.tcp_type-masked.ensures,
       read_on a.mode _ _ a.peer_mss _ handed c.header_bytes-header.ensures kept,
     )
-    (opening_read _ _ _ (omega arith) (rw (← c.tcp_type-masked.ensures) c.if-syn-masked.true))
+    (opening_read _ _ _ (search rules) (rw (← c.tcp_type-masked.ensures) c.if-syn-masked.true))
 
 pub returns-then-sets_aside-2 : goal.returns-then-sets_aside-2
 returns-then-sets_aside-2 c =
-    let facts = c.facts-1 in
-    let handed = sym c.read_ip.ensures ∙ facts.given.1 in
+    let handed = sym c.read_ip.ensures ∙ c.in-Facts.is in
     let a = c.args in
     rw (
       c.refuse-then-sets_aside-2.ensures,
@@ -88,25 +84,23 @@ returns-then-sets_aside-2 c =
 
 pub returns-then-is_valid : goal.returns-then-is_valid
 returns-then-is_valid c =
-    let facts = c.facts-1 in
-    let handed = sym c.read_ip.ensures ∙ facts.given.1 in
+    let handed = sym c.read_ip.ensures ∙ c.in-Facts.is in
     let a = c.args in
     let kept = sym c.sets_aside-in-Facts.ensures ∙ c.if-sets_aside-2.false in
     rw (
       c.nothing.ensures,
       read_on a.mode _ _ a.peer_mss _ handed c.header_bytes-header.ensures kept,
     )
-    (nothing_read _ _ _ ((sym c.is_valid.ensures ∙ c.if-is_valid.true))
+    (nothing_read _ _ _ (not-true _ (sym c.is_valid.ensures ∙ c.if-is_valid.true))
     (rw (← c.tcp_type-masked.ensures) c.if-syn-masked.false))
 
 pub returns-in-Facts : goal.returns-in-Facts
 returns-in-Facts c =
-    let facts = c.facts-1 in
-    let handed = sym c.read_ip.ensures ∙ facts.given.1 in
+    let handed = sym c.read_ip.ensures ∙ c.in-Facts.is in
     let a = c.args in
     let kept = sym c.sets_aside-in-Facts.ensures ∙ c.if-sets_aside-2.false in
     rw (
       c.refuse-in-Facts.ensures,
       read_on a.mode _ _ a.peer_mss _ handed c.header_bytes-header.ensures kept,
     )
-    (refused_7 _ _ _ ((sym c.is_valid.ensures ∙ c.if-is_valid.false)))
+    (refused_7 _ _ _ (not-false _ (sym c.is_valid.ensures ∙ c.if-is_valid.false)))
