@@ -20,7 +20,6 @@ use Rattle.refusals.specs.declared.PacketRefusal.{PacketRefusal}
 use Rattle.refusals.specs.declared.PacketRefusal.TheVariants as refusal
 use Rattle.tcp_header.specs.Flags.{flags_invalid, is_syn_type, is_syn_ack_type}
 use Rattle.ip.specs.Ip.{ipv4_facts, read_ipv4, ipv6_facts, read_ipv6, read_ip}
-use Rattle.flow.specs.Tcp.{refusing}
 use Rattle.flow.specs.Strict.{contradicts_itself, read_tcp_by}
 use Rattle.flow.specs.Modes.{tcp_stage, observation_in, read_in}
 use Rattle.refusals.specs.Refusals.{packet_number}

@@ -6,7 +6,6 @@ use Prim.Native.Nat.{ℕ}
 use Rattle.quirks.specs.declared.QuirkSet.{QuirkSet}
 use Rattle.rfc.specs.Rfc9293.{options}
 use Rattle.tcp.specs.declared.Mss.{Mss}
-use Rattle.syn_options.specs.declared.OptionWalk.{OptionWalk}
 use Rattle.syn_options.specs.Walk.{Walked, walk_of}
 use Rattle.syn_options.specs.Stops.{nothing, walked_of, walk_options}
 use Rattle.syn_options.proofs.Readers.{whole_walk}

@@ -1,5 +1,4 @@
 -- `flow::nothing` meets its contract.
-use borrow.Author.Rules.{rules}
 use Rattle.flow.proofs.nothing.Goals as goal
 
 pub returns : goal.returns

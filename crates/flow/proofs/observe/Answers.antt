@@ -2,8 +2,6 @@
 use Rattle.flow.proofs.Parts.{part_raised}
 use Rattle.flow.proofs.Walks.{observed_walk}
 use Rattle.rfc.specs.Rfc9293.{options_end}
-use mathlib.Core.Path.{◌≡◌, ◌∙◌}
-use borrow.Author.Rules.{rules}
 use Rattle.flow.proofs.observe.Goals as goal
 
 pub returns : goal.returns

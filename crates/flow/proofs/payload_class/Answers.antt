@@ -3,7 +3,6 @@ use Rattle.rfc.specs.Rfc9293.{payload_size}
 use native.Mathlib.Omega.{arith}
 use borrow.Author.Tests.{eq-eqb, ne_eqb}
 use Rattle.flow.specs.Tcp.{payload_class}
-use borrow.Author.Rules.{rules}
 use Rattle.flow.proofs.payload_class.Goals as goal
 
 pub returns-then-tcp-le-TCP_HEADER : goal.returns-then-tcp-le-TCP_HEADER

@@ -1,7 +1,6 @@
 -- `flow::peer_taken` meets its contract.
 use Rattle.basis.proofs.Rules.{cases}
 use Rattle.flow.specs.Tcp.{known_peer}
-use borrow.Author.Rules.{rules}
 use Rattle.flow.proofs.peer_taken.Goals as goal
 
 pub returns-then-size-eq0 : goal.returns-then-size-eq0

@@ -1,7 +1,6 @@
 -- `flow::read_packet` meets its contract.
 use Rattle.flow.specs.Reading.{read_packet}
 use Rattle.flow.specs.Modes.{read_in}
-use borrow.Author.Rules.{rules}
 use Rattle.flow.proofs.read_packet.Goals as goal
 
 pub returns : goal.returns

@@ -1,5 +1,4 @@
 -- `flow::refuse` meets its contract.
-use borrow.Author.Rules.{rules}
 use Rattle.flow.proofs.refuse.Goals as goal
 
 pub returns : goal.returns

@@ -1,5 +1,4 @@
 -- `flow::sets_aside` meets its contract.
-use borrow.Author.Rules.{rules}
 use Rattle.flow.proofs.sets_aside.Goals as goal
 
 pub returns-then-mode : goal.returns-then-mode

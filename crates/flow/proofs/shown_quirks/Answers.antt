@@ -2,7 +2,6 @@
 use Rattle.flow.specs.Tcp.{quirks_of_headers}
 use Rattle.tcp_header.specs.HeaderQuirks.{header_quirks}
 use Rattle.basis.specs.Bytes.{be16}
-use borrow.Author.Rules.{rules}
 use Rattle.flow.proofs.shown_quirks.Goals as goal
 
 pub returns : goal.returns

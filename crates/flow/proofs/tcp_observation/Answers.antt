@@ -1,7 +1,6 @@
 -- `flow::tcp_observation` meets its contract.
 use Rattle.flow.specs.Tcp.{observation_of}
 use Rattle.basis.specs.Bytes.{be16}
-use borrow.Author.Rules.{rules}
 use Rattle.flow.proofs.tcp_observation.Goals as goal
 
 pub returns : goal.returns

@@ -3,7 +3,6 @@ use mathlib.Core.Path.{◌≡◌}
 use Prim.Native.Nat.{◌+◌}
 use native.Mathlib.Omega.{arith}
 use Rattle.basis.specs.Bytes.{be16, be32}
-use borrow.Author.Rules.{rules}
 use Rattle.flow.proofs.word.Goals as goal
 
 pub returns : goal.returns
