@@ -1,9 +1,8 @@
 -- The whole line: the answer is read off its fields.
-use Prim.Native.Nat.{ℕ, ◌/◌, ◌%◌, ◌<◌, ◌≤◌}
+use Prim.Native.Nat.{ℕ, ◌/◌, ◌<◌, ◌≤◌}
 use mathlib.Core.Path.{◌≡◌, refl, sym, ◌∙◌, ap}
 use mathlib.Core.Bool.{true, false, not}
 use mathlib.Core.List.{List}
-use native.Mathlib.Omega.{arith}
 use lib.ListN.{length, drop}
 use borrow.Author.Tests.{not-true, not-false}
 use Rattle.basis.specs.Bytes.{byte_at}
@@ -98,12 +97,12 @@ module _ (s : List ℕ) where
       unfolding layout_of
       count_is = ap (λ (y : Layout). y.count) layout_is
 
-      read_as : read_as fields_in ≡ read_of (meaning_of fields_in)
+      read_as_lem : read_as fields_in ≡ read_of (meaning_of fields_in)
       unfolding read_as
-      read_as = refl
+      read_as_lem = refl
 
       raw_bytes_lem : (i : ℕ) → byte_at (raw_of fields_in) i < 256
-      raw_bytes_lem = (well_formed s (meaning_of fields_in) ((accepted s (meaning_of fields_in)).0 (read_whole ∙ read_as)).1).raw_bytes
+      raw_bytes_lem = (well_formed s (meaning_of fields_in) ((accepted s (meaning_of fields_in)).0 (read_whole ∙ read_as_lem)).1).raw_bytes
 
       bytes_are : record_bytes (line_fields s) ≡ raw_of fields_in
       unfolding record_bytes line_fields raw_of

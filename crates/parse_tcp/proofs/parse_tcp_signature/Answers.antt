@@ -3,7 +3,6 @@ use mathlib.Core.Path.{sym, ◌∙◌}
 use native.Mathlib.Omega.{arith}
 use Rattle.signature_line.proofs.Accepted.{long}
 use Rattle.parse_tcp.proofs.WholeLine.{gave_bad, gave_early, gave_whole}
-use borrow.Author.Rules.{rules}
 use Rattle.parse_tcp.proofs.parse_tcp_signature.Goals as goal
 
 pub returns-then-line-gt-LONGEST : goal.returns-then-line-gt-LONGEST

@@ -1,7 +1,6 @@
 -- `parse_tcp::read_fields` meets its contract.
 use Rattle.parse_tcp.proofs.InOrder.{version_read, ttl_read_lem, olen_read, mss_read, window_read, scale_read}
 use Rattle.parse_tcp.proofs.InOrder.{layout_read_lem, quirks_read_lem, payload_read, all_read}
-use borrow.Author.Rules.{rules}
 use Rattle.parse_tcp.proofs.read_fields.Goals as goal
 
 pub returns : goal.returns

@@ -1,10 +1,7 @@
 -- `parse_tcp::layout::more_entries` meets its contract.
-use Prim.Native.Nat.{◌-◌, ◌≤◌}
-use mathlib.Core.Path.{◌≡◌, refl, ◌∙◌}
+use mathlib.Core.Path.{refl, ◌∙◌}
 use native.Mathlib.Omega.{arith}
-use Rattle.parse_tcp.specs.RowPieces.{kept_at}
 use Rattle.parse_tcp.proofs.LayoutLaws.{entries_full, entries_end, entries_bad, entries_turn, begun, stored_as}
-use borrow.Author.Rules.{rules}
 use Rattle.parse_tcp.proofs.layout.more_entries.Goals as goal
 
 pub loop-count-init : goal.loop-count-init

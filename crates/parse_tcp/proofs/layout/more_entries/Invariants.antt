@@ -1,10 +1,7 @@
 -- `parse_tcp::layout::more_entries` meets its contract.
 use Prim.Native.Nat.{◌-◌, ◌≤◌}
-use mathlib.Core.Path.{◌≡◌, refl, ◌∙◌}
-use native.Mathlib.Omega.{arith}
+use mathlib.Core.Path.{◌≡◌}
 use Rattle.parse_tcp.specs.RowPieces.{kept_at}
-use Rattle.parse_tcp.proofs.LayoutLaws.{entries_full, entries_end, entries_bad, entries_turn, begun, stored_as}
-use borrow.Author.Rules.{rules}
 use Rattle.parse_tcp.proofs.layout.more_entries.Given as goal
 
 abbrev pub invariant-loop-count : goal.invariant-loop-count

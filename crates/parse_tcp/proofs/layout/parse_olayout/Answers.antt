@@ -1,7 +1,6 @@
 -- `parse_tcp::layout::parse_olayout` meets its contract.
 use mathlib.Core.Path.{◌∙◌}
 use Rattle.parse_tcp.proofs.LayoutLaws.{layout_missing, layout_none, layout_some}
-use borrow.Author.Rules.{rules}
 use Rattle.parse_tcp.proofs.layout.parse_olayout.Goals as goal
 
 pub returns-then-not-from : goal.returns-then-not-from

@@ -1,10 +1,7 @@
 -- `parse_tcp::quirk_set::more_names` meets its contract.
-use Prim.Native.Nat.{◌-◌}
 use mathlib.Core.Path.{◌∙◌}
-use lib.ListN.{length}
 use Rattle.parse_tcp.specs.RowPieces.{names_at}
-use Rattle.parse_tcp.proofs.QuirkLaws.{NamesLeft, names_begin, names_end, names_bad, names_turn, names_less}
-use borrow.Author.Rules.{rules}
+use Rattle.parse_tcp.proofs.QuirkLaws.{names_begin, names_end, names_bad, names_turn, names_less}
 use Rattle.parse_tcp.proofs.quirk_set.more_names.Goals as goal
 
 pub loop-next-init : goal.loop-next-init

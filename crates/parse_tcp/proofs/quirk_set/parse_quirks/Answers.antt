@@ -1,7 +1,6 @@
 -- `parse_tcp::quirk_set::parse_quirks` meets its contract.
 use mathlib.Core.Path.{◌∙◌}
 use Rattle.parse_tcp.proofs.QuirkLaws.{quirks_missing, quirks_none, quirks_some}
-use borrow.Author.Rules.{rules}
 use Rattle.parse_tcp.proofs.quirk_set.parse_quirks.Goals as goal
 
 pub returns-then-not-from : goal.returns-then-not-from
