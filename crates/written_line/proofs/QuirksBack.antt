@@ -2,7 +2,7 @@
 use Prim.Native.Nat.{ℕ}
 use mathlib.Core.Path.{◌≡◌, refl, sym, ◌∙◌}
 use mathlib.Core.Logic.{◌≢◌, inl, inr}
-use mathlib.Core.Bool.{Bool, true, false, not, ◌&&◌, false≢true}
+use mathlib.Core.Bool.{Bool, true, not, ◌&&◌, false≢true}
 use mathlib.Core.List.{List, [], ◌∷◌}
 use native.Mathlib.Omega.{arith}
 use lib.Bits.{bit_or}
@@ -96,11 +96,12 @@ chosen_back (q ∷ qs) a n none [] bare r =
     rw absent (chosen_back qs (and_right (other_places (place_of q) qs) _ a) n none.1 [] tt tt)
 chosen_back (q ∷ qs) a n none (v ∷ vs) bare (inl r) =
     let apart = and_left _ (places_apart qs) a in
-    let set : digit (bit_or n (bit_of q)) (place_of q) ≡ 1 = digit_or n (bit_of q) (place_of q) ∙ rw (none.0, bit_there q) in
-    let there = union_keeps (bit_or n (bit_of q)) (place_of q) vs set in
+    let set : digit (bit_or n v.form) (place_of q) ≡ 1 = digit_or n v.form (place_of q) ∙ rw (r.0, none.0, bit_there q) in
+    let there = union_keeps (bit_or n v.form) (place_of q) vs set in
     let behind = none_behind n q qs apart none.1 in
-    let rest = chosen_back qs (and_right (other_places (place_of q) qs) _ a) (bit_or n (bit_of q)) behind vs bare.1 r.1 in
-    rw (r.0, bare.0, there, rest)
+    let rest : chosen (set_of (union_from (bit_or n v.form) vs)) qs ≡ vs =
+    rw r.0 (chosen_back qs (and_right (other_places (place_of q) qs) _ a) (bit_or n (bit_of q)) behind vs bare.1 r.1) in
+    rw (there, rest, ← r.0, ← bare.0)
 chosen_back (q ∷ qs) a n none (v ∷ vs) bare (inr r) =
     let absent = union_none n (place_of q) qs (and_left _ (places_apart qs) a) (v ∷ vs) r none.0 in
     rw absent (chosen_back qs (and_right (other_places (place_of q) qs) _ a) n none.1 (v ∷ vs) bare r)
