@@ -1,11 +1,6 @@
 -- `packet_answer::answer_packet_in` meets its contract.
 use mathlib.Core.Path.{◌≡◌, refl}
-use mathlib.Core.List.{◌∷◌, []}
-use mathlib.Core.Logic.{inl, inr}
-use denote.Enum.Declared
-use types.Run.{OneOf}
-use native.Mathlib.Omega.{arith}
-use Rattle.flow.specs.contracts.Answer as kinds
+use mathlib.Core.Logic.{◌⊎◌, inl, inr}
 use Rattle.flow.specs.declared.Answer.{Answer}
 use Rattle.flow.specs.declared.Answer.TheVariants as reading
 use Rattle.packet_answer.specs.Packet.{answer_in}
@@ -13,19 +8,9 @@ use borrow.Author.Rules.{rules}
 use Rattle.packet_answer.proofs.answer_packet_in.Goals as goal
 
 -- What is a SYN or a SYN+ACK, and no SYN.
-synack-left :
-    (a : Answer) →
-    OneOf (0 ∷ 1 ∷ []) (Declared.tag_of kinds.the_type a) →
-    OneOf (1 ∷ 2 ∷ 3 ∷ []) (Declared.tag_of kinds.the_type a) →
-    a ≡ reading.SynAck
-synack-left reading.Syn one (inl e) = absurd (omega arith)
-synack-left reading.Syn one (inr (inl e)) = absurd (omega arith)
-synack-left reading.Syn one (inr (inr e)) = absurd (omega arith)
-synack-left reading.SynAck one other = refl
-synack-left reading.Nothing (inl e) other = absurd (omega arith)
-synack-left reading.Nothing (inr e) other = absurd (omega arith)
-synack-left (reading.Refused r) (inl e) other = absurd (omega arith)
-synack-left (reading.Refused r) (inr e) other = absurd (omega arith)
+synack-left : (a : Answer) → (a ≡ reading.Syn) ⊎ (a ≡ reading.SynAck) → (a ≡ reading.Syn → ⊥) → a ≡ reading.SynAck
+synack-left a (inl e) other = absurd (other e)
+synack-left a (inr e) other = e
 
 pub returns-in-Nothing : goal.returns-in-Nothing
 unfolding answer_in
@@ -50,6 +35,5 @@ returns-in_default c =
     rw (
       c.search_checked-searched.ensures,
       ← c.read_packet_in-reading.ensures,
-      synack-left c.read_packet_in-reading.result.answer c.in-Syn.keys3
-          c.in_default.keys2,
+      synack-left _ c.in-Syn.is c.in_default.not-Syn,
     )
