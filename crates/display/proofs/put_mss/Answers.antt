@@ -1,6 +1,5 @@
 use Rattle.grammar.specs.Spelling.{spelt}
 use Rattle.signature_line.specs.Words.{mss}
-use borrow.Author.Rules.{rules}
 use Rattle.display.proofs.put_mss.Goals as goal
 
 pub returns-in-Absent : goal.returns-in-Absent

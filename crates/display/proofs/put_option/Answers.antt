@@ -38,6 +38,6 @@ returns-in-8 c = rw c.in-8.is c.put_word-in-8.ensures
 pub returns-in_default : goal.returns-in_default
 unfolding spelt entry
 returns-in_default c =
-    rw (not_named _ _ c.in_default.rest)
+    rw (not_named c.args.kind c.args.byte (search rules))
     (both _ _ _ _ _ _ _ _ c.put_byte-number.ensures
     c.put_decimal-in_default.ensures)

@@ -1,6 +1,5 @@
 use Rattle.grammar.specs.Spelling.{spelt}
 use Rattle.signature_line.specs.Words.{payload}
-use borrow.Author.Rules.{rules}
 use Rattle.display.proofs.put_payload.Goals as goal
 
 pub returns-in-Zero : goal.returns-in-Zero

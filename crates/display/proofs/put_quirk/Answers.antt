@@ -1,7 +1,6 @@
 use Rattle.grammar.specs.Spelling.{spelt}
 use Rattle.signature_line.specs.Words.{quirk_word}
 use Rattle.quirks.specs.Quirks.{bit_of, place_of}
-use borrow.Author.Rules.{rules}
 use Rattle.display.proofs.put_quirk.Goals as goal
 
 pub returns-in-Df : goal.returns-in-Df

@@ -3,7 +3,6 @@ use Rattle.text.specs.Decimal.{decimal}
 use Rattle.grammar.specs.Spelling.{spelt}
 use Rattle.signature_line.specs.Words.{bare_byte, ttl_form}
 use Rattle.text.proofs.Writing.{both}
-use borrow.Author.Rules.{rules}
 use Rattle.display.proofs.put_ttl.Goals as goal
 
 pub returns-in-Value : goal.returns-in-Value

@@ -1,6 +1,5 @@
 use Rattle.grammar.specs.Spelling.{spelt}
 use Rattle.signature_line.specs.Words.{version}
-use borrow.Author.Rules.{rules}
 use Rattle.display.proofs.put_version.Goals as goal
 
 pub returns-in-Any : goal.returns-in-Any

@@ -1,7 +1,6 @@
 use Rattle.grammar.specs.Spelling.{spelt}
 use Rattle.signature_line.specs.Words.{window}
 use Rattle.text.proofs.Writing.{both}
-use borrow.Author.Rules.{rules}
 use Rattle.display.proofs.put_window.Goals as goal
 
 pub returns-in-Any : goal.returns-in-Any

@@ -42,4 +42,4 @@ returns-in-8 c = rw c.in-8.is
 
 pub returns-in_default : goal.returns-in_default
 unfolding spelt entry entry_said unnamed
-returns-in_default c = rw (not_named _ _ c.in_default.rest) (omega (arith, c.decimal_length-in_default.ensures))
+returns-in_default c = rw (not_named c.args.kind c.args.byte (search rules)) (omega (arith, c.decimal_length-in_default.ensures))

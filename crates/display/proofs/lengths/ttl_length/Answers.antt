@@ -5,7 +5,6 @@ use lib.ListN.{length-append}
 use Rattle.text.specs.Decimal.{decimal}
 use native.Mathlib.Omega.{arith}
 use Rattle.display.proofs.Laws.{at_most_five}
-use borrow.Author.Rules.{rules}
 use Rattle.display.proofs.lengths.ttl_length.Goals as goal
 
 pub overflow_add-result : goal.overflow_add-result

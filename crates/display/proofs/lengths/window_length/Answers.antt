@@ -2,7 +2,6 @@ use Rattle.grammar.specs.Spelling.{spelt}
 use Rattle.signature_line.specs.Words.{window}
 use native.Mathlib.Omega.{arith}
 use Rattle.display.proofs.Laws.{at_most_five}
-use borrow.Author.Rules.{rules}
 use Rattle.display.proofs.lengths.window_length.Goals as goal
 
 pub overflow_add-result : goal.overflow_add-result

@@ -1,6 +1,5 @@
 use Rattle.grammar.specs.Spelling.{spelt}
 use Rattle.signature_line.specs.Words.{scale}
-use borrow.Author.Rules.{rules}
 use Rattle.display.proofs.lengths.wscale_length.Goals as goal
 
 pub returns-in-Absent : goal.returns-in-Absent
