@@ -2,7 +2,6 @@
 use Rattle.flow.specs.Reading.{read_packet}
 use Rattle.flow.specs.Modes.{read_in}
 use Rattle.packet_answer.specs.Packet.{answer_of, answer_in}
-use borrow.Author.Rules.{rules}
 use Rattle.packet_answer.proofs.answer_packet.Goals as goal
 
 pub returns : goal.returns

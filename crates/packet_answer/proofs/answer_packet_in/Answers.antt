@@ -1,10 +1,9 @@
 -- `packet_answer::answer_packet_in` meets its contract.
-use mathlib.Core.Path.{◌≡◌, refl}
+use mathlib.Core.Path.{◌≡◌}
 use mathlib.Core.Logic.{◌⊎◌, inl, inr}
 use Rattle.flow.specs.declared.Answer.{Answer}
 use Rattle.flow.specs.declared.Answer.TheVariants as reading
 use Rattle.packet_answer.specs.Packet.{answer_in}
-use borrow.Author.Rules.{rules}
 use Rattle.packet_answer.proofs.answer_packet_in.Goals as goal
 
 -- What is a SYN or a SYN+ACK, and no SYN.
