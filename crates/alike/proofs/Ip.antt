@@ -100,7 +100,7 @@ module _ (p q : List ℕ) (a : AlikeIpv6 p q) where
 
 -- The TCP part of a packet lies at these ends.
 abbrev At : List ℕ → IpFacts → ℕ → ℕ → Type 0
-At p f header-end length_end_lem = (f.start ≡ header-end) × (f.end ≡ min length_end_lem (length p))
+At p f header_end length_end = (f.start ≡ header_end) × (f.end ≡ min length_end (length p))
 
 at4 : (p : List ℕ) {f : IpFacts} → Given p 4 (ip.Facts f) → At p f (header_end4 p) (length_end4 p)
 unfolding ipv4_facts

@@ -83,7 +83,7 @@ module _ (b c : ℕ) (s t : List ℕ) (size : length s ≡ length t) (first : Ca
       → Within (FreeStamp (b ∷ s) (c ∷ t)) (suc i)
   stamps_place e a i h inside differ =
       elim (dec_le i 0) [
-        | yes zeroth ↦ absurd (differ (a.length_byte i (omega arith) (omega arith)))
+        | yes start ↦ absurd (differ (a.length_byte i (omega arith) (omega arith)))
         | no pos ↦ elim (dec_le i 4) [
           | yes four ↦ elim (dec_le (length (take (asked b s) s)) 4) [
             | yes cut ↦ absurd (differ (a.own_cut (omega arith) i (omega arith) (omega arith)))

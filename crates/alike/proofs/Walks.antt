@@ -1,5 +1,5 @@
 -- Alike option strings are walked alike, wherever the walk stops, and parsed alike.
-use mathlib.Core.Path.{◌≡◌, refl}
+use mathlib.Core.Path.{◌≡◌}
 use mathlib.Core.Bool.{Bool, true, false}
 use mathlib.Core.List.{List}
 use Prim.Native.Nat.{ℕ}

@@ -77,14 +77,14 @@ pub data ItemBy (Item4 Item6 : ℕ → ℕ → Type 0) (p : List ℕ) : ℕ → 
 -- In a packet whose IP header ends at one place and whose IP length ends at another: the items of the header; "bytes past both the IP
 -- header .. and the IP length"; and those of the TCP part, which lies between the two, whatever the protocol says and whether the packet
 -- is refused or not. "If no TCP part of 20 bytes exists, only the IP-level ones apply".
-pub data FreePacket (Item : ℕ → ℕ → Type 0) (header-end length_end_lem : ℕ) (p q : List ℕ) : ℕ → ℕ → Type 0 where
-  header : {from to : ℕ} → Item from to → FreePacket Item header-end length_end_lem p q from to
-  past : FreePacket Item header-end length_end_lem p q (max header-end length_end_lem) (length p)
+pub data FreePacket (Item : ℕ → ℕ → Type 0) (header_end length_end : ℕ) (p q : List ℕ) : ℕ → ℕ → Type 0 where
+  header : {from to : ℕ} → Item from to → FreePacket Item header_end length_end p q from to
+  past : FreePacket Item header_end length_end p q (max header_end length_end) (length p)
   in_tcp
       : {from to : ℕ}
-      → 20 ≤ length (part header-end length_end_lem p)
-      → FreeTcp (part header-end length_end_lem p) (part header-end length_end_lem q) from to
-      → FreePacket Item header-end length_end_lem p q (header-end + from) (header-end + to)
+      → 20 ≤ length (part header_end length_end p)
+      → FreeTcp (part header_end length_end p) (part header_end length_end q) from to
+      → FreePacket Item header_end length_end p q (header_end + from) (header_end + to)
 
 -- ---- where they lie
 
