@@ -1,6 +1,6 @@
 -- Texts as bytes.
 use Rattle.std.specs.Prelude.{ℕ, List, [], ◌∷◌}
-use Prim.Native.Char.{Char, code}
+use Prim.Native.Char.{code}
 use Prim.Native.String.{String, [] as end, ◌∷◌ as ◌then◌}
 
 -- A text of ASCII characters, as bytes.

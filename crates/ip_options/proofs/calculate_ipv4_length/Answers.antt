@@ -3,7 +3,6 @@ use Rattle.ip_options.proofs.Laws.{v4_empty}
 use Rattle.ip_options.specs.IpOptions.{ipv4_option_length}
 use native.Mathlib.Omega.{arith}
 use mathlib.Core.Path.{sym}
-use borrow.Author.Rules.{rules}
 use Rattle.ip_options.proofs.calculate_ipv4_length.Goals as goal
 
 pub returns-then-packet-eq0 : goal.returns-then-packet-eq0

@@ -2,7 +2,6 @@
 use Rattle.ip_options.proofs.Laws.{payload_size_lem, v6_no_payload, v6_tcp, v6_fragment, v6_one_byte, v6_eights}
 use native.Mathlib.Omega.{arith}
 use mathlib.Core.Path.{sym, ◌∙◌}
-use borrow.Author.Rules.{rules}
 use Rattle.ip_options.proofs.calculate_ipv6_length.Goals as goal
 
 pub returns-then-size-eq0 : goal.returns-then-size-eq0

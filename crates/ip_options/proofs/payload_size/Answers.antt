@@ -2,7 +2,6 @@
 use Rattle.ip_options.proofs.Laws.{payload_size_lem}
 use Rattle.basis.specs.Bytes.{be16}
 use native.Mathlib.Omega.{arith}
-use borrow.Author.Rules.{rules}
 use Rattle.ip_options.proofs.payload_size.Goals as goal
 
 pub returns-then-packet-le-IPV6_HEADER : goal.returns-then-packet-le-IPV6_HEADER

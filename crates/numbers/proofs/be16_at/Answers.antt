@@ -3,7 +3,6 @@ use Prim.Native.Nat.{◌+◌}
 use native.Mathlib.Omega.{arith}
 use lib.ListN.{get_or-eq_default}
 use Rattle.basis.specs.Bytes.{be16}
-use borrow.Author.Rules.{rules}
 use Rattle.numbers.proofs.be16_at.Goals as goal
 
 pub returns-then-s-i : goal.returns-then-s-i

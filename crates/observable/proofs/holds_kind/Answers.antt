@@ -1,10 +1,7 @@
 -- `observable::holds_kind` meets its contract.
-use mathlib.Core.Path.{◌≡◌, sym, ◌∙◌}
-use Prim.Native.Nat.{◌≤◌, ◌-◌, min}
+use mathlib.Core.Path.{sym, ◌∙◌}
 use native.Mathlib.Omega.{arith}
 use native.Mathlib.Nat.{sub-zero}
-use lib.ListN.{drop}
-use Rattle.observable.specs.Observation.{holds_kind}
 use Rattle.observable.proofs.Laws.{turn_found, turn_other, turns_end}
 use borrow.Author.Rules.{rules}
 use Rattle.observable.proofs.holds_kind.Goals as goal

@@ -1,12 +1,8 @@
 -- `observable::holds_kind` meets its contract.
-use mathlib.Core.Path.{◌≡◌, sym, ◌∙◌}
+use mathlib.Core.Path.{◌≡◌}
 use Prim.Native.Nat.{◌≤◌, ◌-◌, min}
-use native.Mathlib.Omega.{arith}
-use native.Mathlib.Nat.{sub-zero}
 use lib.ListN.{drop}
 use Rattle.observable.specs.Observation.{holds_kind}
-use Rattle.observable.proofs.Laws.{turn_found, turn_other, turns_end}
-use borrow.Author.Rules.{rules}
 use Rattle.observable.proofs.holds_kind.Given as goal
 
 abbrev pub invariant-loop-i : goal.invariant-loop-i

@@ -1,4 +1,3 @@
-use borrow.Author.Rules.{rules}
 use Rattle.refusals.proofs.refusal_number.Goals as goal
 
 pub returns-in-Packet : goal.returns-in-Packet

@@ -1,6 +1,5 @@
 -- `siglist::areas_of` meets its contract.
 use Rattle.siglist.specs.List.{areas_of}
-use borrow.Author.Rules.{rules}
 use Rattle.siglist.proofs.areas_of.Goals as goal
 
 pub returns : goal.returns

@@ -1,11 +1,8 @@
 -- `siglist::check_list` meets its contract.
 use Rattle.siglist.proofs.Entries.{area_walked}
 use Rattle.siglist.proofs.List.{areas_fit, from_the_first, record_good_turn, record_bad_turn, records_end}
-use Rattle.siglist.specs.List.{AreasFit, records_from, check_list}
-use Rattle.siglist.specs.Entries.{all_entries_good}
-use Prim.Native.Nat.{◌≤◌, ◌-◌}
-use borrow.Author.Tests.{not-true, not-false}
-use mathlib.Core.Path.{◌≡◌, refl, sym, ◌∙◌}
+use Rattle.siglist.specs.List.{check_list}
+use mathlib.Core.Path.{refl, sym, ◌∙◌}
 use borrow.Author.Rules.{rules}
 use Rattle.siglist.proofs.check_list.Goals as goal
 

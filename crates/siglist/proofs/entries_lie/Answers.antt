@@ -1,6 +1,5 @@
 -- `siglist::entries_lie` meets its contract.
 use Rattle.basis.proofs.Rules.{cases}
-use borrow.Author.Rules.{rules}
 use Rattle.siglist.proofs.entries_lie.Goals as goal
 
 pub returns-then-count-gt40 : goal.returns-then-count-gt40

@@ -4,7 +4,6 @@ use Rattle.siglist.proofs.List.{lie_within, row_of_lem}
 use mathlib.Core.Path.{sym, ◌∙◌}
 use Prim.Native.Nat.{◌+◌, ◌*◌}
 use native.Mathlib.Omega.{arith}
-use borrow.Author.Tests.{not-true, not-false}
 use borrow.Author.Rules.{rules}
 use Rattle.siglist.proofs.layout_good.Goals as goal
 

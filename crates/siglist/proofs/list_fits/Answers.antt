@@ -1,10 +1,8 @@
 -- `siglist::list_fits` meets its contract.
 use native.Mathlib.Omega.{arith}
-use borrow.Author.Tests.{not-true, not-false}
 use Rattle.basis.proofs.Rules.{cases}
 use Rattle.siglist.specs.List.{list_fits}
 use Rattle.siglist.proofs.List.{fits_by}
-use borrow.Author.Rules.{rules}
 use Rattle.siglist.proofs.list_fits.Goals as goal
 
 pub returns-then-list-lt-HEADER : goal.returns-then-list-lt-HEADER

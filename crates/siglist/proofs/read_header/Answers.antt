@@ -1,8 +1,6 @@
 -- `siglist::read_header` meets its contract.
 use Rattle.siglist.specs.List.{header_of}
-use borrow.Author.Tests.{not-true, not-false}
 use mathlib.Core.Path.{sym, ◌∙◌}
-use borrow.Author.Rules.{rules}
 use Rattle.siglist.proofs.read_header.Goals as goal
 
 pub returns-then-not-list_fits : goal.returns-then-not-list_fits

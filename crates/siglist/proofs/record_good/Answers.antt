@@ -1,9 +1,7 @@
 -- `siglist::record_good` meets its contract.
 use mathlib.Core.Path.{sym, ◌∙◌}
-use borrow.Author.Tests.{not-true, not-false}
 use Rattle.siglist.proofs.List.{record_by_tests}
 use Rattle.siglist.proofs.Entries.{lies_if_there}
-use borrow.Author.Rules.{rules}
 use Rattle.siglist.proofs.record_good.Goals as goal
 
 pub returns-then-not-forms_well_formed : goal.returns-then-not-forms_well_formed

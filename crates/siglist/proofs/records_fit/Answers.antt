@@ -1,6 +1,5 @@
 -- `siglist::records_fit` meets its contract.
 use mathlib.Core.Path.{refl}
-use borrow.Author.Rules.{rules}
 use Rattle.siglist.proofs.records_fit.Goals as goal
 
 pub returns : goal.returns

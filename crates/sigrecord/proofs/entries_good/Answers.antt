@@ -1,9 +1,7 @@
 -- `sigrecord::entries_good` meets its contract.
-use Rattle.sigrecord.specs.Layout.{entries_good}
 use native.Mathlib.Omega.{arith}
 use lib.ListN.{length}
-use Prim.Native.Nat.{◌/◌, ◌-◌, ◌≤◌}
-use mathlib.Core.Bool.{true}
+use Prim.Native.Nat.{◌/◌}
 use mathlib.Core.Path.{◌≡◌, sym}
 use Rattle.sigrecord.proofs.Laws.{no_byte, no_kind, both_set, none_bad, one_more_good, one_bad}
 use borrow.Author.Rules.{rules}

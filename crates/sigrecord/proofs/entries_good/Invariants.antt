@@ -1,13 +1,8 @@
 -- `sigrecord::entries_good` meets its contract.
 use Rattle.sigrecord.specs.Layout.{entries_good}
-use native.Mathlib.Omega.{arith}
-use lib.ListN.{length}
-use Prim.Native.Nat.{◌/◌, ◌-◌, ◌≤◌}
+use Prim.Native.Nat.{◌-◌, ◌≤◌}
 use mathlib.Core.Bool.{true}
-use mathlib.Core.Logic.{⊎_elim}
-use mathlib.Core.Path.{◌≡◌, sym}
-use Rattle.sigrecord.proofs.Laws.{no_byte, no_kind, both_set, none_bad, one_more_good, one_bad}
-use borrow.Author.Rules.{rules}
+use mathlib.Core.Path.{◌≡◌}
 use Rattle.sigrecord.proofs.entries_good.Given as goal
 
 abbrev pub invariant-loop-i : goal.invariant-loop-i

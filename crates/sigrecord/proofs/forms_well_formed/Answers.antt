@@ -1,7 +1,6 @@
 -- `sigrecord::forms_well_formed` meets its contract.
 use Rattle.sigrecord.specs.WellFormed.{forms_well_formed}
 use Rattle.basis.proofs.Rules.{cases}
-use borrow.Author.Rules.{rules}
 use Rattle.sigrecord.proofs.forms_well_formed.Goals as goal
 
 pub returns-then-raw-ne-RECORD : goal.returns-then-raw-ne-RECORD

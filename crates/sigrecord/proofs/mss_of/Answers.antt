@@ -1,7 +1,6 @@
 -- `sigrecord::mss_of` meets its contract.
 use Rattle.sigrecord.specs.Record.{mss_of, signature_of}
 use Rattle.basis.proofs.Rules.{cases}
-use borrow.Author.Rules.{rules}
 use Rattle.sigrecord.proofs.mss_of.Goals as goal
 
 pub returns-then-byte_at-eq0 : goal.returns-then-byte_at-eq0

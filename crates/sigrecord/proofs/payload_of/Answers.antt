@@ -1,7 +1,6 @@
 -- `sigrecord::payload_of` meets its contract.
 use Rattle.sigrecord.specs.Record.{payload_of, signature_of}
 use Rattle.basis.proofs.Rules.{cases}
-use borrow.Author.Rules.{rules}
 use Rattle.sigrecord.proofs.payload_of.Goals as goal
 
 pub returns-in-0 : goal.returns-in-0

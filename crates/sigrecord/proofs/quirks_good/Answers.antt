@@ -2,7 +2,6 @@
 use Rattle.sigrecord.specs.WellFormed.{quirks_good}
 use Rattle.sigrecord.specs.Record.{signature_of}
 use Rattle.quirks.proofs.Named.{seventeen_bits}
-use borrow.Author.Rules.{rules}
 use Rattle.sigrecord.proofs.quirks_good.Goals as goal
 
 pub returns : goal.returns

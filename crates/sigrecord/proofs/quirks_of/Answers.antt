@@ -1,7 +1,6 @@
 -- `sigrecord::quirks_of` meets its contract.
 use Rattle.sigrecord.specs.Record.{signature_of}
 use Rattle.basis.specs.Bytes.{be32}
-use borrow.Author.Rules.{rules}
 use Rattle.sigrecord.proofs.quirks_of.Goals as goal
 
 pub returns : goal.returns

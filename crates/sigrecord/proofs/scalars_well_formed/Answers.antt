@@ -1,7 +1,5 @@
 -- `sigrecord::scalars_well_formed` meets its contract.
 use Rattle.sigrecord.proofs.Laws.{quirks_last}
-use borrow.Author.Tests.{not-true, not-false}
-use borrow.Author.Rules.{rules}
 use Rattle.sigrecord.proofs.scalars_well_formed.Goals as goal
 
 pub returns-then-not-forms_well_formed : goal.returns-then-not-forms_well_formed

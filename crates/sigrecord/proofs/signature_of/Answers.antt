@@ -1,6 +1,5 @@
 -- `sigrecord::signature_of` meets its contract.
 use Rattle.sigrecord.specs.Record.{signature_of}
-use borrow.Author.Rules.{rules}
 use Rattle.sigrecord.proofs.signature_of.Goals as goal
 
 pub returns : goal.returns

@@ -1,7 +1,6 @@
 -- `sigrecord::ttl_of` meets its contract.
 use Rattle.sigrecord.specs.Record.{ttl_of, signature_of}
 use Rattle.basis.proofs.Rules.{cases}
-use borrow.Author.Rules.{rules}
 use Rattle.sigrecord.proofs.ttl_of.Goals as goal
 
 pub returns-in-0 : goal.returns-in-0

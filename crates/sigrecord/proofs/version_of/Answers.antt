@@ -1,7 +1,6 @@
 -- `sigrecord::version_of` meets its contract.
 use Rattle.sigrecord.specs.Record.{version_of, signature_of}
 use Rattle.basis.proofs.Rules.{cases}
-use borrow.Author.Rules.{rules}
 use Rattle.sigrecord.proofs.version_of.Goals as goal
 
 pub returns-in-4 : goal.returns-in-4

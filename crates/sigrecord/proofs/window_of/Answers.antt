@@ -1,7 +1,6 @@
 -- `sigrecord::window_of` meets its contract.
 use Rattle.sigrecord.specs.Record.{window_of, signature_of}
 use Rattle.basis.proofs.Rules.{cases}
-use borrow.Author.Rules.{rules}
 use Rattle.sigrecord.proofs.window_of.Goals as goal
 
 pub returns-in-0 : goal.returns-in-0

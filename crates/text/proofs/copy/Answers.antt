@@ -1,9 +1,7 @@
 use Rattle.text.proofs.Writing.{copied, copy_turn}
-use lib.Seq.{paste, paste-zero}
-use lib.ListN.{length}
-use Prim.Native.Nat.{◌≤◌, ◌-◌}
+use lib.Seq.{paste-zero}
 use native.Mathlib.Omega.{arith}
-use mathlib.Core.Path.{◌≡◌, refl, ◌∙◌}
+use mathlib.Core.Path.{refl, ◌∙◌}
 use borrow.Author.Rules.{rules}
 use Rattle.text.proofs.copy.Goals as goal
 

@@ -1,5 +1,4 @@
 -- `ttl::calculate_ttl` meets its contract.
-use borrow.Author.Rules.{rules}
 use Rattle.basis.proofs.Rules.{cases}
 use Rattle.ttl.proofs.TableLaws.{reading_by, read_off}
 use Rattle.ttl.proofs.calculate_ttl.Goals as goal

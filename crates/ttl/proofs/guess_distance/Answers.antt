@@ -1,5 +1,4 @@
 -- `ttl::guess_distance` meets its contract.
-use borrow.Author.Rules.{rules}
 use Rattle.ttl.specs.Table.{entry_of}
 use Rattle.ttl.proofs.guess_distance.Goals as goal
 

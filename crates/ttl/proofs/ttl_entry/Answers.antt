@@ -1,5 +1,4 @@
 -- `ttl::ttl_entry` meets its contract: the byte's place in its row.
-use borrow.Author.Rules.{rules}
 use Rattle.ttl.proofs.TableLaws.{in_rows}
 use Rattle.ttl.proofs.ttl_entry.Goals as goal
 

@@ -3,7 +3,6 @@ use Rattle.basis.proofs.Rules.{cases}
 use Rattle.window_size.specs.Divisors.{twelve}
 use Rattle.window_size.specs.Multiplier.{first_multiple, multiplier_of}
 use Rattle.window_size.proofs.Laws.{first_held}
-use borrow.Author.Rules.{rules}
 use Rattle.window_size.proofs.detect_win_multi.Goals as goal
 
 pub returns-then-wsize-eq0 : goal.returns-then-wsize-eq0

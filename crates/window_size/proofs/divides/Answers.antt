@@ -1,7 +1,6 @@
 -- `window_size::divides` meets its contract.
 use Rattle.window_size.specs.Divisors.{divides}
 use Rattle.basis.proofs.Rules.{cases}
-use borrow.Author.Rules.{rules}
 use Rattle.window_size.proofs.divides.Goals as goal
 
 pub returns-then-size-eq0 : goal.returns-then-size-eq0

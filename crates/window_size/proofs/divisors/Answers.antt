@@ -1,6 +1,5 @@
 -- `window_size::divisors` meets its contract.
 use Rattle.window_size.proofs.Laws.{row_held}
-use borrow.Author.Rules.{rules}
 use Rattle.window_size.proofs.divisors.Goals as goal
 
 pub returns : goal.returns

@@ -1,13 +1,10 @@
 -- `window_size::first_multiple` meets its contract.
-use mathlib.Core.Path.{◌≡◌, sym, ◌∙◌}
+use mathlib.Core.Path.{◌≡◌}
 use Prim.Native.Nat.{◌≤◌, ◌-◌}
-use native.Mathlib.Omega.{arith}
-use borrow.Author.Rules.{rules}
 use lib.ListN.{drop}
 use mathlib.Core.List.{map}
 use Rattle.window_size.specs.Divisors.{holding}
 use Rattle.window_size.specs.Multiplier.{first_multiple}
-use Rattle.window_size.proofs.Laws.{divides_nonzero, turn_hit, turn_miss, turns_end}
 use Rattle.window_size.proofs.first_multiple.Given as goal
 
 abbrev pub invariant-loop-i : goal.invariant-loop-i

@@ -1,6 +1,5 @@
 -- `observable::TcpObservation::own_timestamp_is_nonzero` meets its contract.
 use Rattle.observable.specs.Observation.{own_timestamp_nonzero}
-use borrow.Author.Rules.{rules}
 use Rattle.observable.proofs.TcpObservation.own_timestamp_is_nonzero.Goals as goal
 
 pub returns-then-contains : goal.returns-then-contains

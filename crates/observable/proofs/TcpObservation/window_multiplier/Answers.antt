@@ -2,7 +2,6 @@
 use Rattle.observable.specs.Observation.{window_multiplier}
 use Rattle.window_size.proofs.Stamp.{stamp_idle}
 use mathlib.Core.Path.{sym, ◌∙◌}
-use borrow.Author.Rules.{rules}
 use Rattle.observable.proofs.TcpObservation.window_multiplier.Goals as goal
 use Rattle.observable.proofs.TcpObservation.window_multiplier.Goals.{then-stamp_may_decide, else-stamp_may_decide}
 

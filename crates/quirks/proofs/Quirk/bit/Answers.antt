@@ -1,6 +1,5 @@
 -- `quirks::Quirk::bit` meets its contract.
 use Rattle.quirks.specs.Quirks.{bit_of, place_of}
-use borrow.Author.Rules.{rules}
 use Rattle.quirks.proofs.Quirk.bit.Goals as goal
 
 pub returns-in-Ecn : goal.returns-in-Ecn

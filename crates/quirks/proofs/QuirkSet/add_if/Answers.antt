@@ -1,6 +1,5 @@
 -- `quirks::QuirkSet::add_if` meets its contract.
 use Rattle.quirks.specs.Quirks.{add_if}
-use borrow.Author.Rules.{rules}
 use Rattle.quirks.proofs.QuirkSet.add_if.Goals as goal
 
 pub returns-then-test : goal.returns-then-test

@@ -1,6 +1,5 @@
 -- `quirks::QuirkSet::contains` meets its contract.
 use Rattle.quirks.proofs.Laws.{masked}
-use borrow.Author.Rules.{rules}
 use Rattle.quirks.proofs.QuirkSet.contains.Goals as goal
 
 pub returns : goal.returns

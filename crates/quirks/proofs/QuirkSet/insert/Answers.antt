@@ -1,6 +1,5 @@
 -- `quirks::QuirkSet::insert` meets its contract.
 use Rattle.quirks.specs.Quirks.{with}
-use borrow.Author.Rules.{rules}
 use Rattle.quirks.proofs.QuirkSet.insert.Goals as goal
 
 pub returns : goal.returns

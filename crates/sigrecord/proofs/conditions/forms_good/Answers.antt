@@ -2,8 +2,7 @@
 use Rattle.sigrecord.specs.WellFormed.{payload_good, forms_good}
 use Rattle.basis.proofs.Tests.{and_false}
 use mathlib.Core.Path.{sym, ◌∙◌}
-use borrow.Author.Tests.{not-true, not-false, le-leb, lt-leb}
-use borrow.Author.Rules.{rules}
+use borrow.Author.Tests.{le-leb, lt-leb}
 use Rattle.sigrecord.proofs.conditions.forms_good.Goals as goal
 
 pub returns-then-not-version_good : goal.returns-then-not-version_good

@@ -1,7 +1,6 @@
 -- `sigrecord::ttl_good` meets its contract.
 use Rattle.sigrecord.specs.WellFormed.{ttl_good}
 use Rattle.basis.proofs.Rules.{cases}
-use borrow.Author.Rules.{rules}
 use Rattle.sigrecord.proofs.conditions.ttl_good.Goals as goal
 
 pub returns-then-form-gt3 : goal.returns-then-form-gt3

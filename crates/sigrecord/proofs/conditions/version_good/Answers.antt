@@ -1,7 +1,6 @@
 -- `sigrecord::version_good` meets its contract.
 use Rattle.sigrecord.specs.WellFormed.{version_good}
 use Rattle.basis.proofs.Rules.{cases}
-use borrow.Author.Rules.{rules}
 use Rattle.sigrecord.proofs.conditions.version_good.Goals as goal
 
 pub returns-in-0 : goal.returns-in-0

@@ -1,7 +1,6 @@
 -- `sigrecord::window_good` meets its contract.
 use Rattle.sigrecord.specs.WellFormed.{window_good}
 use Rattle.basis.proofs.Rules.{cases}
-use borrow.Author.Rules.{rules}
 use Rattle.sigrecord.proofs.conditions.window_good.Goals as goal
 
 pub returns-then-form-eq0 : goal.returns-then-form-eq0

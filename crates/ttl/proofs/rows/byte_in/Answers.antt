@@ -4,7 +4,6 @@ use Prim.Native.Nat.{ℕ, ◌<◌}
 use native.Mathlib.Nat.{zero-add}
 use native.Mathlib.Omega.{arith}
 use lib.ListN.{get_or}
-use borrow.Author.Rules.{rules}
 use Rattle.ttl.proofs.RowLaws.{word_from, shifted, under, each_of_eight}
 use Rattle.ttl.proofs.rows.byte_in.Goals as goal
 
