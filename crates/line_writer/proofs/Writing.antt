@@ -10,7 +10,7 @@ use lib.ListN.{length, take}
 use borrow.Author.Tests.{lt-ltb, le-ltb, leb-true}
 use Rattle.basis.specs.Bytes.{part}
 use Rattle.basis.proofs.Tests.{and_left}
-use Rattle.text.specs.Written.{written, Put, Writes}
+use Rattle.text.specs.Written.{Put, Writes}
 use Rattle.text.proofs.Writing.{nothing_written, put_all}
 use Rattle.observable.specs.declared.TcpObservation.{TcpObservation}
 use Rattle.refusals.specs.declared.ListRefusal.{ListRefusal}

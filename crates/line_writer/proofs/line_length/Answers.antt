@@ -13,9 +13,6 @@ use Rattle.line_writer.proofs.Bounds.{
   quirks_within,
   whole_length,
 }
-use borrow.Author.Rules.{rules}
-use Rattle.line_writer.proofs.line_length.Statement.{statement}
-use Rattle.line_writer.proofs.line_length.Tie as tie
 
 pub overflow_add-sizes : goal.overflow_add-sizes
 overflow_add-sizes c =

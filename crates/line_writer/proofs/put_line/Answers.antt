@@ -1,17 +1,12 @@
-use mathlib.Core.Path.{◌∙◌}
 use Rattle.grammar.specs.Spelling.{spelt}
 use Rattle.signature_line.specs.Words.{bare_byte}
 use Rattle.text.proofs.Writing.{both}
 use Rattle.written_line.specs.LineText.{text_after_scale, text_after_olen, line_text, signature_text}
 use Rattle.written_line.specs.Signature.{fields_of}
-use borrow.Author.Rules.{rules}
 use Rattle.line_writer.proofs.put_line.Goals as goal
 
 pub shape_of-buffer : goal.shape_of-buffer
-shape_of-buffer c =
-    c.buffer-15-1.given ∙ c.buffer-14-1.given ∙ c.buffer-13-1.given ∙ c.buffer-12-1.given ∙ c.buffer-11-1.given ∙
-    c.buffer-10-1.given ∙ c.buffer-9-1.given ∙ c.buffer-8-1.given ∙ c.buffer-7-1.given ∙ c.buffer-6-1.given ∙
-    c.buffer-5-1.given ∙ c.buffer-4-1.given ∙ c.buffer-3-1.given ∙ c.buffer-2-1.given ∙ c.buffer-1.given
+shape_of-buffer c = cc
 
 pub returns : goal.returns
 unfolding signature_text line_text text_after_olen text_after_scale fields_of spelt bare_byte

@@ -1,5 +1,4 @@
 use Rattle.written_line.specs.Signature.{signature_seen}
-use borrow.Author.Rules.{rules}
 use Rattle.line_writer.proofs.signature_seen.Goals as goal
 
 pub returns : goal.returns

@@ -1,6 +1,5 @@
 use mathlib.Core.Path.{sym, ◌∙◌}
 use native.Mathlib.Omega.{arith}
-use borrow.Author.Tests.{not-true, not-false}
 use Rattle.siglist.proofs.List.{header_areas, header_none, lie_within}
 use Rattle.line_writer.proofs.Writing.{no_areas, past_the_last, lie_elsewhere, lie_few, listed_text_lem}
 use borrow.Author.Rules.{rules}

@@ -7,7 +7,7 @@ returns-then-count-gt40 c = too_long c.args.o _ c.if-count-gt40.true
 
 pub returns : goal.returns
 returns c =
-    let o = c.before.args.o in
-    let turned = c.entries_in_lem.ensures in
-    let seen = c.signature-seen.ensures in
+    let o = c.args.o in
+    let turned = c.entries_in-entries.ensures in
+    let seen = c.signature_seen.ensures in
     raw_line_lem o _ _ _ _ (search rules) turned (rw (← seen) c.write_line.ensures)

@@ -1,6 +1,5 @@
 use mathlib.Core.Path.{sym, ◌∙◌}
 use Rattle.line_writer.proofs.Writing.{list_refused_lem, its_line}
-use borrow.Author.Rules.{rules}
 use Rattle.line_writer.proofs.write_record.Goals as goal
 
 pub returns-in-Refused : goal.returns-in-Refused

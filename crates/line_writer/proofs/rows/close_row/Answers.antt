@@ -1,6 +1,5 @@
 use borrow.Author.Tests.{eq-eqb, ne_eqb}
 use Rattle.text.proofs.Writing.{put_none}
-use borrow.Author.Rules.{rules}
 use Rattle.line_writer.proofs.rows.close_row.Goals as goal
 
 pub returns-then-between-eq-COLON : goal.returns-then-between-eq-COLON

@@ -1,7 +1,7 @@
 use mathlib.Core.Path.{◌≡◌, refl, ◌∙◌, subst}
-use Prim.Native.Nat.{ℕ, ◌*◌, ◌-◌, ◌≤◌}
+use Prim.Native.Nat.{ℕ, ◌*◌}
 use native.Mathlib.Omega.{arith}
-use lib.ListN.{length, take}
+use lib.ListN.{take}
 use Rattle.signature_line.specs.OneRecord.{alternating}
 use Rattle.line_writer.proofs.Layouts.{turned_turn}
 use borrow.Author.Rules.{rules}
@@ -14,7 +14,7 @@ pub loop-i-preserved : goal.loop-i-preserved
 loop-i-preserved c =
     let a = c.args in
     let l = c.loop-i in
-    let turn = turned_turn a.t1 a.t2 l.entries l.i (search rules) (search rules) (omega arith) l.invariant.2 in
+    let turn = turned_turn a.kinds a.bytes l.entries l.i (search rules) (search rules) (omega arith) l.invariant.2 in
     (search rules, turn.0 ∙ l.invariant.1, turn.1)
 
 pub returns : goal.returns
@@ -23,6 +23,6 @@ returns c =
     let l = c.loop-i in
     let all : l.i ≡ a.count = omega arith in
     record {
-      turned = subst (λ (k : ℕ). take (2 * k) l.entries ≡ alternating (take k a.t1) (take k a.t2)) all l.invariant.2;
+      turned = subst (λ (k : ℕ). take (2 * k) l.entries ≡ alternating (take k a.kinds) (take k a.bytes)) all l.invariant.2;
       whole = l.invariant.1;
     }

@@ -1,10 +1,7 @@
-use mathlib.Core.Path.{◌≡◌, refl, ◌∙◌, subst}
-use Prim.Native.Nat.{ℕ, ◌*◌, ◌-◌, ◌≤◌}
-use native.Mathlib.Omega.{arith}
+use mathlib.Core.Path.{◌≡◌}
+use Prim.Native.Nat.{◌*◌, ◌-◌, ◌≤◌}
 use lib.ListN.{length, take}
 use Rattle.signature_line.specs.OneRecord.{alternating}
-use Rattle.line_writer.proofs.Layouts.{turned_turn}
-use borrow.Author.Rules.{rules}
 use Rattle.line_writer.proofs.rows.entries_in.Given as goal
 
 abbrev pub invariant-loop-i : goal.invariant-loop-i

@@ -1,7 +1,5 @@
-use mathlib.Core.Path.{◌≡◌}
 use native.Mathlib.Omega.{arith}
-use Prim.Native.Nat.{◌+◌, ◌*◌, ◌-◌, ◌≤◌}
-use Rattle.line_writer.proofs.Layouts.{bytes_left, none_left, entry_few, length_turn, length_last}
+use Rattle.line_writer.proofs.Layouts.{none_left, entry_few, length_turn, length_last}
 use borrow.Author.Rules.{rules}
 use Rattle.line_writer.proofs.rows.layout_length.Goals as goal
 

@@ -1,8 +1,6 @@
 use mathlib.Core.Path.{◌≡◌}
-use native.Mathlib.Omega.{arith}
 use Prim.Native.Nat.{◌+◌, ◌*◌, ◌-◌, ◌≤◌}
-use Rattle.line_writer.proofs.Layouts.{bytes_left, none_left, entry_few, length_turn, length_last}
-use borrow.Author.Rules.{rules}
+use Rattle.line_writer.proofs.Layouts.{bytes_left}
 use Rattle.line_writer.proofs.rows.layout_length.Given as goal
 
 abbrev pub invariant-loop-i : goal.invariant-loop-i

@@ -1,14 +1,12 @@
-use mathlib.Core.Path.{◌≡◌, subst}
-use mathlib.Core.List.{List, ◌∷◌}
-use Prim.Native.Nat.{ℕ, ◌*◌, ◌-◌, ◌≤◌}
-use lib.ListN.{length, drop}
+use mathlib.Core.Path.{subst}
+use mathlib.Core.List.{List}
+use Prim.Native.Nat.{ℕ}
 use Rattle.grammar.specs.Spelling.{spelt}
 use Rattle.signature_line.specs.Words.{entry}
 use Rattle.text.specs.Written.{Put}
-use Rattle.written_line.specs.LineText.{layout_text}
 use Rattle.written_line.specs.Signature.{entries_said}
 use Rattle.line_writer.proofs.Layouts.{layout_turn, layout_last}
-use Rattle.line_writer.proofs.RowTexts.{row_text, whole_row}
+use Rattle.line_writer.proofs.RowTexts.{whole_row}
 use borrow.Author.Rules.{rules}
 use Rattle.line_writer.proofs.rows.put_layout.Goals as goal
 
@@ -29,7 +27,7 @@ loop-i-preserved c =
       search rules,
       search rules,
       λ n b h. l.invariant.2 n b
-          (layout_turn e l.buffer byte.new.0 option.new.0 b l.i l.between l.next byte.result option.result n
+          (layout_turn e l.buffer byte.new.buffer option.new.buffer b l.i l.between l.next byte.result option.result n
           c.loop-i-test.true byte.ensures option.ensures h),
     )
 
@@ -39,4 +37,4 @@ returns c =
     let e = c.args.entries.now in
     let l = c.loop-i in
     l.invariant.2 _ _
-    (layout_last e l.buffer closed.new.0 l.i l.between l.next closed.result c.loop-i-test.false closed.ensures)
+    (layout_last e l.buffer closed.new.buffer l.i l.between l.next closed.result c.loop-i-test.false closed.ensures)

@@ -1,4 +1,4 @@
-use mathlib.Core.Path.{◌≡◌, subst}
+use mathlib.Core.Path.{◌≡◌}
 use mathlib.Core.List.{List, ◌∷◌}
 use Prim.Native.Nat.{ℕ, ◌*◌, ◌-◌, ◌≤◌}
 use lib.ListN.{length, drop}
@@ -7,9 +7,7 @@ use Rattle.signature_line.specs.Words.{entry}
 use Rattle.text.specs.Written.{Put}
 use Rattle.written_line.specs.LineText.{layout_text}
 use Rattle.written_line.specs.Signature.{entries_said}
-use Rattle.line_writer.proofs.Layouts.{layout_turn, layout_last}
-use Rattle.line_writer.proofs.RowTexts.{row_text, whole_row}
-use borrow.Author.Rules.{rules}
+use Rattle.line_writer.proofs.RowTexts.{row_text}
 use Rattle.line_writer.proofs.rows.put_layout.Given as goal
 
 abbrev pub invariant-loop-i : goal.invariant-loop-i

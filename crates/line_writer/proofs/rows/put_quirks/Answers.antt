@@ -1,17 +1,11 @@
-use mathlib.Core.Path.{◌∙◌}
 use native.Mathlib.Omega.{arith}
 use Rattle.quirks.specs.declared.Quirk.TheVariants as quirk
 use Rattle.quirks.specs.Named.{display_order}
 use Rattle.line_writer.proofs.Names.{one_name, no_name, whole_names}
-use borrow.Author.Rules.{rules}
 use Rattle.line_writer.proofs.rows.put_quirks.Goals as goal
 
 pub shape_of-buffer : goal.shape_of-buffer
-shape_of-buffer c =
-    c.buffer-18-1.given ∙ c.buffer-17-1.given ∙ c.buffer-16-1.given ∙ c.buffer-15-1.given ∙ c.buffer-14-1.given ∙
-    c.buffer-13-1.given ∙ c.buffer-12-1.given ∙ c.buffer-11-1.given ∙ c.buffer-10-1.given ∙ c.buffer-9-1.given ∙
-    c.buffer-8-1.given ∙ c.buffer-7-1.given ∙ c.buffer-6-1.given ∙ c.buffer-5-1.given ∙ c.buffer-4-1.given ∙
-    c.buffer-3-1.given ∙ c.buffer-2-1.given ∙ c.buffer-1.given
+shape_of-buffer c = cc
 
 pub returns : goal.returns
 unfolding display_order

@@ -1,8 +1,6 @@
 use mathlib.Core.Path.{sym, ◌∙◌}
-use borrow.Author.Tests.{not-true, not-false}
 use Rattle.text.proofs.Writing.{both, put_none}
 use Rattle.line_writer.specs.Rows.{name_at}
-use borrow.Author.Rules.{rules}
 use Rattle.line_writer.proofs.rows.put_shown.Goals as goal
 
 pub returns-then-not-contains : goal.returns-then-not-contains

@@ -1,8 +1,6 @@
 use mathlib.Core.Path.{sym, ◌∙◌}
 use native.Mathlib.Omega.{arith}
-use borrow.Author.Tests.{not-true, not-false}
 use Rattle.line_writer.proofs.Names.{name_short}
-use borrow.Author.Rules.{rules}
 use Rattle.line_writer.proofs.rows.shown_length.Goals as goal
 
 pub returns-then-not-contains : goal.returns-then-not-contains
