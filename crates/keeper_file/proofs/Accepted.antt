@@ -57,8 +57,8 @@ same_meaning : (m n : LineMeaning) → read_of m ≡ read_of n → m ≡ n
 same_meaning m n e = ap meaning_read e
 
 -- What was read is its meaning.
-pub kept_read : (s : List ℕ) → (read_kept s).answer ≡ answer.Read → read_kept s ≡ read_of (meaning_read (read_kept s))
-kept_read s e =
+pub kept_read_lem : (s : List ℕ) → (read_kept s).answer ≡ answer.Read → read_kept s ≡ read_of (meaning_read (read_kept s))
+kept_read_lem s e =
     let r = read_kept s in
     ap (λ (a : LineAnswer). record { answer = a; raw = r.raw; layout = r.layout }) e
 

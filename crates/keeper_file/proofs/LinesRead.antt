@@ -22,7 +22,7 @@ use Rattle.keeper_file.specs.KeptLine.{KeptMeans, KeptRefused}
 use Rattle.keeper_file.specs.KeptReader.{read_kept, meaning_read}
 use Rattle.keeper_file.specs.Lines.{Numbered}
 use Rattle.keeper_file.specs.ListText.{entry_total}
-use Rattle.keeper_file.proofs.Accepted.{kept_accepted, kept_refused, kept_read}
+use Rattle.keeper_file.proofs.Accepted.{kept_accepted, kept_refused, kept_read_lem}
 
 -- What is read of a line.
 abbrev pub line_meaning : Numbered → LineMeaning
@@ -76,7 +76,7 @@ lines_checked (line ∷ lines) = by_answer (read_kept line.text).answer refl (li
     by_answer
         : (a : LineAnswer) → (read_kept line.text).answer ≡ a → LinesChecked lines (first_bad lines)
         → LinesChecked (line ∷ lines) (bad_or a line.number (first_bad lines))
-    by_answer answer.Read e rest = later_ones ((kept_accepted line.text (line_meaning line)).0 (kept_read line.text e)) rest
+    by_answer answer.Read e rest = later_ones ((kept_accepted line.text (line_meaning line)).0 (kept_read_lem line.text e)) rest
     by_answer (answer.Refused at) e rest =
         LinesChecked.first_bad_lem [] line lines at refl tt ((kept_refused line.text at).0 e)
 

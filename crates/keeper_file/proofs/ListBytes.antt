@@ -40,8 +40,8 @@ set_bytes [] k b a h = a
 set_bytes (x ∷ s) zero b a h = cons_bytes b s h (λ i. a (suc i))
 set_bytes (x ∷ s) (suc k) b a h = cons_bytes x (set s k b) (a 0) (set_bytes s k b (λ i. a (suc i)) h)
 
-two_bytes : (n : ℕ) → n < 65536 → AllBytes (two_bytes n)
-two_bytes n h = cons_bytes (n / 256) (n % 256 ∷ []) (omega arith) (cons_bytes (n % 256) [] (omega arith) no_bytes)
+two_bytes_lem : (n : ℕ) → n < 65536 → AllBytes (two_bytes n)
+two_bytes_lem n h = cons_bytes (n / 256) (n % 256 ∷ []) (omega arith) (cons_bytes (n % 256) [] (omega arith) no_bytes)
 
 alternating_bytes : (kinds bytes : List ℕ) → AllBytes kinds → AllBytes bytes → AllBytes (alternating kinds bytes)
 alternating_bytes [] bytes a b = no_bytes
@@ -120,10 +120,10 @@ unfolding header_text
 header_bytes signatures entries few small =
     append_bytes (two_bytes signatures ++ two_bytes (8 + 2 * entries) ++ two_bytes entries) (two_bytes 8)
     (append_bytes (two_bytes signatures ++ two_bytes (8 + 2 * entries)) (two_bytes entries)
-    (append_bytes (two_bytes signatures) (two_bytes (8 + 2 * entries)) (two_bytes signatures (omega arith))
-    (two_bytes (8 + 2 * entries) (omega arith)))
-    (two_bytes entries (omega arith)))
-    (two_bytes 8 (omega arith))
+    (append_bytes (two_bytes signatures) (two_bytes (8 + 2 * entries)) (two_bytes_lem signatures (omega arith))
+    (two_bytes_lem (8 + 2 * entries) (omega arith)))
+    (two_bytes_lem entries (omega arith)))
+    (two_bytes_lem 8 (omega arith))
 
 pub list_bytes
     : {lines : List Numbered} {ms : List LineMeaning} → EachMeans lines ms → length ms ≤ most_signatures → entry_total ms ≤ most_entries
