@@ -1,7 +1,7 @@
 use lib.ListN.{length}
 use native.Mathlib.Omega.{arith}
 use mathlib.Core.Path.{sym, ◌∙◌}
-use borrow.Author.Tests.{le-leb, not-true, not-false}
+use borrow.Author.Tests.{le-leb}
 use Rattle.basis.proofs.Rules.{cases}
 use Rattle.bundle.proofs.Packets.{lies_within}
 use Rattle.bundle.specs.Bundle.{bundle_fits}

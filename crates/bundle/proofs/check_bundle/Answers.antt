@@ -1,8 +1,6 @@
 use Rattle.bundle.proofs.Packets.{list_within}
-use borrow.Author.Tests.{not-true, not-false}
 use mathlib.Core.Path.{sym, ◌∙◌}
 use Rattle.bundle.specs.Bundle.{check_bundle}
-use borrow.Author.Rules.{rules}
 use Rattle.bundle.proofs.check_bundle.Goals as goal
 
 pub returns-then-not-bundle_fits : goal.returns-then-not-bundle_fits

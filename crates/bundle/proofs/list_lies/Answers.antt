@@ -3,7 +3,6 @@ use native.Mathlib.Omega.{arith}
 use lib.ListN.{length}
 use Rattle.basis.proofs.Rules.{cases}
 use Rattle.bundle.specs.Bundle.{list_lies}
-use borrow.Author.Rules.{rules}
 use Rattle.bundle.proofs.list_lies.Goals as goal
 
 pub returns-then-bundle-lt-HEADER : goal.returns-then-bundle-lt-HEADER

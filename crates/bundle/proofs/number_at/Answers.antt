@@ -1,5 +1,4 @@
 use Rattle.basis.specs.Bytes.{be16}
-use borrow.Author.Rules.{rules}
 use Rattle.bundle.proofs.number_at.Goals as goal
 
 pub returns : goal.returns

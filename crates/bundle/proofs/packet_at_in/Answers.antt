@@ -2,7 +2,6 @@ use Rattle.bundle.proofs.Packets.{head_within, end_within, lies_within}
 use Rattle.bundle.specs.Bundle.{packet_end}
 use Rattle.bundle.specs.Answers.{answer_at, packet_lies, packet_at_in}
 use mathlib.Core.Path.{sym, ◌∙◌}
-use borrow.Author.Tests.{not-true, not-false}
 use borrow.Author.Rules.{rules}
 use Rattle.bundle.proofs.packet_at_in.Goals as goal
 

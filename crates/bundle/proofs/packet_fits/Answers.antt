@@ -3,7 +3,6 @@ use native.Mathlib.Omega.{arith}
 use lib.ListN.{length}
 use Prim.Native.Nat.{◌+◌}
 use Rattle.bundle.specs.Bundle.{packet_fits}
-use borrow.Author.Rules.{rules}
 use Rattle.bundle.proofs.packet_fits.Goals as goal
 
 pub returns-then-bundle-lt-BEFORE : goal.returns-then-bundle-lt-BEFORE

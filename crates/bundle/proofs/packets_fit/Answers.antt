@@ -1,9 +1,6 @@
 use borrow.Author.Rules.{rules}
 use Rattle.bundle.proofs.Packets.{head_within, packet_fits_turn, packet_fails_turn, packets_end}
-use Rattle.bundle.specs.Bundle.{packets_fit}
-use borrow.Author.Tests.{not-true, not-false}
-use Prim.Native.Nat.{◌≤◌, ◌-◌}
-use mathlib.Core.Path.{◌≡◌, sym, ◌∙◌}
+use mathlib.Core.Path.{sym, ◌∙◌}
 use native.Mathlib.Nat.{sub-zero}
 use Rattle.bundle.proofs.packets_fit.Goals as goal
 

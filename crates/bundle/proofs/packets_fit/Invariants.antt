@@ -1,10 +1,6 @@
-use borrow.Author.Rules.{rules}
-use Rattle.bundle.proofs.Packets.{head_within, packet_fits_turn, packet_fails_turn, packets_end}
 use Rattle.bundle.specs.Bundle.{packets_fit}
-use borrow.Author.Tests.{not-true, not-false}
 use Prim.Native.Nat.{◌≤◌, ◌-◌}
-use mathlib.Core.Path.{◌≡◌, sym, ◌∙◌}
-use native.Mathlib.Nat.{sub-zero}
+use mathlib.Core.Path.{◌≡◌}
 use Rattle.bundle.proofs.packets_fit.Given as goal
 
 abbrev pub invariant-loop-i : goal.invariant-loop-i
