@@ -2,8 +2,9 @@
 -- `took` alone. Nothing proves these two of the machine: they are what the calls of `write` mean here. The gate asks that `took` stands in
 -- the proof of the one function that calls `write` on standard output, `none_yet` in that of the one that begins, and neither anywhere
 -- else. A write does not use a `Reached` up, so it does not say that nothing is written twice from one place.
-use Rattle.std.specs.Prelude.{Bool, true, false, ℕ, ◌+◌, ℤ}
-use Rattle.io.specs.Counts.{clamp_len}
+use Rattle.std.specs.Prelude.{Bool, true, false, ℕ, ◌+◌, Result}
+use Rattle.std.specs.declared.io.Error.{Error}
+use Rattle.termread.specs.Moved.{clamp_len}
 
 -- So many bytes of the output were taken.
 pub Reached : ℕ → Type 0
@@ -14,8 +15,8 @@ pub none_yet : Reached 0
 unfolding Reached
 none_yet = tt
 
--- A write at a place that was reached, of so many bytes, answered `got`: it took as many as that says, none if it is -1.
-pub took : (taken size : ℕ) (got : ℤ) → Reached taken → Reached (taken + clamp_len got size)
+-- A write at a place that was reached, of so many bytes, answered `got`: it took as many as that says, none if it is an error.
+pub took : (taken size : ℕ) (got : Result ℕ Error) → Reached taken → Reached (taken + clamp_len got size)
 unfolding Reached
 took taken size got reached = tt
 

@@ -2,16 +2,17 @@
 // written is the library's: this program only moves bytes.
 #![tactic(auto)]
 
-ghost use Rattle.std.specs.Prelude.{true, ◌+◌, ◌≤◌, length};
+ghost use Rattle.std.specs.Prelude.{◌≡◌, true, ◌+◌, ◌≤◌, length};
 ghost use Rattle.report.specs.Pages.{output_of_input};
-ghost use Rattle.io.specs.Counts.{clamp_len};
+ghost use Rattle.termread.specs.Moved.{clamp_len};
 ghost use Rattle.termread.specs.Came.{Came, ReadAt, AgainAt, EndsAs, InputCame, InputEnds};
 ghost use Rattle.termread.specs.Reached.{Reached, ReachedIf};
 ghost use Rattle.termread.specs.Sending.{Follows, CutAt};
 
-use libc::types::timespec;
-use libc::{STDERR_FILENO, STDIN_FILENO, STDOUT_FILENO};
 use report::{PAGE, Progress, first_page, next_page};
+use std::io::{ErrorKind, Read, Stderr, Stdin, Stdout, Write};
+use std::time::{Clock, Duration};
+use std::{io, thread};
 
 // More pages than any output has: each but the last holds a line, and a bundle at most 65,535 packets.
 const PAGES: usize = 65536;
@@ -19,66 +20,75 @@ const PAGES: usize = 65536;
 // How often a call is tried before the program gives up: a loop has to end. As many pauses take 34 years.
 const PATIENCE: usize = 1099511627776;
 
-// Waits for a millisecond, or until a signal comes.
-fn pause() {
-    let asked = timespec {
-        tv_sec: 0,
-        tv_nsec: 1000000,
-    };
-    let mut left = timespec {
-        tv_sec: 0,
-        tv_nsec: 0,
-    };
-    libc::nanosleep(&asked, &mut left);
+// Waits for a millisecond.
+fn pause(clock: &impl Clock) {
+    thread::sleep(clock, Duration::from_millis(1));
 }
 
 // Whether a call that failed may be tried again: it was interrupted, or it would have had to wait, which is done here.
-fn goes_on() -> bool {
-    let error = os::errno();
-    if error == libc::EINTR {
+fn goes_on(clock: &impl Clock, error: io::Error) -> bool {
+    let kind = error.kind();
+    if kind == ErrorKind::Interrupted {
         return true;
     }
-    if error == libc::EAGAIN {
-        pause();
+    if kind == ErrorKind::WouldBlock {
+        pause(clock);
         return true;
     }
     false
 }
 
-// One read, the program's only one. It is told how many bytes came before, and what the last read behind these answered (-1 if there was
-// none): only one that failed is made again. What it answers is `read`'s answer.
-fn read_once(count: usize, last: isize, buffer: &mut [u8]) -> isize
+// How many bytes of a text a call moved that was handed it, by what it answered: none if it failed.
+fn count_of(got: io::Result<usize>, text: &[u8]) -> usize
+    ensures in_bounds { result ≤ length text.now }
+    ensures value { result ≡ clamp_len got (length text.now) }
+{
+    match got {
+        Ok(n) => n.min(text.len()),
+        Err(_) => 0,
+    }
+}
+
+// One read, the program's only one. It is told how many bytes came before, and what the last read behind these answered (an error if
+// there was none): only one that failed is made again. What it answers is `read`'s answer.
+fn read_once(
+    mut stdin: Stdin,
+    count: usize,
+    last: io::Result<usize>,
+    buffer: &mut [u8],
+) -> io::Result<usize>
     requires came { Came count }
     requires again_at { AgainAt last true }
     requires in_bounds { 1 ≤ length buffer.old }
     ensures { ReadAt count (length buffer.old) result }
 {
-    libc::read(STDIN_FILENO, buffer)
+    stdin.read(buffer)
 }
 
 // Whether a read is made again: it failed, and another try may help.
-fn reads_again(got: isize) -> bool
+fn reads_again(clock: &impl Clock, got: io::Result<usize>) -> bool
     ensures { AgainAt got result }
 {
-    if got >= 0 {
+    let Err(error) = got else {
         return false;
-    }
-    goes_on()
+    };
+    goes_on(clock, error)
 }
 
 // A read, made again as long as that may help: what the last one answered.
-fn read_some(count: usize, buffer: &mut [u8]) -> isize
+fn read_some(stdin: Stdin, clock: &impl Clock, count: usize, buffer: &mut [u8]) -> io::Result<usize>
     requires came { Came count }
     requires in_bounds { 1 ≤ length buffer.old }
     ensures { ReadAt count (length buffer.old) result }
 {
-    let mut got = read_once(count, -1, buffer);
+    let none = Err(io::Error::from(ErrorKind::Interrupted));
+    let mut got = read_once(stdin, count, none, buffer);
     let mut turn = 1;
     while turn < PATIENCE {
-        if !reads_again(got) {
+        if !reads_again(clock, got) {
             return got;
         }
-        got = read_once(count, got, buffer);
+        got = read_once(stdin, count, got, buffer);
         turn += 1;
     }
     got
@@ -103,15 +113,14 @@ struct Input {
 }
 
 // Whether the input goes on where the buffer is full: one byte more tells.
-fn after_full(count: usize) -> Ending
+fn after_full(stdin: Stdin, clock: &impl Clock, count: usize) -> Ending
     requires { Came count }
     ensures { EndsAs result count count }
 {
     let mut one = [0u8; 1];
-    let got = read_some(count, &mut one);
-    if got < 0 {
+    let Ok(got) = read_some(stdin, clock, count, &mut one) else {
         return Ending::Failed;
-    }
+    };
     if got == 0 {
         return Ending::Whole;
     }
@@ -119,20 +128,18 @@ fn after_full(count: usize) -> Ending
 }
 
 // Reads until the buffer is full, the input ends or a read fails.
-fn read_input(buffer: &mut [u8]) -> Input
+fn read_input(stdin: Stdin, clock: &impl Clock, buffer: &mut [u8]) -> Input
     ensures { InputCame result.count result.ending (length buffer.new) }
 {
     let mut count = 0;
     while count < buffer.len() {
         let rest = &mut buffer[count..];
-        let got = read_some(count, rest);
-        if got < 0 {
+        let Ok(more) = read_some(stdin, clock, count, rest) else {
             return Input {
                 count,
                 ending: Ending::Failed,
             };
-        }
-        let more = io::count(got, rest);
+        };
         if more == 0 {
             return Input {
                 count,
@@ -143,36 +150,46 @@ fn read_input(buffer: &mut [u8]) -> Input
     }
     Input {
         count,
-        ending: after_full(count),
+        ending: after_full(stdin, clock, count),
     }
 }
 
 // One write, the program's only one to standard output. It is handed the output from a place on that the writes before it reached, and what
 // it answers, which is `write`'s answer, says how far the output is then taken.
-fn write_once(bundle: &[u8], longer: bool, taken: usize, text: &[u8]) -> isize
+fn write_once(
+    mut stdout: Stdout,
+    bundle: &[u8],
+    longer: bool,
+    taken: usize,
+    text: &[u8],
+) -> io::Result<usize>
     requires reached { Reached taken }
     requires follows { Follows (output_of_input bundle.now longer) taken text.now }
     ensures { Reached (taken + clamp_len result (length text.now)) }
 {
-    libc::write(STDOUT_FILENO, text)
+    stdout.write(text)
 }
 
 // Whether the output ends at what a write of a text that is not empty answered: nothing was taken, and another try is of no use.
-fn ends_at(got: isize) -> bool
+fn ends_at(clock: &impl Clock, got: io::Result<usize>) -> bool
     ensures { CutAt got result }
 {
-    if got > 0 {
-        return false;
+    match got {
+        Ok(n) => n == 0,
+        Err(error) => !goes_on(clock, error),
     }
-    if got == 0 {
-        return true;
-    }
-    !goes_on()
 }
 
 // Writes until all of the text is taken or the output is cut. Whether all of it was taken. (The bound is one page more than PAGES: no sum
 // wraps.)
-fn send(bundle: &[u8], longer: bool, taken: usize, text: &[u8]) -> bool
+fn send(
+    stdout: Stdout,
+    clock: &impl Clock,
+    bundle: &[u8],
+    longer: bool,
+    taken: usize,
+    text: &[u8],
+) -> bool
     requires reached { Reached taken }
     requires follows { Follows (output_of_input bundle.now longer) taken text.now }
     requires text_bound { taken + length text.now ≤ 268439552 }
@@ -185,18 +202,18 @@ fn send(bundle: &[u8], longer: bool, taken: usize, text: &[u8]) -> bool
             return true;
         }
         let rest = &text[from..];
-        let got = write_once(bundle, longer, taken + from, rest);
-        if ends_at(got) {
+        let got = write_once(stdout, bundle, longer, taken + from, rest);
+        if ends_at(clock, got) {
             return false;
         }
-        from += io::count(got, rest);
+        from += count_of(got, rest);
         turn += 1;
     }
     false
 }
 
 // The pages of the output, each behind the one before. Whether all of the output was taken.
-fn write_output(bundle: &[u8], longer: bool) -> bool
+fn write_output(stdout: Stdout, clock: &impl Clock, bundle: &[u8], longer: bool) -> bool
     requires { InputEnds longer (length bundle.now) }
     ensures { ReachedIf result (length (output_of_input bundle.now longer)) }
 {
@@ -206,7 +223,7 @@ fn write_output(bundle: &[u8], longer: bool) -> bool
     let mut turn = 0;
     while turn < PAGES {
         let filled = progress.filled;
-        if !send(bundle, longer, taken, &page[0..filled]) {
+        if !send(stdout, clock, bundle, longer, taken, &page[0..filled]) {
             return false;
         }
         if progress.left == 0 {
@@ -219,32 +236,35 @@ fn write_output(bundle: &[u8], longer: bool) -> bool
     false
 }
 
-// A message, on standard error.
-fn say(text: &[u8]) {
-    io::write_all(STDERR_FILENO, text);
+// A message, on standard error. One that is not taken is lost.
+fn say(mut stderr: Stderr, text: &[u8]) {
+    let _ = stderr.write_all(text);
 }
 
-fn tell(whole: bool) {
+fn tell(stderr: Stderr, whole: bool) {
     if !whole {
-        say(b"termread: standard output could not be written, and ends early\n");
+        say(
+            stderr,
+            b"termread: standard output could not be written, and ends early\n",
+        );
     }
 }
 
 // The answers to what came, by how the input ends behind it.
-fn answer(bundle: &[u8], ending: Ending)
+fn answer(stdout: Stdout, stderr: Stderr, clock: &impl Clock, bundle: &[u8], ending: Ending)
     requires { EndsAs ending (length bundle.now) 65535 }
 {
     match ending {
-        Ending::Whole => tell(write_output(bundle, false)),
-        Ending::Longer => tell(write_output(bundle, true)),
-        Ending::Failed => say(b"termread: standard input could not be read\n"),
+        Ending::Whole => tell(stderr, write_output(stdout, clock, bundle, false)),
+        Ending::Longer => tell(stderr, write_output(stdout, clock, bundle, true)),
+        Ending::Failed => say(stderr, b"termread: standard input could not be read\n"),
     }
 }
 
-fn main() {
+fn main(rt: HostRuntime) {
     let mut buffer = [0u8; 65535];
-    let input = read_input(&mut buffer);
+    let input = read_input(rt.stdin(), &rt, &mut buffer);
     let count = input.count;
     let ending = input.ending;
-    answer(&buffer[0..count], ending);
+    answer(rt.stdout(), rt.stderr(), &rt, &buffer[0..count], ending);
 }

@@ -1,0 +1,11 @@
+use mathlib.Core.Path.{◌≡◌}
+use Prim.Native.Nat.{◌-◌}
+use lib.ListN.{length}
+use Rattle.text.proofs.Writing.{put_within}
+use borrow.Author.Rules.{rules}
+use Rattle.showlist.proofs.write_records.Goals as goal
+
+pub slice_bounds-write_all-end : goal.slice_bounds-write_all-end
+slice_bounds-write_all-end c =
+    let within = put_within _ _ _ 0 _ (search rules) c.put_shown-filled.ensures in
+    search rules
