@@ -3,8 +3,8 @@ use Rattle.explain.proofs.Laws.{entries_good_lem, entries_end, the_gates}
 use borrow.Author.Rules.{rules}
 use Rattle.explain.proofs.gates.gates_at.Goals as goal
 
-pub slice_bounds-gates_of-count : goal.slice_bounds-gates_of-count
-slice_bounds-gates_of-count c =
+pub slice_bounds-gates_of-end-3 : goal.slice_bounds-gates_of-end-3
+slice_bounds-gates_of-end-3 c =
     let within = entries_end _ _ _ c.requires _ _ _ c.record_at-raw.ensures c.first_entry-first.ensures
     c.entry_count-count.ensures in
     let fits = c.requires.fits.entries_fit in

@@ -1,4 +1,3 @@
-use borrow.Author.Tests.{not-true, not-false}
 use Rattle.basis.proofs.Tests.{and_false}
 use borrow.Author.Rules.{rules}
 use Rattle.explain.proofs.gates.quirks_code.Goals as goal
@@ -6,12 +5,12 @@ use Rattle.explain.proofs.gates.quirks_code.Goals as goal
 pub returns-then-not-is_empty : goal.returns-then-not-is_empty
 returns-then-not-is_empty c =
     let added = c.is_empty in
-    simp (c.in-Tolerated.is, ← added.ensures, not-true added.result c.if-not-is_empty.true)
+    simp (c.in-Tolerated.is, ← added.ensures, c.if-not-is_empty.true)
 
 pub returns-then-not-is_empty-2 : goal.returns-then-not-is_empty-2
 returns-then-not-is_empty-2 c =
     let missing = c.is_empty-in-Tolerated in
-    simp (c.in-Tolerated.is, ← missing.ensures, not-true missing.result c.if-not-is_empty-2.true, and_false)
+    simp (c.in-Tolerated.is, ← missing.ensures, c.if-not-is_empty-2.true, and_false)
 
 pub returns-else-not-is_empty-2 : goal.returns-else-not-is_empty-2
 returns-else-not-is_empty-2 c =
@@ -20,7 +19,7 @@ returns-else-not-is_empty-2 c =
     simp (
       c.in-Tolerated.is,
       ← added.ensures,
-      not-false added.result c.if-not-is_empty.false,
+      c.if-not-is_empty.false,
       ← missing.ensures,
-      not-false missing.result c.if-not-is_empty-2.false,
+      c.if-not-is_empty-2.false,
     )

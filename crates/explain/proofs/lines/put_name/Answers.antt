@@ -36,4 +36,4 @@ unfolding name_at
 returns-in-7 c = rw c.in-7.is c.put_word-in-7.ensures
 
 pub returns-in_default : goal.returns-in_default
-returns-in_default c = rw (last_name _ c.in_default.rest) c.put_word-in_default.ensures
+returns-in_default c = rw (last_name c.args.k (search rules)) c.put_word-in_default.ensures

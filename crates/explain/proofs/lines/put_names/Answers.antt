@@ -28,5 +28,5 @@ returns c =
     let l = c.loop-k in
     let a = c.args in
     l.invariant.2 _ _
-    (subst (λ (s : List ℕ). Put l.line l.next s closed.result closed.new.0)
+    (subst (λ (s : List ℕ). Put l.line l.next s closed.result closed.new.line)
     (names_end a.row.now l.k a.code l.any c.loop-k-test.false) closed.ensures)
