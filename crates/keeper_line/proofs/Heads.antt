@@ -180,8 +180,8 @@ module _
                 (mark_field.reads (drop (counted + 1) s)).within,
               )
 
-          pub head_read : kept_behind m.at m.form number.number (read_line (drop m.at s)) ≡ read_kept s
-          head_read = sym (kept_from ∙ rw (sym mark_good ∙ e, mark_form, number_says))
+          pub head_read_lem : kept_behind m.at m.form number.number (read_line (drop m.at s)) ≡ read_kept s
+          head_read_lem = sym (kept_from ∙ rw (sym mark_good ∙ e, mark_form, number_says))
 
           -- What was read of the rest of the line, which is lent as a part.
           module _ (r : SignatureRead) (r-is : r ≡ read_line (take (length s - m.at) (drop m.at s))) where
@@ -191,7 +191,7 @@ module _
 
             kept_is : kept_by r.answer m.at m.form number.number (meaning_read r) ≡ read_kept s
             unfolding kept_behind
-            kept_is = ap (kept_behind m.at m.form number.number) rest_is ∙ head_read
+            kept_is = ap (kept_behind m.at m.form number.number) rest_is ∙ head_read_lem
 
             pub kept_read
                 : r.answer ≡ answer.Read → (raw : List ℕ) → raw ≡ kind_and_label m.form number.number r.raw

@@ -1,10 +1,6 @@
 -- `keeper_line::feed_from` meets its contract.
-use mathlib.Core.Path.{◌≡◌, refl, ◌∙◌}
-use Prim.Native.Nat.{◌-◌}
-use lib.ListN.{length}
-use Rattle.keeper_line.specs.Places.{feed_at}
+use mathlib.Core.Path.{refl, ◌∙◌}
 use Rattle.keeper_line.proofs.LineEnds.{feed_here, feed_turn, feed_past}
-use borrow.Author.Rules.{rules}
 use Rattle.keeper_line.proofs.feed_from.Goals as goal
 
 pub loop-i-init : goal.loop-i-init

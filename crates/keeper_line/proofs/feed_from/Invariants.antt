@@ -1,10 +1,8 @@
 -- `keeper_line::feed_from` meets its contract.
-use mathlib.Core.Path.{◌≡◌, refl, ◌∙◌}
+use mathlib.Core.Path.{◌≡◌}
 use Prim.Native.Nat.{◌-◌}
 use lib.ListN.{length}
 use Rattle.keeper_line.specs.Places.{feed_at}
-use Rattle.keeper_line.proofs.LineEnds.{feed_here, feed_turn, feed_past}
-use borrow.Author.Rules.{rules}
 use Rattle.keeper_line.proofs.feed_from.Given as goal
 
 abbrev pub invariant-loop-i : goal.invariant-loop-i

@@ -14,7 +14,7 @@ returns-then-not-place c =
     let p = c.behind-place in
     let n = c.read_numeral-label in
     c.refused_at.ensures
-    ∙ no_head _ n.result n.ensures p.result p.ensures (c.if-not-place.true)
+    ∙ no_head _ n.result n.ensures p.result p.ensures (not-true p.result.good c.if-not-place.true)
 
 pub returns-then-not-mark : goal.returns-then-not-mark
 returns-then-not-mark c =
@@ -22,16 +22,16 @@ returns-then-not-mark c =
     let p = c.behind-place in
     let n = c.read_numeral-label in
     c.refused_at-then-not-mark.ensures
-    ∙ no_mark _ n.result n.ensures p.result p.ensures (c.if-not-place.false) m.result
-    m.ensures (c.if-not-mark.true)
+    ∙ no_mark _ n.result n.ensures p.result p.ensures (not-false p.result.good c.if-not-place.false) m.result
+    m.ensures (not-true m.result.good c.if-not-mark.true)
 
 pub slice_bounds-parse_tcp_signature-count : goal.slice_bounds-parse_tcp_signature-count
 slice_bounds-parse_tcp_signature-count c =
     let m = c.read_mark-mark in
     let p = c.behind-place in
     let n = c.read_numeral-label in
-    let g = c.if-not-place.false in
-    let k = c.if-not-mark.false in
+    let g = not-false p.result.good c.if-not-place.false in
+    let k = not-false m.result.good c.if-not-mark.false in
     starts_within _ n.result n.ensures p.result p.ensures g m.result m.ensures k
 
 pub slice_bounds-parse_tcp_signature-start : goal.slice_bounds-parse_tcp_signature-start
@@ -39,8 +39,8 @@ slice_bounds-parse_tcp_signature-start c =
     let m = c.read_mark-mark in
     let p = c.behind-place in
     let n = c.read_numeral-label in
-    let g = c.if-not-place.false in
-    let k = c.if-not-mark.false in
+    let g = not-false p.result.good c.if-not-place.false in
+    let k = not-false m.result.good c.if-not-mark.false in
     starts_within _ n.result n.ensures p.result p.ensures g m.result m.ensures k
 
 pub overflow_add-start : goal.overflow_add-start
@@ -48,8 +48,8 @@ overflow_add-start c =
     let m = c.read_mark-mark in
     let p = c.behind-place in
     let n = c.read_numeral-label in
-    let g = c.if-not-place.false in
-    let k = c.if-not-mark.false in
+    let g = not-false p.result.good c.if-not-place.false in
+    let k = not-false m.result.good c.if-not-mark.false in
     let r = c.parse_tcp_signature-read in
     let a = c.args in
     let offset = c.in-Refused.offset in
@@ -64,19 +64,20 @@ with_label-requires c =
     let m = c.read_mark-mark in
     let p = c.behind-place in
     let n = c.read_numeral-label in
-    let g = c.if-not-place.false in
-    let k = c.if-not-mark.false in (
-      mark_fits _ n.result n.ensures p.result p.ensures g m.result m.ensures k,
-      label_fits _ n.result n.ensures p.result p.ensures g,
-    )
+    let g = not-false p.result.good c.if-not-place.false in
+    let k = not-false m.result.good c.if-not-mark.false in
+    record {
+      kind_bound = mark_fits _ n.result n.ensures p.result p.ensures g m.result m.ensures k;
+      label_bound = label_fits _ n.result n.ensures p.result p.ensures g;
+    }
 
 pub returns-in-Refused : goal.returns-in-Refused
 returns-in-Refused c =
     let m = c.read_mark-mark in
     let p = c.behind-place in
     let n = c.read_numeral-label in
-    let g = c.if-not-place.false in
-    let k = c.if-not-mark.false in
+    let g = not-false p.result.good c.if-not-place.false in
+    let k = not-false m.result.good c.if-not-mark.false in
     let r = c.parse_tcp_signature-read in
     c.refused_at-in-Refused.ensures
     ∙ kept_refused _ n.result n.ensures p.result p.ensures g m.result m.ensures k
@@ -87,8 +88,8 @@ returns-in-Read c =
     let m = c.read_mark-mark in
     let p = c.behind-place in
     let n = c.read_numeral-label in
-    let g = c.if-not-place.false in
-    let k = c.if-not-mark.false in
+    let g = not-false p.result.good c.if-not-place.false in
+    let k = not-false m.result.good c.if-not-mark.false in
     let r = c.parse_tcp_signature-read in
     kept_read _ n.result n.ensures p.result p.ensures g m.result m.ensures k
     r.result r.ensures c.in-Read.is c.with_label.result c.with_label.ensures

@@ -1,7 +1,6 @@
 -- `keeper_line::text_end` meets its contract.
 use native.Mathlib.Omega.{arith}
 use Rattle.keeper_line.proofs.LineEnds.{end_unfed, end_empty, end_kept, end_dropped}
-use borrow.Author.Rules.{rules}
 use Rattle.keeper_line.proofs.text_end.Goals as goal
 
 pub returns-then-file-feed : goal.returns-then-file-feed
