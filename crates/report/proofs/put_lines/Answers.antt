@@ -46,12 +46,12 @@ loop-left-preserved c =
     let line = answer_at a.mode b l.at in
     let room : 19 ≤ page_size - l.filled = omega (arith, c.if-filled-lt-LINE.false) in
     let whole : length l.page ≡ page_size = search rules in
-    let done : PutAll l.page l.filled (line_of line) put.result put.new.0 =
+    let done : PutAll l.page l.filled (line_of line) put.result put.new.page =
     put_all _ _ _ _ _ (omega (arith, line_length line)) (rw (sym found.answer) put.ensures) in
     let next : l.filled + length (line_of line) ≤ page_size = omega (arith, line_length line) in (
       rw done.0 next,
       λ r p h. l.invariant.1 r p
-          (one_line a.mode b l.page l.filled l.at l.left c.loop-left-test.true room found.lies whole put.new.0 p
+          (one_line a.mode b l.page l.filled l.at l.left c.loop-left-test.true room found.lies whole put.new.page p
           put.result r done (rw (sym found.ends) h)),
     )
 
