@@ -1,7 +1,6 @@
 use Rattle.bundle.proofs.Packets.{list_within, good_fits}
 use mathlib.Core.Path.{sym, ◌∙◌}
 use Rattle.report.specs.Pages.{first_page_in}
-use borrow.Author.Rules.{rules}
 use Rattle.report.proofs.first_page_in.Goals as goal
 
 pub returns-then-longer : goal.returns-then-longer

@@ -1,5 +1,4 @@
 use Rattle.report.proofs.Turns.{paged}
-use borrow.Author.Rules.{rules}
 use Rattle.report.proofs.next_page_in.Goals as goal
 
 pub returns : goal.returns

@@ -1,18 +1,7 @@
-use Rattle.report.proofs.Turns.{filled_full, no_room, no_packet, one_line, no_more}
-use Rattle.report.proofs.Writing.{line_length}
-use Rattle.text.specs.Written.{PutAll}
-use Rattle.text.proofs.Writing.{put_all}
 use Rattle.report.specs.Pages.{Filled, page_size, page_from}
-use Rattle.report.specs.Text.{line_of}
 use Rattle.report.specs.declared.Progress.{Progress}
-use Rattle.bundle.proofs.Packets.{packet_there, none_there}
-use Rattle.bundle.specs.Answers.{answer_at}
-use lib.ListN.{length}
-use native.Mathlib.Omega.{arith}
-use Prim.Native.Nat.{ℕ, ◌+◌, ◌-◌, ◌≤◌}
+use Prim.Native.Nat.{ℕ, ◌≤◌}
 use mathlib.Core.List.{List}
-use mathlib.Core.Path.{◌≡◌, sym, ◌∙◌}
-use borrow.Author.Rules.{rules}
 use Rattle.report.proofs.put_lines.Given as goal
 
 abbrev pub invariant-loop-left : goal.invariant-loop-left

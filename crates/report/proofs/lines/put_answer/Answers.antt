@@ -1,7 +1,6 @@
 use mathlib.Core.Path.{sym}
 use Rattle.text.proofs.Writing.{both}
 use Rattle.report.specs.Text.{answer_text}
-use borrow.Author.Rules.{rules}
 use Rattle.report.proofs.lines.put_answer.Goals as goal
 
 pub returns-in-Syn : goal.returns-in-Syn

@@ -1,5 +1,4 @@
 use Rattle.report.specs.Text.{found_text}
-use borrow.Author.Rules.{rules}
 use Rattle.report.proofs.lines.put_found.Goals as goal
 
 pub returns-in-None : goal.returns-in-None

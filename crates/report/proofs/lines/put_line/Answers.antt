@@ -1,6 +1,5 @@
 use Rattle.text.proofs.Writing.{both}
 use Rattle.report.specs.Text.{line_of}
-use borrow.Author.Rules.{rules}
 use Rattle.report.proofs.lines.put_line.Goals as goal
 
 pub returns : goal.returns

@@ -1,5 +1,4 @@
 use Rattle.text.proofs.Writing.{both}
-use borrow.Author.Rules.{rules}
 use Rattle.report.proofs.lines.put_numbered.Goals as goal
 
 pub returns : goal.returns
