@@ -1,5 +1,4 @@
 -- `list_compiler::check_line` meets its contract.
-use borrow.Author.Rules.{rules}
 use Rattle.list_compiler.proofs.check_line.Goals as goal
 
 pub returns-then-line : goal.returns-then-line

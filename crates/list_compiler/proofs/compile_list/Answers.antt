@@ -1,7 +1,6 @@
 -- `list_compiler::compile_list` meets its contract.
 use mathlib.Core.Path.{sym, ◌∙◌}
 use Rattle.list_compiler.proofs.Compiled.{bad_line, too_many, its_list}
-use borrow.Author.Rules.{rules}
 use Rattle.list_compiler.proofs.compile_list.Goals as goal
 
 pub write_list-requires : goal.write_list-requires

@@ -1,11 +1,7 @@
 -- `list_compiler::first_bad` meets its contract.
-use mathlib.Core.Path.{◌≡◌, sym, ◌∙◌}
-use Prim.Native.Nat.{◌+◌, ◌-◌, ◌≤◌}
+use mathlib.Core.Path.{sym, ◌∙◌}
 use native.Mathlib.Omega.{arith}
-use lib.ListN.{length}
-use Rattle.keeper_file.specs.Compiling.{first_bad}
-use Rattle.keeper_line.proofs.Turns.{lines_from, goes_further, stays_within}
-use Rattle.list_compiler.specs.FileParts.{file_check}
+use Rattle.keeper_line.proofs.Turns.{goes_further, stays_within}
 use Rattle.list_compiler.proofs.Counting.{found_bad, still_good, all_good, from_start}
 use borrow.Author.Rules.{rules}
 use Rattle.list_compiler.proofs.first_bad.Goals as goal

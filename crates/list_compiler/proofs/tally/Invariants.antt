@@ -1,14 +1,10 @@
 -- `list_compiler::tally` meets its contract.
-use mathlib.Core.Path.{◌≡◌, ◌∙◌}
+use mathlib.Core.Path.{◌≡◌}
 use Prim.Native.Nat.{◌+◌, ◌-◌, ◌≤◌}
-use native.Mathlib.Omega.{arith}
 use lib.ListN.{length}
 use Rattle.keeper_file.specs.Compiling.{most_signatures, most_entries, tallied_from}
-use Rattle.keeper_line.proofs.Shapes.{line_shaped}
-use Rattle.keeper_line.proofs.Turns.{lines_from, goes_further, stays_within}
+use Rattle.keeper_line.proofs.Turns.{lines_from}
 use Rattle.list_compiler.specs.FileParts.{file_tally}
-use Rattle.list_compiler.proofs.Counting.{too_many_signatures, too_many_entries, counts_on, all_counted, tally_start, one_small}
-use borrow.Author.Rules.{rules}
 use Rattle.list_compiler.proofs.tally.Given as goal
 
 abbrev pub invariant-loop-at : goal.invariant-loop-at

@@ -1,7 +1,6 @@
 -- `list_compiler::write_list` meets its contract.
 use native.Mathlib.Omega.{arith}
 use Rattle.list_compiler.proofs.Compiled.{few_signatures, few_entries, few_in_all, no_room, whole_list}
-use borrow.Author.Rules.{rules}
 use Rattle.list_compiler.proofs.write_list.Goals as goal
 
 pub overflow_mul-size : goal.overflow_mul-size
@@ -43,10 +42,11 @@ returns-then-buffer-size c =
 
 pub put_header-at_entries-requires : goal.put_header-at_entries-requires
 put_header-at_entries-requires c =
-    let a = c.args in (
-      few_signatures a.file.now a.signatures a.entries c.requires,
-      few_entries a.file.now a.signatures a.entries c.requires,
-    )
+    let a = c.args in
+    record {
+      signatures_le_most_signatures = few_signatures a.file.now a.signatures a.entries c.requires;
+      entries_le_most_entries = few_entries a.file.now a.signatures a.entries c.requires;
+    }
 
 pub put_records-requires : goal.put_records-requires
 put_records-requires c =

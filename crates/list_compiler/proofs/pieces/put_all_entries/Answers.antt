@@ -1,16 +1,13 @@
 -- `list_compiler::pieces::put_all_entries` meets its contract.
-use mathlib.Core.Path.{◌≡◌, subst}
+use mathlib.Core.Path.{subst}
 use mathlib.Core.List.{List}
-use Prim.Native.Nat.{ℕ, ◌+◌, ◌-◌, ◌≤◌}
 use native.Mathlib.Omega.{arith}
-use lib.ListN.{length}
 use Rattle.text.specs.Written.{Put}
 use Rattle.signature_line.specs.Meaning.{LineMeaning}
 use Rattle.keeper_file.specs.ListText.{entries_text}
 use Rattle.keeper_line.proofs.Shapes.{line_shaped}
 use Rattle.keeper_line.proofs.Turns.{goes_further, stays_within}
-use Rattle.list_compiler.specs.FileParts.{file_entries}
-use Rattle.list_compiler.proofs.Meanings.{meanings_from, from_start, entries_put, no_entries}
+use Rattle.list_compiler.proofs.Meanings.{from_start, entries_put, no_entries}
 use borrow.Author.Rules.{rules}
 use Rattle.list_compiler.proofs.pieces.put_all_entries.Goals as goal
 
@@ -42,7 +39,7 @@ loop-at-preserved c =
       search rules,
       λ n b h. l.invariant.2 n b
           (entries_put _ l.at c.loop-at-test.true line.result line.ensures
-          l.buffer put.new.0 b l.next put.result n put.ensures h),
+          l.buffer put.new.buffer b l.next put.result n put.ensures h),
     )
 
 pub returns : goal.returns

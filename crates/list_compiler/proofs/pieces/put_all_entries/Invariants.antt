@@ -1,17 +1,12 @@
 -- `list_compiler::pieces::put_all_entries` meets its contract.
-use mathlib.Core.Path.{◌≡◌, subst}
+use mathlib.Core.Path.{◌≡◌}
 use mathlib.Core.List.{List}
 use Prim.Native.Nat.{ℕ, ◌+◌, ◌-◌, ◌≤◌}
-use native.Mathlib.Omega.{arith}
 use lib.ListN.{length}
 use Rattle.text.specs.Written.{Put}
-use Rattle.signature_line.specs.Meaning.{LineMeaning}
 use Rattle.keeper_file.specs.ListText.{entries_text}
-use Rattle.keeper_line.proofs.Shapes.{line_shaped}
-use Rattle.keeper_line.proofs.Turns.{goes_further, stays_within}
 use Rattle.list_compiler.specs.FileParts.{file_entries}
-use Rattle.list_compiler.proofs.Meanings.{meanings_from, from_start, entries_put, no_entries}
-use borrow.Author.Rules.{rules}
+use Rattle.list_compiler.proofs.Meanings.{meanings_from}
 use Rattle.list_compiler.proofs.pieces.put_all_entries.Given as goal
 
 abbrev pub invariant-loop-at : goal.invariant-loop-at

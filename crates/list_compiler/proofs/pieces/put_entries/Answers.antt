@@ -1,12 +1,12 @@
 -- `list_compiler::pieces::put_entries` meets its contract.
 use mathlib.Core.Path.{◌≡◌, subst}
 use mathlib.Core.List.{List}
-use Prim.Native.Nat.{ℕ, ◌-◌, ◌≤◌}
+use Prim.Native.Nat.{ℕ}
 use native.Mathlib.Omega.{arith}
-use lib.ListN.{length, take}
+use lib.ListN.{length}
 use Rattle.text.specs.Written.{Put}
-use Rattle.signature_line.specs.OneRecord.{alternating, entries_in}
-use Rattle.list_compiler.proofs.Lists.{entries_from, all_entries, no_entry, one_entry}
+use Rattle.signature_line.specs.OneRecord.{entries_in}
+use Rattle.list_compiler.proofs.Lists.{all_entries, no_entry, one_entry}
 use borrow.Author.Rules.{rules}
 use Rattle.list_compiler.proofs.pieces.put_entries.Goals as goal
 
@@ -30,7 +30,7 @@ loop-i-preserved c =
       search rules,
       search rules,
       λ n b h. l.invariant.2 n b
-          (one_entry a.layout.kinds a.layout.bytes a.layout.count l.i l.buffer kind.new.0 byte.new.0 b
+          (one_entry a.layout.kinds a.layout.bytes a.layout.count l.i l.buffer kind.new.buffer byte.new.buffer b
           l.next kind.result byte.result n c.loop-i-test.true (omega (arith, kinds)) (omega (arith, bytes))
           kind.ensures byte.ensures h),
     )

@@ -1,13 +1,11 @@
 -- `list_compiler::pieces::put_entries` meets its contract.
-use mathlib.Core.Path.{◌≡◌, subst}
+use mathlib.Core.Path.{◌≡◌}
 use mathlib.Core.List.{List}
 use Prim.Native.Nat.{ℕ, ◌-◌, ◌≤◌}
-use native.Mathlib.Omega.{arith}
 use lib.ListN.{length, take}
 use Rattle.text.specs.Written.{Put}
-use Rattle.signature_line.specs.OneRecord.{alternating, entries_in}
-use Rattle.list_compiler.proofs.Lists.{entries_from, all_entries, no_entry, one_entry}
-use borrow.Author.Rules.{rules}
+use Rattle.signature_line.specs.OneRecord.{alternating}
+use Rattle.list_compiler.proofs.Lists.{entries_from}
 use Rattle.list_compiler.proofs.pieces.put_entries.Given as goal
 
 abbrev pub invariant-loop-i : goal.invariant-loop-i

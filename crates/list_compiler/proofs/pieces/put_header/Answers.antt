@@ -1,6 +1,5 @@
 -- `list_compiler::pieces::put_header` meets its contract.
 use Rattle.keeper_file.specs.ListText.{header_text}
-use borrow.Author.Rules.{rules}
 use Rattle.list_compiler.proofs.pieces.put_header.Goals as goal
 
 pub returns : goal.returns

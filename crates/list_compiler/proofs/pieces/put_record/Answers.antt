@@ -1,7 +1,6 @@
 -- `list_compiler::pieces::put_record` meets its contract.
 use Rattle.keeper_file.specs.ListText.{placed_at}
 use Rattle.text.proofs.Writing.{put_none}
-use borrow.Author.Rules.{rules}
 use Rattle.list_compiler.proofs.pieces.put_record.Goals as goal
 
 pub returns-then-line : goal.returns-then-line

@@ -1,16 +1,12 @@
 -- `list_compiler::pieces::put_records` meets its contract.
-use mathlib.Core.Path.{◌≡◌, subst}
+use mathlib.Core.Path.{subst}
 use mathlib.Core.List.{List}
-use Prim.Native.Nat.{ℕ, ◌+◌, ◌-◌, ◌≤◌}
 use native.Mathlib.Omega.{arith}
-use lib.ListN.{length}
 use Rattle.text.specs.Written.{Put}
 use Rattle.signature_line.specs.Meaning.{LineMeaning}
-use Rattle.keeper_file.specs.Compiling.{most_entries}
-use Rattle.keeper_file.specs.ListText.{entry_total, records_text}
+use Rattle.keeper_file.specs.ListText.{records_text}
 use Rattle.keeper_line.proofs.Turns.{goes_further, stays_within}
-use Rattle.list_compiler.specs.FileParts.{file_records}
-use Rattle.list_compiler.proofs.Meanings.{meanings_from, from_start, total_turn, records_put, no_records}
+use Rattle.list_compiler.proofs.Meanings.{from_start, total_turn, records_put, no_records}
 use borrow.Author.Rules.{rules}
 use Rattle.list_compiler.proofs.pieces.put_records.Goals as goal
 
@@ -48,7 +44,7 @@ loop-at-preserved c =
       omega (arith, l.invariant.2, total_turn _ l.at c.loop-at-test.true line.result line.ensures),
       λ n b h. l.invariant.3 n b
           (records_put _ l.at c.loop-at-test.true line.result line.ensures
-          l.buffer put.new.0 b l.next put.result n l.first put.ensures h),
+          l.buffer put.new.buffer b l.next put.result n l.first put.ensures h),
     )
 
 pub returns : goal.returns

@@ -1,17 +1,13 @@
 -- `list_compiler::pieces::put_records` meets its contract.
-use mathlib.Core.Path.{◌≡◌, subst}
+use mathlib.Core.Path.{◌≡◌}
 use mathlib.Core.List.{List}
 use Prim.Native.Nat.{ℕ, ◌+◌, ◌-◌, ◌≤◌}
-use native.Mathlib.Omega.{arith}
 use lib.ListN.{length}
 use Rattle.text.specs.Written.{Put}
-use Rattle.signature_line.specs.Meaning.{LineMeaning}
 use Rattle.keeper_file.specs.Compiling.{most_entries}
 use Rattle.keeper_file.specs.ListText.{entry_total, records_text}
-use Rattle.keeper_line.proofs.Turns.{goes_further, stays_within}
 use Rattle.list_compiler.specs.FileParts.{file_records}
-use Rattle.list_compiler.proofs.Meanings.{meanings_from, from_start, total_turn, records_put, no_records}
-use borrow.Author.Rules.{rules}
+use Rattle.list_compiler.proofs.Meanings.{meanings_from}
 use Rattle.list_compiler.proofs.pieces.put_records.Given as goal
 
 abbrev pub invariant-loop-at : goal.invariant-loop-at
