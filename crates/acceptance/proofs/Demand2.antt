@@ -129,8 +129,9 @@ unfolding search_list check_list list_fits empty_observation empty_layout be16
 nothing_fits = refl
 
 shut_out : ShutOut
-unfolding empty_observation walk_of walk_from options_after asked runs_past put_entry entry_byte see_option later_mss later_scale later_quirks
-    trailing_nonzero excessive_scaling own_timestamp_zero peer_timestamp_nonzero any_nonzero add_if with bit_of place_of empty from_quirks be16 be32
+unfolding empty_observation walk_of walk_from options_after asked runs_past put_entry entry_byte see_option later_mss later_scale
+    later_quirks trailing_nonzero excessive_scaling own_timestamp_zero peer_timestamp_nonzero any_nonzero add_if with bit_of place_of
+    empty from_quirks be16 be32
 shut_out =
     record {
       refuses_all = λ h.

@@ -17,7 +17,8 @@ use Rattle.packet_answer.specs.declared.PacketAnswer.{PacketAnswer}
 use Rattle.packet_answer.specs.Packet.{peer_of, answer_of, answer_in, after_reading}
 use Rattle.bundle.specs.declared.BundleCheck.{BundleCheck}
 use Rattle.bundle.specs.declared.BundleCheck.TheVariants as check
-use Rattle.bundle.specs.Bundle.{packet_count, packets_offset, list_of, packet_bytes, packet_peer, packet_end, packet_fits, packets_fit, list_lies}
+use Rattle.bundle.specs.Bundle.{packet_count, packets_offset, list_of, packet_bytes, packet_peer, packet_end, packet_fits, packets_fit}
+use Rattle.bundle.specs.Bundle.{list_lies}
 use Rattle.bundle.specs.Bundle.{bundle_fits, check_bundle}
 use Rattle.bundle.specs.Answers.{answer_at, packet_lies, answers_from, bundle_answer}
 use Rattle.report.specs.Text.{line_of}

@@ -20,7 +20,8 @@ use Rattle.basis.specs.Bytes.{be16, be32, any_nonzero}
 use Rattle.basis.specs.Digits.{digit}
 use Rattle.basis.specs.Tests.{all_below}
 use Rattle.quirks.specs.Quirks.{place_of, bit_of, holds, contains, is_empty, with, add_if, difference}
-use Rattle.quirks.specs.Named.{from_quirks, display_order, empty, fuzzy_deletable, fuzzy_addable, mask_when_obs_v4, mask_when_obs_v6, seventeen}
+use Rattle.quirks.specs.Named.{from_quirks, display_order, empty, fuzzy_deletable, fuzzy_addable, mask_when_obs_v4, mask_when_obs_v6}
+use Rattle.quirks.specs.Named.{seventeen}
 use Rattle.ttl.specs.Ttl.{initial_of, guess_of, reading_of}
 use Rattle.window_size.specs.Divisors.{twelve, divides}
 use Rattle.window_size.specs.Multiplier.{first_multiple, multiplier_of}
@@ -96,15 +97,16 @@ module _ (l : List ℕ) (all : AllSpecific l) where
       }
 
 kind_values : KindValues
-unfolding read_packet read_ip read_ipv4 ipv4_facts ipv4_quirks ipv4_option_length reading_of guess_of initial_of read_tcp flags_invalid masked_type
-    is_syn_type observation_from observation_of quirks_of_headers header_quirks payload_class walk_of walk_from options_after asked runs_past put_entry
-    entry_byte see_option later_mss later_scale later_quirks trailing_nonzero excessive_scaling own_timestamp_zero peer_timestamp_nonzero any_nonzero
-    add_if with bit_of place_of empty from_quirks be16 be32 check_list list_fits records_from record_good layout_lies scalars_good version_good ttl_good
-    presence_good window_good payload_good quirks_good entry_good entries_good all_below is_empty difference seventeen display_order search_list
-    searched search_all search_over search_row found_at first_least least_from prefer numbers_from rank_at candidate_at found_of fit_at features_of
-    window_multiplier own_timestamp_nonzero holds_kind contains holds digit multiplier_of first_multiple twelve divides signature_of version_of
-    ttl_of mss_of scale_of window_of payload_of fit_of scalar_gates version_matches olen_matches mss_matches window_matches scale_matches payload_matches
-    layout_matches entries_match tolerance_of ttl_fit quirks_fit masked_quirks mask_when_obs_v4 mask_when_obs_v6 fuzzy_deletable fuzzy_addable judge
+unfolding read_packet read_ip read_ipv4 ipv4_facts ipv4_quirks ipv4_option_length reading_of guess_of initial_of read_tcp flags_invalid
+    masked_type is_syn_type observation_from observation_of quirks_of_headers header_quirks payload_class walk_of walk_from options_after
+    asked runs_past put_entry entry_byte see_option later_mss later_scale later_quirks trailing_nonzero excessive_scaling
+    own_timestamp_zero peer_timestamp_nonzero any_nonzero add_if with bit_of place_of empty from_quirks be16 be32 check_list list_fits
+    records_from record_good layout_lies scalars_good version_good ttl_good presence_good window_good payload_good quirks_good entry_good
+    entries_good all_below is_empty difference seventeen display_order search_list searched search_all search_over search_row found_at
+    first_least least_from prefer numbers_from rank_at candidate_at found_of fit_at features_of window_multiplier own_timestamp_nonzero
+    holds_kind contains holds digit multiplier_of first_multiple twelve divides signature_of version_of ttl_of mss_of scale_of window_of
+    payload_of fit_of scalar_gates version_matches olen_matches mss_matches window_matches scale_matches payload_matches layout_matches
+    entries_match tolerance_of ttl_fit quirks_fit masked_quirks mask_when_obs_v4 mask_when_obs_v6 fuzzy_deletable fuzzy_addable judge
     judge_in_range
 kind_values =
     record {

@@ -28,7 +28,8 @@ use Rattle.gateway.proofs.Room.{FoundFits, PacketFits}
 use Rattle.gateway.proofs.Fits.{packet_fits_lem}
 use Rattle.text.specs.Decimal.{width, decimal, newline}
 use Rattle.text.proofs.Decimal.{digits_read, read_back}
-use Rattle.report.specs.Text.{refused_word, nothing_word, syn_word, synack_word, none_word, exact_word, fuzzy_word, found_text, answer_text, line_of}
+use Rattle.report.specs.Text.{refused_word, nothing_word, syn_word, synack_word, none_word, exact_word, fuzzy_word, found_text}
+use Rattle.report.specs.Text.{answer_text, line_of}
 use Rattle.report.specs.Text.{head_line, refused_line}
 use Rattle.acceptance.specs.Lines.{PrintedFound, Printed, printed_found, printed, TwoBytes, LabelFits, Words, Lines}
 
@@ -59,7 +60,8 @@ unfolding line_of answer_text read_line
 read_line_lem (packet.Syn s) h = ap Printed.syn (read_found s.found h)
 read_line_lem (packet.SynAck s) h = ap Printed.synack (read_found s.found h)
 read_line_lem packet.Nothing h = refl
-read_line_lem (packet.Refused r) h = ap Printed.refused (read_decimal (packet_number r) (let few = (numbered (table.Packet r)).1 in omega arith))
+read_line_lem (packet.Refused r) h = ap Printed.refused (read_decimal (packet_number r) (let few = (numbered
+    (table.Packet r)).1 in omega arith))
 
 -- ---- the line of what is printed
 

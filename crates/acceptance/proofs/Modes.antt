@@ -95,7 +95,8 @@ module _ (p : List ℕ) (peer : Mss) (l : List ℕ) where
   answer_else other = ap (λ (r : Reading). after_reading r l) (reader_else p peer other)
 
 -- The packets of a bundle from the i-th on.
-module _ (b : List ℕ) (none : (i : ℕ) → i < packet_count b → NothingWrong (packet_bytes b (start_of b i)) (packet_peer b (start_of b i))) where
+module _ (b : List ℕ) (none : (i : ℕ) → i < packet_count b → NothingWrong (packet_bytes b (start_of b i)) (packet_peer b
+    (start_of b i))) where
   answers_else
       : (n i : ℕ) → i + n ≤ packet_count b → answers_from strict_mode b (start_of b i) n ≡ answers_from plain_mode b (start_of b i) n
   unfolding answers_from answer_at start_of

@@ -59,9 +59,9 @@ record Values : Type 0 where
   most : (parse_options_raw the_most_mss).options.mss ≡ mss.Present 65535
 
 values : Values
-unfolding walk_options walk_to walk_up_to walk_of walk_from put_entry entry_byte see_option later_mss later_scale later_quirks trailing_nonzero
-    excessive_scaling own_timestamp_zero peer_timestamp_nonzero add_if options_after asked runs_past short_length stops_before first_from came_to
-    parse_options_raw empty from_quirks be16
+unfolding walk_options walk_to walk_up_to walk_of walk_from put_entry entry_byte see_option later_mss later_scale later_quirks
+    trailing_nonzero excessive_scaling own_timestamp_zero peer_timestamp_nonzero add_if options_after asked runs_past short_length
+    stops_before first_from came_to parse_options_raw empty from_quirks be16
 values = record { same_walk = refl; ethernet = refl; most = refl }
 
 -- The option-string reader by the place of the first option past the end.

@@ -88,6 +88,7 @@ pub packet_gives : (mode : Mode) (p : List ℕ) (peer : Mss) → 0 < refusal_of 
 unfolding read_in
 packet_gives mode p peer h = when_refused p mode peer (after_gives p mode peer refl (given p)) refl h
 
-pub packet_answers : (mode : Mode) (p : List ℕ) (peer : Mss) → refusal_of (read_in mode p peer).answer ≡ 0 → Answered p (read_in mode p peer)
+pub packet_answers : (mode : Mode) (p : List ℕ) (peer : Mss) → refusal_of (read_in mode p peer).answer ≡ 0
+    → Answered p (read_in mode p peer)
 unfolding read_in
 packet_answers mode p peer e = when_not p (after_gives p mode peer refl (given p)) e

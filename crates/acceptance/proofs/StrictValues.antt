@@ -19,11 +19,11 @@ use Rattle.flow.specs.Reading.{read_packet, refusal_of}
 use Rattle.acceptance.specs.Modes.{StrictValues, DamageValues}
 
 pub strict_values : StrictValues
-unfolding read_packet read_in read_ip read_ipv4 ipv4_facts ipv4_quirks read_ipv6 ipv6_facts ipv6_quirks read_tcp read_tcp_by read_tcp_strict
-    contradicts_itself flags_invalid masked_type is_syn_type is_syn_ack_type strict_observation observation_from observation_of quirks_of_headers
-    header_quirks walk_options walk_to walk_up_to walk_of walk_from put_entry entry_byte see_option later_mss later_scale later_quirks trailing_nonzero
-    excessive_scaling own_timestamp_zero peer_timestamp_nonzero add_if with bit_of place_of options_after asked runs_past short_length stops_before
-    first_from came_to empty from_quirks be16 be32 any_nonzero refusal_of
+unfolding read_packet read_in read_ip read_ipv4 ipv4_facts ipv4_quirks read_ipv6 ipv6_facts ipv6_quirks read_tcp read_tcp_by
+    read_tcp_strict contradicts_itself flags_invalid masked_type is_syn_type is_syn_ack_type strict_observation observation_from
+    observation_of quirks_of_headers header_quirks walk_options walk_to walk_up_to walk_of walk_from put_entry entry_byte see_option
+    later_mss later_scale later_quirks trailing_nonzero excessive_scaling own_timestamp_zero peer_timestamp_nonzero add_if with bit_of
+    place_of options_after asked runs_past short_length stops_before first_from came_to empty from_quirks be16 be32 any_nonzero refusal_of
 strict_values =
     record {
       offset_4 = refl;
@@ -42,11 +42,11 @@ strict_values =
     }
 
 pub damage_values : DamageValues
-unfolding read_packet read_in read_ip read_ipv4 ipv4_facts ipv4_quirks read_tcp read_tcp_by read_tcp_strict contradicts_itself flags_invalid masked_type
-    is_syn_type is_syn_ack_type strict_observation observation_from observation_of quirks_of_headers header_quirks walk_options walk_to walk_up_to walk_of
-    walk_from put_entry entry_byte see_option later_mss later_scale later_quirks trailing_nonzero excessive_scaling own_timestamp_zero
-    peer_timestamp_nonzero add_if with bit_of place_of options_after asked runs_past short_length stops_before first_from came_to empty from_quirks
-    be16 be32 any_nonzero
+unfolding read_packet read_in read_ip read_ipv4 ipv4_facts ipv4_quirks read_tcp read_tcp_by read_tcp_strict contradicts_itself
+    flags_invalid masked_type is_syn_type is_syn_ack_type strict_observation observation_from observation_of quirks_of_headers
+    header_quirks walk_options walk_to walk_up_to walk_of walk_from put_entry entry_byte see_option later_mss later_scale later_quirks
+    trailing_nonzero excessive_scaling own_timestamp_zero peer_timestamp_nonzero add_if with bit_of place_of options_after asked runs_past
+    short_length stops_before first_from came_to empty from_quirks be16 be32 any_nonzero
 damage_values =
     record {
       length_0 = refl;

@@ -116,6 +116,7 @@ pub record Lines : Type 0 where
   pub no_packets_line : (a : PacketAnswer) (n : ℕ) → line_of a ≡ head_line n → ⊥
   pub no_count : (m n : ℕ) → head_line m ≡ refused_line n → ⊥
   -- The line of a bundle that is refused tells its number, and is no packet's line: 9, 10 and 12 are no packet's refusals.
-  pub bundles : (c d : BundleCheck) → refused_line (bundle_refusal c) ≡ refused_line (bundle_refusal d) → bundle_refusal c ≡ bundle_refusal d
+  pub bundles : (c d : BundleCheck) → refused_line (bundle_refusal c) ≡ refused_line (bundle_refusal d)
+      → bundle_refusal c ≡ bundle_refusal d
   pub packet_or_bundle : (a : PacketAnswer) (c : BundleCheck) → 0 < bundle_refusal c → line_of a ≡ refused_line (bundle_refusal c) → ⊥
   pub words : Words

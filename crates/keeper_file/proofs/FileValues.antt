@@ -49,9 +49,9 @@ file_lines =
     }
 
 lines_kept : LinesKept
-unfolding read_kept head_read kept_behind label mark kind_and_label read_line refused_at fields_read parts_read ttl_read layout_read quirks_read read_as
-    raw_of layout_of kind_said byte_said union_from version bare_byte ttl_form mss window scale unnamed entry quirk_word payload any fits after done
-    run left states_read bit_of place_of
+unfolding read_kept head_read kept_behind label mark kind_and_label read_line refused_at fields_read parts_read ttl_read layout_read
+    quirks_read read_as raw_of layout_of kind_said byte_said union_from version bare_byte ttl_form mss window scale unnamed entry
+    quirk_word payload any fits after done run left states_read bit_of place_of
 lines_kept =
     record {
       specific = refl;
@@ -71,34 +71,35 @@ lines_kept =
 -- ---- compiled
 
 two_compiled : (room : ℕ) → compile_file two_lines room ≡ list_into two_records room
-unfolding compile_file lines_of numbered_from signature_lines first_bad tallied_from meanings list_text header_text entries_text records_text placed_at
-    entry_total entries_in read_kept head_read kept_behind label mark kind_and_label read_line refused_at fields_read parts_read ttl_read layout_read
-    quirks_read read_as raw_of layout_of kind_said byte_said union_from version bare_byte ttl_form mss window scale unnamed entry quirk_word payload
-    any fits after done run left states_read bit_of place_of
+unfolding compile_file lines_of numbered_from signature_lines first_bad tallied_from meanings list_text header_text entries_text
+    records_text placed_at entry_total entries_in read_kept head_read kept_behind label mark kind_and_label read_line refused_at
+    fields_read parts_read ttl_read layout_read quirks_read read_as raw_of layout_of kind_said byte_said union_from version bare_byte
+    ttl_form mss window scale unnamed entry quirk_word payload any fits after done run left states_read bit_of place_of
 two_compiled room = refl
 
 bad_line : (room : ℕ) → compile_file bad_second room ≡ refusing_line 2 (refusal.BadLine 2)
-unfolding compile_file lines_of numbered_from signature_lines first_bad read_kept head_read kept_behind label mark read_line refused_at fields_read
-    parts_read ttl_read layout_read quirks_read version bare_byte ttl_form mss window scale unnamed entry quirk_word payload any fits after done
-    run left states_read bit_of place_of
+unfolding compile_file lines_of numbered_from signature_lines first_bad read_kept head_read kept_behind label mark read_line refused_at
+    fields_read parts_read ttl_read layout_read quirks_read version bare_byte ttl_form mss window scale unnamed entry quirk_word payload
+    any fits after done run left states_read bit_of place_of
 bad_line room = refl
 
 no_lines : compile_file [] 8 ≡ record { answer = compiled.List 8; line = 0 ∷ 0 ∷ 0 ∷ 8 ∷ 0 ∷ 0 ∷ 0 ∷ 8 ∷ [] }
-unfolding compile_file list_into lines_of numbered_from signature_lines first_bad tallied_from meanings list_text header_text entries_text records_text
-    entry_total
+unfolding compile_file list_into lines_of numbered_from signature_lines first_bad tallied_from meanings list_text header_text entries_text
+    records_text entry_total
 no_lines = refl
 
 -- ---- written back
 
 good_list_lem : check_list two_records ≡ list.Good
-unfolding check_list list_fits records_from record_good layout_lies entries_good entry_good all_below scalars_good version_good ttl_good presence_good
-    window_good payload_good quirks_good is_empty difference seventeen from_quirks display_order with bit_of place_of be16 be32
+unfolding check_list list_fits records_from record_good layout_lies entries_good entry_good all_below scalars_good version_good ttl_good
+    presence_good window_good payload_good quirks_good is_empty difference seventeen from_quirks display_order with bit_of place_of be16
+    be32
 good_list_lem = refl
 
 file_back : file_text two_records ≡ two_written
-unfolding file_text file_from kept_text head_text record_text signature_text line_text text_after_olen text_after_scale spelt version bare_byte ttl_form
-    mss window scale unnamed entry quirk_word payload fields_of signature_of version_of ttl_of mss_of scale_of window_of payload_of entries_said
-    entry_said chosen contains holds digit display_order bit_of place_of be16 be32 decimal width
+unfolding file_text file_from kept_text head_text record_text signature_text line_text text_after_olen text_after_scale spelt version
+    bare_byte ttl_form mss window scale unnamed entry quirk_word payload fields_of signature_of version_of ttl_of mss_of scale_of
+    window_of payload_of entries_said entry_said chosen contains holds digit display_order bit_of place_of be16 be32 decimal width
 file_back = refl
 
 written_back : (room : ℕ) → write_file two_records room ≡ line_into two_written room

@@ -36,7 +36,8 @@ pub refused_so : (b : List ℕ) (r : Refusal) → Writes b (λ room. refusing r)
 unfolding refusing
 refused_so b r = (refl, sym (nothing_written b 0))
 
-pub no_room : (b s : List ℕ) (size : ℕ) → size ≡ length s → length b < size → Writes b (line_into s) (wrote.Refused refusal.BufferTooShort) b
+pub no_room : (b s : List ℕ) (size : ℕ) → size ≡ length s → length b < size
+    → Writes b (line_into s) (wrote.Refused refusal.BufferTooShort) b
 unfolding line_into
 no_room b s size e h = rw (lt-ltb (length b) (length s) (omega (arith, e))) (refused_so b refusal.BufferTooShort)
 
@@ -70,7 +71,8 @@ module _ (l : List ℕ) (a : Areas) (i : ℕ) (fits : AreasFit l a) (inside : i 
       -- Whether the list has the line.
       lie_there
           : (t : Bool) → entries_lie a.entries first count ≡ t
-          → list_fits l && ltb i (record_count l) && entries_lie (layout_count l) (first_entry (record_at l i)) (entry_count (record_at l i)) ≡ t
+          → list_fits l && ltb i (record_count l) && entries_lie (layout_count l) (first_entry (record_at l i)) (entry_count
+              (record_at l i)) ≡ t
       lie_there t e =
           rw (
             list_fits_lem l a fits,

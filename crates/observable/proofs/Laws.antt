@@ -35,7 +35,8 @@ no_entry : (kind count : ℕ) → holds_kind kind count [] ≡ false
 unfolding holds_kind
 no_entry kind count = refl
 
-pub turns_end : (kind count : ℕ) (kinds : List ℕ) (i : ℕ) → min count (length kinds) ≤ i → holds_kind kind (count - i) (drop i kinds) ≡ false
+pub turns_end : (kind count : ℕ) (kinds : List ℕ) (i : ℕ) → min count (length kinds) ≤ i
+    → holds_kind kind (count - i) (drop i kinds) ≡ false
 turns_end kind count kinds i h = elim (dec_le count i) [ yes over ↦ by_count over | no under ↦ by_end under ]
   where
     by_count : count ≤ i → holds_kind kind (count - i) (drop i kinds) ≡ false

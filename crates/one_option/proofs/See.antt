@@ -40,28 +40,33 @@ module _ (syn : Bool) (s : Seen) (own : List ℕ) where
       → (kind ≡ 3 → ⊥)
       → (kind ≡ 8 → ⊥)
       → see_option syn s (opt kind own) ≡ s
-  unfolding see_option later_mss later_scale trailing_nonzero excessive_scaling own_timestamp_zero peer_timestamp_nonzero later_quirks add_if
+  unfolding see_option later_mss later_scale trailing_nonzero excessive_scaling own_timestamp_zero peer_timestamp_nonzero later_quirks
+      add_if
   other_kind kind n0 n2 n3 n8 = simp (ne_eqb kind 0 n0, ne_eqb kind 2 n2, ne_eqb kind 3 n3, ne_eqb kind 8 n8)
 
   pub end_of_options
       : see_option syn s (opt 0 own)
       ≡ record { mss = s.mss; wscale = s.wscale; quirks = add_if (any_nonzero own) quirk.TrailinigNonZero s.quirks }
-  unfolding see_option later_mss later_scale trailing_nonzero excessive_scaling own_timestamp_zero peer_timestamp_nonzero later_quirks add_if
+  unfolding see_option later_mss later_scale trailing_nonzero excessive_scaling own_timestamp_zero peer_timestamp_nonzero later_quirks
+      add_if
   end_of_options = refl
 
   pub mss_short : length own ≤ 2 → see_option syn s (opt 2 own) ≡ s
-  unfolding see_option later_mss later_scale trailing_nonzero excessive_scaling own_timestamp_zero peer_timestamp_nonzero later_quirks add_if
+  unfolding see_option later_mss later_scale trailing_nonzero excessive_scaling own_timestamp_zero peer_timestamp_nonzero later_quirks
+      add_if
   mss_short h = simp (data_short own 1 h)
 
   pub mss_enough
       : 2 < length own
       → see_option syn s (opt 2 own)
       ≡ record { mss = mss.Present (byte_at own 1 * 256 + byte_at own 2); wscale = s.wscale; quirks = s.quirks }
-  unfolding see_option later_mss later_scale trailing_nonzero excessive_scaling own_timestamp_zero peer_timestamp_nonzero later_quirks add_if be16
+  unfolding see_option later_mss later_scale trailing_nonzero excessive_scaling own_timestamp_zero peer_timestamp_nonzero later_quirks
+      add_if be16
   mss_enough h = simp (data_enough own 2 h, get_or-drop)
 
   pub scale_short : length own ≤ 1 → see_option syn s (opt 3 own) ≡ s
-  unfolding see_option later_mss later_scale trailing_nonzero excessive_scaling own_timestamp_zero peer_timestamp_nonzero later_quirks add_if
+  unfolding see_option later_mss later_scale trailing_nonzero excessive_scaling own_timestamp_zero peer_timestamp_nonzero later_quirks
+      add_if
   scale_short h = simp (data_short own 0 h)
 
   pub scale_enough
@@ -72,11 +77,13 @@ module _ (syn : Bool) (s : Seen) (own : List ℕ) where
         wscale = wscale.Present (byte_at own 1);
         quirks = add_if (ltb 14 (byte_at own 1)) quirk.ExcessiveWindowScaling s.quirks;
       }
-  unfolding see_option later_mss later_scale trailing_nonzero excessive_scaling own_timestamp_zero peer_timestamp_nonzero later_quirks add_if
+  unfolding see_option later_mss later_scale trailing_nonzero excessive_scaling own_timestamp_zero peer_timestamp_nonzero later_quirks
+      add_if
   scale_enough h = simp (data_enough own 1 h, get_or-drop)
 
   pub stamps_none : length own ≤ 4 → see_option syn s (opt 8 own) ≡ s
-  unfolding see_option later_mss later_scale trailing_nonzero excessive_scaling own_timestamp_zero peer_timestamp_nonzero later_quirks add_if
+  unfolding see_option later_mss later_scale trailing_nonzero excessive_scaling own_timestamp_zero peer_timestamp_nonzero later_quirks
+      add_if
   stamps_none h = simp (data_short own 3 h, data_short own 7 (omega arith))
 
   pub stamps_own
@@ -88,7 +95,8 @@ module _ (syn : Bool) (s : Seen) (own : List ℕ) where
         wscale = s.wscale;
         quirks = add_if (eqb (be32 own 1) 0) quirk.OwnTimestampZero s.quirks;
       }
-  unfolding see_option later_mss later_scale trailing_nonzero excessive_scaling own_timestamp_zero peer_timestamp_nonzero later_quirks add_if be32 be16
+  unfolding see_option later_mss later_scale trailing_nonzero excessive_scaling own_timestamp_zero peer_timestamp_nonzero later_quirks
+      add_if be32 be16
   stamps_own h k = simp (data_enough own 4 h, data_short own 7 k, get_or-drop)
 
   pub stamps_both
@@ -101,7 +109,8 @@ module _ (syn : Bool) (s : Seen) (own : List ℕ) where
             add_if (syn && not (eqb (be32 own 5) 0)) quirk.PeerTimestampNonZero
             (add_if (eqb (be32 own 1) 0) quirk.OwnTimestampZero s.quirks);
       }
-  unfolding see_option later_mss later_scale trailing_nonzero excessive_scaling own_timestamp_zero peer_timestamp_nonzero later_quirks add_if be32 be16
+  unfolding see_option later_mss later_scale trailing_nonzero excessive_scaling own_timestamp_zero peer_timestamp_nonzero later_quirks
+      add_if be32 be16
   stamps_both h = simp (data_enough own 4 (omega arith), data_enough own 8 h, get_or-drop)
 
 -- ---- field by field

@@ -13,7 +13,8 @@ use Rattle.parse_tcp.specs.declared.layout.LayoutPiece.{LayoutPiece}
 use Rattle.parse_tcp.specs.declared.quirk_set.QuirksPiece.{QuirksPiece}
 use Rattle.parse_tcp.specs.declared.LineFields.{LineFields}
 use Rattle.parse_tcp.specs.RowPieces.{layout_at, quirks_at}
-use Rattle.parse_tcp.specs.LineParts.{version_in, ttl_in, olen_in, mss_in, window_in, scale_in, layout_in, quirks_in, payload_in, line_fields}
+use Rattle.parse_tcp.specs.LineParts.{version_in, ttl_in, olen_in, mss_in, window_in, scale_in, layout_in, quirks_in, payload_in}
+use Rattle.parse_tcp.specs.LineParts.{line_fields}
 
 -- A field behind a separator, whose place and goodness are those of the field before.
 behind_piece : {A : Type 0} (f : LinePlace → A) (c : ℕ) (s : List ℕ) (x y : Piece) (p : LinePlace) (r : A)

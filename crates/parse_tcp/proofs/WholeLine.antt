@@ -18,7 +18,8 @@ use Rattle.signature_line.proofs.Accepted.{accepted}
 use Rattle.signature_line.proofs.WellFormed.{well_formed}
 use Rattle.parse_tcp.specs.declared.LineFields.{LineFields}
 use Rattle.parse_tcp.specs.RowPieces.{said_by}
-use Rattle.parse_tcp.specs.LineParts.{version_in, ttl_in, olen_in, mss_in, window_in, scale_in, layout_in, quirks_in, payload_in, line_fields}
+use Rattle.parse_tcp.specs.LineParts.{version_in, ttl_in, olen_in, mss_in, window_in, scale_in, layout_in, quirks_in, payload_in}
+use Rattle.parse_tcp.specs.LineParts.{line_fields}
 use Rattle.parse_tcp.specs.LineParts.{record_bytes}
 use Rattle.parse_tcp.proofs.LayoutLaws.{small}
 use Rattle.parse_tcp.proofs.LastStage.{field_begins, last_bad, last_more, last_whole}

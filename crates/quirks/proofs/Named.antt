@@ -1,7 +1,8 @@
 -- The named sets as numbers: the union of all seventeen is 0x1F03F03F.
 use mathlib.Core.Path.{◌≡◌, refl}
 use Rattle.quirks.specs.Quirks.{set_of, with, bit_of, place_of}
-use Rattle.quirks.specs.Named.{from_quirks, display_order, empty, fuzzy_deletable, fuzzy_addable, mask_when_obs_v4, mask_when_obs_v6, seventeen}
+use Rattle.quirks.specs.Named.{from_quirks, display_order, empty, fuzzy_deletable, fuzzy_addable, mask_when_obs_v4, mask_when_obs_v6}
+use Rattle.quirks.specs.Named.{seventeen}
 
 pub empty_bits : empty ≡ set_of 0
 unfolding empty from_quirks

@@ -15,7 +15,8 @@ use Rattle.matching.specs.Fit.{scalar_gates, passes, tolerance_of, fit_of}
 use Rattle.basis.proofs.Tests.{and_left, and_right, and_false, and_true}
 use Rattle.siglist.specs.declared.Areas.{Areas}
 use Rattle.sigrecord.specs.Record.{signature_of, first_entry, entry_count}
-use Rattle.siglist.specs.List.{record_count, layout_count, list_fits, AreasFit, record_at, entries_of, entries_lie, layout_lies, record_good}
+use Rattle.siglist.specs.List.{record_count, layout_count, list_fits, AreasFit, record_at, entries_of, entries_lie, layout_lies}
+use Rattle.siglist.specs.List.{record_good}
 use Rattle.sigrecord.specs.WellFormed.{scalars_good, scalars_well_formed}
 use Rattle.sigrecord.proofs.Laws.{whole}
 use Rattle.search.specs.Search.{fit_at}

@@ -8,4 +8,5 @@ use Rattle.siglist.specs.List.{entries_of, layout_lies}
 -- Its layout is the observation's (so many entries, their kinds and bytes), and the record is well formed.
 unfoldable pub holds : ℕ → List ℕ → List ℕ → List ℕ → List ℕ → Bool
 holds n kinds bytes l r =
-    layout_matches n kinds bytes (entry_count r) (entries_of l r) && (scalars_well_formed r && layout_lies l (first_entry r) (entry_count r))
+    layout_matches n kinds bytes (entry_count r) (entries_of l r)
+    && (scalars_well_formed r && layout_lies l (first_entry r) (entry_count r))

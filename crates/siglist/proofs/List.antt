@@ -20,7 +20,8 @@ use Rattle.siglist.specs.declared.Header.TheVariants as header
 use Rattle.siglist.specs.declared.ListAnswer.TheVariants as answer
 use Rattle.refusals.specs.declared.ListRefusal.TheVariants as refusal
 use Rattle.siglist.specs.List.{record_count, records_offset, layout_count, layout_offset, area_fits, list_fits, areas_of, header_of}
-use Rattle.siglist.specs.List.{AreasFit, record_start, record_at, record_of, entries_lie, layout_lies, record_good, records_from, check_list}
+use Rattle.siglist.specs.List.{AreasFit, record_start, record_at, record_of, entries_lie, layout_lies, record_good, records_from}
+use Rattle.siglist.specs.List.{check_list}
 
 -- A list that fits has a whole header.
 pub header_fits : (l : List ℕ) → list_fits l ≡ true → 8 ≤ length l

@@ -20,13 +20,15 @@ abbrev forty_line : List ℕ
 forty_line = ascii "*:64:0:*:*,*:nop" ++ nops 39 ++ ascii "::0"
 
 forty : read_line forty_line ≡ read_of forty_nops
-unfolding read_line refused_at fields_read parts_read ttl_read layout_read quirks_read read_as raw_of layout_of kind_said byte_said union_from version
-    bare_byte ttl_form mss window scale unnamed entry quirk_word payload any fits after done run left states_read bit_of place_of
+unfolding read_line refused_at fields_read parts_read ttl_read layout_read quirks_read read_as raw_of layout_of kind_said byte_said
+    union_from version bare_byte ttl_form mss window scale unnamed entry quirk_word payload any fits after done run left states_read
+    bit_of place_of
 forty = refl
 
 lines_read : LinesRead
-unfolding read_line refused_at fields_read parts_read ttl_read layout_read quirks_read read_as raw_of layout_of kind_said byte_said union_from version
-    bare_byte ttl_form mss window scale unnamed entry quirk_word payload any fits after done run left states_read bit_of place_of
+unfolding read_line refused_at fields_read parts_read ttl_read layout_read quirks_read read_as raw_of layout_of kind_said byte_said
+    union_from version bare_byte ttl_form mss window scale unnamed entry quirk_word payload any fits after done run left states_read
+    bit_of place_of
 lines_read =
     record {
       ours = refl;
@@ -51,8 +53,9 @@ lines_read =
     }
 
 quirk_names : QuirkNames
-unfolding read_line refused_at fields_read parts_read ttl_read layout_read quirks_read read_as raw_of layout_of kind_said byte_said union_from version
-    bare_byte ttl_form mss window scale unnamed entry quirk_word payload any fits after done run left states_read bit_of place_of
+unfolding read_line refused_at fields_read parts_read ttl_read layout_read quirks_read read_as raw_of layout_of kind_said byte_said
+    union_from version bare_byte ttl_form mss window scale unnamed entry quirk_word payload any fits after done run left states_read
+    bit_of place_of
 quirk_names =
     record {
       df = refl;
@@ -75,8 +78,9 @@ quirk_names =
     }
 
 lines_refused : LinesRefused
-unfolding read_line refused_at fields_read parts_read ttl_read layout_read quirks_read read_as raw_of layout_of kind_said byte_said union_from version
-    bare_byte ttl_form mss window scale unnamed entry quirk_word payload any fits after done run left states_read bit_of place_of
+unfolding read_line refused_at fields_read parts_read ttl_read layout_read quirks_read read_as raw_of layout_of kind_said byte_said
+    union_from version bare_byte ttl_form mss window scale unnamed entry quirk_word payload any fits after done run left states_read
+    bit_of place_of
 lines_refused =
     record {
       no_byte = refl;

@@ -11,7 +11,8 @@ use Rattle.sigrecord.specs.Layout.{entries_good}
 use Rattle.sigrecord.specs.Record.{first_entry, entry_count}
 use Rattle.sigrecord.specs.WellFormed.{scalars_good}
 use Rattle.siglist.specs.declared.ListAnswer.TheVariants as list
-use Rattle.siglist.specs.List.{record_count, layout_count, list_fits, record_at, entries_from, entries_lie, layout_lies, record_good, check_list}
+use Rattle.siglist.specs.List.{record_count, layout_count, list_fits, record_at, entries_from, entries_lie, layout_lies, record_good}
+use Rattle.siglist.specs.List.{check_list}
 use Rattle.siglist.proofs.FirstBad.{good_fits, each_good}
 use Rattle.written_line.specs.Writing.{refusing, good_line, record_line, listed_line}
 

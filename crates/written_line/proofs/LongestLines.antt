@@ -26,20 +26,21 @@ use Rattle.written_line.specs.Numbers.{ObservationHeld}
 use Rattle.written_line.specs.Signature.{entry_said, entries_said, chosen, fields_of, signature_seen}
 
 good_list_lem : check_list longest_list ≡ list.Good
-unfolding check_list list_fits records_from record_good layout_lies entries_good entry_good all_below scalars_good version_good ttl_good presence_good
-    window_good payload_good quirks_good is_empty difference seventeen from_quirks display_order with bit_of place_of be16 be32 list_of_one entries_in
+unfolding check_list list_fits records_from record_good layout_lies entries_good entry_good all_below scalars_good version_good ttl_good
+    presence_good window_good payload_good quirks_good is_empty difference seventeen from_quirks display_order with bit_of place_of be16
+    be32 list_of_one entries_in
 good_list_lem = refl
 
 record_line_lem : record_text longest_list 0 ≡ ascii "4:255+255:255:65535:mss*255" ++ behind_window
-unfolding record_text signature_text line_text text_after_olen text_after_scale spelt version bare_byte ttl_form mss window scale unnamed entry
-    quirk_word payload fields_of signature_of version_of ttl_of mss_of scale_of window_of payload_of entries_said entry_said chosen contains holds
-    digit display_order bit_of place_of be16 be32 list_of_one entries_in decimal width
+unfolding record_text signature_text line_text text_after_olen text_after_scale spelt version bare_byte ttl_form mss window scale unnamed
+    entry quirk_word payload fields_of signature_of version_of ttl_of mss_of scale_of window_of payload_of entries_said entry_said chosen
+    contains holds digit display_order bit_of place_of be16 be32 list_of_one entries_in decimal width
 record_line_lem = refl
 
 observation_line_lem : observation_text longest_observation ≡ ascii "4:255+255:255:65535:65535" ++ behind_window
-unfolding observation_text signature_text line_text text_after_olen text_after_scale spelt version bare_byte ttl_form mss window scale unnamed entry
-    quirk_word payload fields_of signature_seen entries_said entry_said chosen contains holds digit seventeen from_quirks with display_order bit_of
-    place_of entries_in decimal width
+unfolding observation_text signature_text line_text text_after_olen text_after_scale spelt version bare_byte ttl_form mss window scale
+    unnamed entry quirk_word payload fields_of signature_seen entries_said entry_said chosen contains holds digit seventeen from_quirks
+    with display_order bit_of place_of entries_in decimal width
 observation_line_lem = refl
 
 one_byte : (n b i : ℕ) → b < 256 → byte_at (replicate n b) i < 256

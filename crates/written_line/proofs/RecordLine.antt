@@ -16,7 +16,8 @@ use Rattle.signature_line.proofs.FieldsGood.{◌then◌}
 use Rattle.written_line.specs.Numbers.{SignatureHeld}
 use Rattle.written_line.specs.Signature.{entries_said, chosen, fields_of}
 use Rattle.written_line.proofs.QuirkRow.{chosen_all}
-use Rattle.written_line.proofs.RecordSaid.{version_said_lem, form_said_lem, byte_said_lem, mss_said_lem, window_said_lem, scale_said_lem, payload_said_lem}
+use Rattle.written_line.proofs.RecordSaid.{version_said_lem, form_said_lem, byte_said_lem, mss_said_lem, window_said_lem, scale_said_lem}
+use Rattle.written_line.proofs.RecordSaid.{payload_said_lem}
 use Rattle.written_line.proofs.RecordSaid.{ttl_held, mss_held, window_held, scale_held}
 
 -- What holds at every place below a bound, place by place.

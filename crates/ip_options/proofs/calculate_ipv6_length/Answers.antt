@@ -16,13 +16,15 @@ returns-then-next_header-eq-TCP c = sym (v6_tcp _ c.if-next_header-eq-TCP.true)
 pub returns-then-next_header-eq-IPV6_FRAG : goal.returns-then-next_header-eq-IPV6_FRAG
 returns-then-next_header-eq-IPV6_FRAG c =
     sym
-    (v6_fragment _ c.if-next_header-eq-TCP.false (λ e. c.if-size-eq0.false (c.payload_size-size.ensures ∙ e)) c.if-next_header-eq-IPV6_FRAG.true)
+    (v6_fragment _ c.if-next_header-eq-TCP.false (λ e. c.if-size-eq0.false (c.payload_size-size.ensures ∙ e))
+        c.if-next_header-eq-IPV6_FRAG.true)
 
 pub returns-then-size-lt2 : goal.returns-then-size-lt2
 returns-then-size-lt2 c =
     let size = c.payload_size-size.ensures in
     sym
-    (v6_one_byte _ c.if-next_header-eq-TCP.false (λ e. c.if-size-eq0.false (size ∙ e)) c.if-next_header-eq-IPV6_FRAG.false (omega (arith, size)))
+    (v6_one_byte _ c.if-next_header-eq-TCP.false (λ e. c.if-size-eq0.false (size ∙ e))
+        c.if-next_header-eq-IPV6_FRAG.false (omega (arith, size)))
 
 pub bounds-packet-41 : goal.bounds-packet-41
 bounds-packet-41 c =
@@ -33,4 +35,5 @@ returns c =
     let size = c.payload_size-size.ensures in
     c.eights.ensures
     ∙ sym
-    (v6_eights _ c.if-next_header-eq-TCP.false (λ e. c.if-size-eq0.false (size ∙ e)) c.if-next_header-eq-IPV6_FRAG.false (omega (arith, size)))
+    (v6_eights _ c.if-next_header-eq-TCP.false (λ e. c.if-size-eq0.false (size ∙ e))
+        c.if-next_header-eq-IPV6_FRAG.false (omega (arith, size)))

@@ -8,7 +8,8 @@ use Rattle.window_size.specs.Multiplier.{first_multiple}
 use Rattle.window_size.proofs.first_multiple.Given as goal
 
 abbrev pub invariant-loop-i : goal.invariant-loop-i
-invariant-loop-i l = (l.i ≤ 12) × (first_multiple l.wsize (map holding (drop l.i l.divisors)) ≡ first_multiple l.wsize (map holding l.divisors))
+invariant-loop-i l = (l.i ≤ 12) × (first_multiple l.wsize (map holding (drop l.i l.divisors)) ≡ first_multiple l.wsize
+    (map holding l.divisors))
 
 abbrev pub decreases-loop-i : goal.decreases-loop-i
 decreases-loop-i l = 12 - l.i

@@ -5,7 +5,8 @@ use Rattle.signature_line.specs.OneRecord.{alternating}
 use Rattle.line_writer.proofs.rows.entries_in.Given as goal
 
 abbrev pub invariant-loop-i : goal.invariant-loop-i
-invariant-loop-i l = (l.i ≤ l.count) × (length l.entries ≡ 80) × (take (2 * l.i) l.entries ≡ alternating (take l.i l.kinds) (take l.i l.bytes))
+invariant-loop-i l = (l.i ≤ l.count) × (length l.entries ≡ 80)
+    × (take (2 * l.i) l.entries ≡ alternating (take l.i l.kinds) (take l.i l.bytes))
 
 abbrev pub decreases-loop-i : goal.decreases-loop-i
 decreases-loop-i l = l.count - l.i

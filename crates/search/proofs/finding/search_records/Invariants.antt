@@ -8,7 +8,8 @@ use mathlib.Core.Path.{◌≡◌}
 use Rattle.search.proofs.finding.search_records.Given as goal
 
 abbrev pub invariant-loop-i : goal.invariant-loop-i
-invariant-loop-i l = (l.i ≤ l.size) × (l.size ≡ l.areas.records) × AreasFit l.list l.areas × (l.held ≡ search_row l.observed l.kinds l.bytes l.list (numbers_from 0 l.i))
+invariant-loop-i l = (l.i ≤ l.size) × (l.size ≡ l.areas.records) × AreasFit l.list l.areas
+    × (l.held ≡ search_row l.observed l.kinds l.bytes l.list (numbers_from 0 l.i))
     × (l.best ≡ rank_of l.held) × (0 < l.best)
 
 abbrev pub decreases-loop-i : goal.decreases-loop-i
