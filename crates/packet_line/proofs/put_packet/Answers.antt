@@ -1,6 +1,5 @@
 use Rattle.text.proofs.Writing.{both}
 use Rattle.packet_line.specs.PacketLine.{packet_line}
-use borrow.Author.Rules.{rules}
 use Rattle.packet_line.proofs.put_packet.Goals as goal
 
 -- The answer's words, a blank, what was seen and the line's end, one behind the other.

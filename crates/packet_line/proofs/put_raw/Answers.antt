@@ -1,4 +1,3 @@
-use borrow.Author.Rules.{rules}
 use Rattle.packet_line.proofs.put_raw.Goals as goal
 
 pub returns-in-Syn : goal.returns-in-Syn
