@@ -1,9 +1,7 @@
-use mathlib.Core.Path.{◌≡◌, ap}
-use Prim.Native.Nat.{◌+◌, ◌*◌, ◌-◌, ◌≤◌}
+use mathlib.Core.Path.{ap}
 use native.Mathlib.Omega.{arith}
 use lib.ListN.{length}
-use Rattle.keeper_file.specs.FileText.{file_text}
-use Rattle.file_writer.proofs.Files.{lines_left, file_whole, length_turn, length_end_lem}
+use Rattle.file_writer.proofs.Files.{file_whole, length_turn, length_end_lem}
 use Rattle.file_writer.proofs.Lines.{shown_short}
 use borrow.Author.Rules.{rules}
 use Rattle.file_writer.proofs.file_length.Goals as goal
@@ -28,7 +26,7 @@ loop-i-preserved c =
     let short = shown_short s l.i in (
       search rules,
       omega (arith, short, line.ensures, l.invariant.1),
-      length_turn s c.args.count l.i l.size line.result (λ k. omega (arith, c.shared_slice_known-1.given k))
+      length_turn s c.args.count l.i l.size line.result (λ k. omega (arith, c.type_inv.list k))
           c.requires c.loop-i-test.true line.ensures l.invariant.2,
     )
 

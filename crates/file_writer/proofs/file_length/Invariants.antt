@@ -1,11 +1,8 @@
-use mathlib.Core.Path.{◌≡◌, ap}
+use mathlib.Core.Path.{◌≡◌}
 use Prim.Native.Nat.{◌+◌, ◌*◌, ◌-◌, ◌≤◌}
-use native.Mathlib.Omega.{arith}
 use lib.ListN.{length}
 use Rattle.keeper_file.specs.FileText.{file_text}
-use Rattle.file_writer.proofs.Files.{lines_left, file_whole, length_turn, length_end_lem}
-use Rattle.file_writer.proofs.Lines.{shown_short}
-use borrow.Author.Rules.{rules}
+use Rattle.file_writer.proofs.Files.{lines_left}
 use Rattle.file_writer.proofs.file_length.Given as goal
 
 abbrev pub invariant-loop-i : goal.invariant-loop-i

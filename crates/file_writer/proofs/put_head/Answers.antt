@@ -1,6 +1,5 @@
 use mathlib.Core.Path.{sym, ◌∙◌}
 use Rattle.file_writer.proofs.Lines.{head_plain, head_generic}
-use borrow.Author.Rules.{rules}
 use Rattle.file_writer.proofs.put_head.Goals as goal
 
 pub returns-then-is_generic : goal.returns-then-is_generic

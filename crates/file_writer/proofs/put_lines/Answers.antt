@@ -1,11 +1,9 @@
-use mathlib.Core.Path.{◌≡◌, subst}
+use mathlib.Core.Path.{subst}
 use mathlib.Core.List.{List}
-use Prim.Native.Nat.{ℕ, ◌-◌, ◌≤◌}
+use Prim.Native.Nat.{ℕ}
 use native.Mathlib.Omega.{arith}
-use lib.ListN.{length}
-use Rattle.keeper_file.specs.FileText.{file_text}
 use Rattle.text.specs.Written.{Put}
-use Rattle.file_writer.proofs.Files.{lines_left, file_whole, put_turn, put_end}
+use Rattle.file_writer.proofs.Files.{file_whole, put_turn, put_end}
 use borrow.Author.Rules.{rules}
 use Rattle.file_writer.proofs.put_lines.Goals as goal
 
@@ -25,8 +23,8 @@ loop-i-preserved c =
       search rules,
       search rules,
       λ n b h. l.invariant.2 n b
-          (put_turn a.list.now a.count l.i l.buffer line.new.0 l.next b line.result n
-          (λ k. omega (arith, c.shared_slice_known-1.given k)) c.requires c.loop-i-test.true line.ensures h),
+          (put_turn a.list.now a.count l.i l.buffer line.new.buffer l.next b line.result n
+          (λ k. omega (arith, c.type_inv.list k)) c.requires c.loop-i-test.true line.ensures h),
     )
 
 pub returns : goal.returns

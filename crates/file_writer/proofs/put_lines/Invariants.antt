@@ -1,12 +1,10 @@
-use mathlib.Core.Path.{◌≡◌, subst}
+use mathlib.Core.Path.{◌≡◌}
 use mathlib.Core.List.{List}
 use Prim.Native.Nat.{ℕ, ◌-◌, ◌≤◌}
-use native.Mathlib.Omega.{arith}
 use lib.ListN.{length}
 use Rattle.keeper_file.specs.FileText.{file_text}
 use Rattle.text.specs.Written.{Put}
-use Rattle.file_writer.proofs.Files.{lines_left, file_whole, put_turn, put_end}
-use borrow.Author.Rules.{rules}
+use Rattle.file_writer.proofs.Files.{lines_left}
 use Rattle.file_writer.proofs.put_lines.Given as goal
 
 abbrev pub invariant-loop-i : goal.invariant-loop-i

@@ -6,12 +6,12 @@ use Rattle.file_writer.proofs.put_listed.Goals as goal
 
 pub slice_bounds-put_word-end : goal.slice_bounds-put_word-end
 slice_bounds-put_word-end c =
-    let within = listed_within _ _ _ _ _ (search rules) c.write-listed.ensures _ c.size.given.1 in
+    let within = listed_within _ _ _ _ _ (search rules) c.write_listed.ensures _ c.in-Line.is in
     search rules
 
 pub returns-in-Line : goal.returns-in-Line
 returns-in-Line c =
-    rw (sym (listed_line_lem _ _ _ _ _ (search rules) c.write-listed.ensures _ c.size.given.1)) c.put_word.ensures
+    rw (sym (listed_line_lem _ _ _ _ _ (search rules) c.write_listed.ensures _ c.in-Line.is)) c.put_word.ensures
 
 pub returns-in-Refused : goal.returns-in-Refused
 returns-in-Refused c =

@@ -3,7 +3,6 @@ use native.Mathlib.Omega.{arith}
 use Rattle.siglist.proofs.List.{header_areas, header_none}
 use Rattle.text.proofs.Writing.{put_none}
 use Rattle.file_writer.proofs.Lines.{no_areas, past_the_last, shown_put}
-use borrow.Author.Rules.{rules}
 use Rattle.file_writer.proofs.put_shown.Goals as goal
 
 pub returns-in_default : goal.returns-in_default
