@@ -1,8 +1,4 @@
 -- `flow::read_packet_in` meets its contract.
--- ---- the part lies in the packet
--- ---- the flags
--- ---- a SYN or SYN+ACK
--- ---- any other
 use mathlib.Core.Path.{sym, ◌∙◌}
 use native.Mathlib.Omega.{arith}
 use borrow.Author.Tests.{not-true, not-false}

@@ -1,6 +1,4 @@
 -- `one_option::option_step` meets its contract.
--- ---- an end-of-options, a no-op
--- ---- an option with a length byte
 use mathlib.Core.Path.{◌≡◌, sym, ◌∙◌}
 use Rattle.basis.specs.Bytes.{byte_at}
 use Rattle.one_option.proofs.Options.{inside_nonzero, last_step, nop_step, sound_step, short_step, past_step}
