@@ -135,8 +135,10 @@ class Streams:
             self.judge("output closed", self.start(subprocess.DEVNULL, words=words), b"", b"", self.cut, self.status)
 
     def reader_leaves(self, ended):
-        """Python ignores SIGPIPE, and so does what it starts here. `ended`: a program that does not ignore it is ended by it."""
-        kinds = [("SIGPIPE ignored", False, self.cut, self.status)] + [("SIGPIPE not ignored", True, b"", -signal.SIGPIPE)] * ended
+        """Python ignores SIGPIPE, and so does what it starts here. `ended`: a program that finds it not ignored is ended by it. Else
+        it ignores the signal by itself."""
+        found = (b"", -signal.SIGPIPE) if ended else (self.cut, self.status)
+        kinds = [("SIGPIPE ignored", False, self.cut, self.status), ("SIGPIPE not ignored", True, *found)]
         for name, restored, message, status in kinds:
             out, into = slow_pipe()
             os.set_blocking(into, True)
@@ -151,8 +153,8 @@ class Streams:
         self.judge("input is a folder", self.start(subprocess.DEVNULL, stdin=folder), b"", b"", self.unread, self.status)
         os.close(folder)
 
-    def run(self, at_start=True):
-        """`at_start`: the program finds descriptors and signals as they were when it was started."""
+    def run(self, closed=True, ended=True):
+        """`closed`: the program finds a closed descriptor closed; `ended`: SIGPIPE as it was when it was started."""
         for delay in (0, 0.05, 0.2, 0.5):
             self.late_reader("a pipe", slow_pipe, delay)
         for delay in (0, 0.3):
@@ -160,7 +162,7 @@ class Streams:
         self.late_input()
         self.no_room()
         self.full_disk()
-        self.not_open(at_start)
-        self.reader_leaves(at_start)
+        self.not_open(closed)
+        self.reader_leaves(ended)
         self.unreadable()
         return self
