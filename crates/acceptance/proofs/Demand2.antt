@@ -66,10 +66,10 @@ multiplier_theorem =
 
 -- ---- the single fit
 
-of_one : (hit : Hit) (x : SignatureFit) → found_of hit x ≡ of_one hit x
+of_one_lem : (hit : Hit) (x : SignatureFit) → found_of hit x ≡ of_one hit x
 unfolding found_of
-of_one hit fit.None = refl
-of_one hit fit.Exact = refl
+of_one_lem hit fit.None = refl
+of_one_lem hit fit.Exact = refl
 of_one hit (fit.Fuzzy r) = refl
 
 -- Of one record one is examined.
@@ -87,7 +87,7 @@ one_answer
     → hit.number ≡ 0
     → y ≡ found_of hit x
     → answer.Searched (searched_in 1 y) ≡ after 1 (of_one hit x)
-one_answer hit x y first e = rw (e, of_one hit x, one_examined hit x first)
+one_answer hit x y first e = rw (e, of_one_lem hit x, one_examined hit x first)
 
 module _ (l : List ℕ) (good : check_list l ≡ list.Good) where
   -- A good list fits, and its records are good.

@@ -124,9 +124,9 @@ list_fits_lem l h = by_test (list_fits l) refl
     by_test false e = rw (does_not_fit l e) (omega arith)
 
 -- The answer after the list is checked.
-after_list : (c : ListAnswer) (a : PacketAnswer) → ListFits c → PacketFits a → AnswerFits (after_list c a)
-after_list list.Good a hc ha = ha
-after_list (list.Refused r) a hc ha = hc
+after_list_lem : (c : ListAnswer) (a : PacketAnswer) → ListFits c → PacketFits a → AnswerFits (after_list c a)
+after_list_lem list.Good a hc ha = ha
+after_list_lem (list.Refused r) a hc ha = hc
 
 -- ---- the laws
 
@@ -135,7 +135,7 @@ pub answers_fit
     : (mode : Mode) (p : List ℕ) (peer : ℕ) (l : List ℕ) → AllBytes p → AllBytes l → AnswerFits (gateway_in mode p peer l)
 unfolding gateway_in
 answers_fit mode p peer l hp hl =
-    after_list (check_list l) (answer_in mode p (peer_of peer) l) (list_fits_lem l hl) (packet_fits_lem mode p (peer_of peer) l hp hl)
+    after_list_lem (check_list l) (answer_in mode p (peer_of peer) l) (list_fits_lem l hl) (packet_fits_lem mode p (peer_of peer) l hp hl)
 
 -- No two different answers of a gateway share a struct, whatever the modes.
 pub structs_differ

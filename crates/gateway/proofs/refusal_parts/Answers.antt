@@ -1,9 +1,6 @@
 use mathlib.Core.Path.{◌≡◌, refl}
-use mathlib.Core.List.{List, ◌∷◌, []}
-use Prim.Native.Nat.{ℕ}
-use denote.Enum.Declared
-use types.Run.{OneOf, miss}
-use Rattle.refusals.specs.contracts.Refusal as kinds
+use Rattle.refusals.specs.declared.ListRefusal.{ListRefusal}
+use Rattle.refusals.specs.declared.PacketRefusal.{PacketRefusal}
 use Rattle.refusals.specs.declared.Refusal.{Refusal}
 use Rattle.refusals.specs.declared.Refusal.TheVariants as refusal
 use Rattle.refusals.specs.Refusals.{number}
@@ -13,27 +10,28 @@ use borrow.Author.Rules.{rules}
 use Rattle.gateway.proofs.refusal_parts.Goals as goal
 
 -- What is neither a packet's refusal nor a list's returns nothing.
-abbrev rest : List ℕ
-rest = 1 ∷ 3 ∷ 4 ∷ 5 ∷ 6 ∷ 7 ∷ 8 ∷ 9 ∷ 10 ∷ 11 ∷ 12 ∷ 13 ∷ 14 ∷ 15 ∷ []
-
-others : (r : Refusal) → OneOf rest (Declared.tag_of kinds.the_type r) → refusal_parts r ≡ refused (number r) 0
+others
+    : (r : Refusal)
+    → ((why : PacketRefusal) → r ≡ refusal.Packet why → ⊥)
+    → ((why : ListRefusal) → r ≡ refusal.List why → ⊥)
+    → refusal_parts r ≡ refused (number r) 0
 unfolding refusal_parts
-others (refusal.Packet why) one = absurd (miss rest 0 tt one)
-others refusal.OptionsTooLong one = refl
-others (refusal.List why) one = absurd (miss rest 2 tt one)
-others refusal.LayoutTooLong one = refl
-others refusal.BundleDoesNotFit one = refl
-others (refusal.BadLine at) one = refl
-others refusal.BufferTooShort one = refl
-others refusal.NoRoomForKey one = refl
-others refusal.NotACapture one = refl
-others refusal.FrameTooLong one = refl
-others refusal.CaptureEndsEarly one = refl
-others refusal.RowTooShort one = refl
-others refusal.RowDiffers one = refl
-others refusal.NoSuchRecord one = refl
-others refusal.TooManySignatures one = refl
-others refusal.TooManyEntries one = refl
+others (refusal.Packet why) packet list = absurd (packet why refl)
+others (refusal.List why) packet list = absurd (list why refl)
+others refusal.OptionsTooLong packet list = refl
+others refusal.LayoutTooLong packet list = refl
+others refusal.BundleDoesNotFit packet list = refl
+others (refusal.BadLine at) packet list = refl
+others refusal.BufferTooShort packet list = refl
+others refusal.NoRoomForKey packet list = refl
+others refusal.NotACapture packet list = refl
+others refusal.FrameTooLong packet list = refl
+others refusal.CaptureEndsEarly packet list = refl
+others refusal.RowTooShort packet list = refl
+others refusal.RowDiffers packet list = refl
+others refusal.NoSuchRecord packet list = refl
+others refusal.TooManySignatures packet list = refl
+others refusal.TooManyEntries packet list = refl
 
 pub returns-in-Packet : goal.returns-in-Packet
 unfolding refusal_parts
@@ -45,4 +43,4 @@ returns-in-List c = rw (c.in-List.is, c.refused_list.ensures)
 
 pub returns-in_default : goal.returns-in_default
 returns-in_default c =
-    rw (others c.args.refusal c.in_default.keys3, c.refused.ensures, c.refusal_number.ensures)
+    rw (others c.args.refusal c.in_default.not-Packet c.in_default.not-List, c.refused.ensures, c.refusal_number.ensures)
