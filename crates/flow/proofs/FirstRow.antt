@@ -130,8 +130,11 @@ module _ (mode : Mode) (p : List ℕ) (peer : Mss) where
       (over (not (eqb (v4.protocol p) 6)) (refused refusal.UnsupportedProtocol)
       (over (ltb 0 (v4.fragment_offset p) || eqb (v4.more_fragments p) 1) (refused refusal.Fragment)
       (over (ltb (length (part (v4.data_start p) (v4.data_end p) p)) 20) (refused refusal.TcpTooShort)
-      (record { says = by_header mode (ipv4_facts p (v4.data_start p) (v4.data_end p)) (part (v4.data_start p)
-          (v4.data_end p) p) peer })))))
+      (record {
+        says =
+            by_header mode (ipv4_facts p (v4.data_start p) (v4.data_end p))
+            (part (v4.data_start p) (v4.data_end p) p) peer;
+      })))))
 
   abbrev number6 : ℕ
   number6 =

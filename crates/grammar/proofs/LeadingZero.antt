@@ -71,7 +71,7 @@ plain_behind_lem c t e h = rw (other (eqb c 48) refl, e) h
 -- Two texts with such a byte between.
 pub plain_between
     : (c : ℕ) (a t : List ℕ) → is_digit c ≡ false → no_leading_zero a ≡ true → no_leading_zero t ≡ true
-        → no_leading_zero (a ++ c ∷ t) ≡ true
+    → no_leading_zero (a ++ c ∷ t) ≡ true
 plain_between c a t e h k = plain_before a (c ∷ t) e h (plain_behind_lem c t e k)
 
 -- ---- numbers

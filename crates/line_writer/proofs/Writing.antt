@@ -72,7 +72,7 @@ module _ (l : List ℕ) (a : Areas) (i : ℕ) (fits : AreasFit l a) (inside : i 
       lie_there
           : (t : Bool) → entries_lie a.entries first count ≡ t
           → list_fits l && ltb i (record_count l) && entries_lie (layout_count l) (first_entry (record_at l i)) (entry_count
-              (record_at l i)) ≡ t
+          (record_at l i)) ≡ t
       lie_there t e =
           rw (
             list_fits_lem l a fits,

@@ -92,7 +92,7 @@ module _ (s : List ℕ) (at : ℕ) where
   -- Others that go on with this byte in the same way.
   pub narrow_here
       : (states others : List Awaited) → at < length s → after (byte_at s at) states ≡ after (byte_at s at) others
-          → done states ≡ done others
+      → done states ≡ done others
       → state_at states s at ≡ state_at others s at
   unfolding state_at
   narrow_here states others h a d =

@@ -69,7 +69,7 @@ module _ (bits : ℕ) (s : List ℕ) (at : ℕ) where
 
   turns_on
       : (turns : ℕ) (whole : QuirksPiece) → length s - at ≤ turns → (next comma s at).good ≡ true
-          → (piece_at quirk_word s (at + 1)).good ≡ true
+      → (piece_at quirk_word s (at + 1)).good ≡ true
       → quirks_of bits at (names turns s at) ≡ whole
       → NamesLeft (bit_or bits (piece_at quirk_word s (at + 1)).form) s (piece_at quirk_word s (at + 1)).at whole
   unfolding state_at piece_of

@@ -191,5 +191,9 @@ row_is_walk stop syn quirks s h =
     let stops = stops_before stop in
     let os = options_of s in
     row-walk_with stop syn (start_walk quirks) no_places 0 os
-    ∙ rw (← row_cut stops 0 os, came_to_lem stops runs_past 0 os, came_to_lem stops short_length 0 os,
-        up_to_lem syn quirks s h (first_from stops 0 os))
+    ∙ rw (
+      ← row_cut stops 0 os,
+      came_to_lem stops runs_past 0 os,
+      came_to_lem stops short_length 0 os,
+      up_to_lem syn quirks s h (first_from stops 0 os),
+    )

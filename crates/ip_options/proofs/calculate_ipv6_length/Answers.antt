@@ -17,14 +17,14 @@ pub returns-then-next_header-eq-IPV6_FRAG : goal.returns-then-next_header-eq-IPV
 returns-then-next_header-eq-IPV6_FRAG c =
     sym
     (v6_fragment _ c.if-next_header-eq-TCP.false (λ e. c.if-size-eq0.false (c.payload_size-size.ensures ∙ e))
-        c.if-next_header-eq-IPV6_FRAG.true)
+    c.if-next_header-eq-IPV6_FRAG.true)
 
 pub returns-then-size-lt2 : goal.returns-then-size-lt2
 returns-then-size-lt2 c =
     let size = c.payload_size-size.ensures in
     sym
     (v6_one_byte _ c.if-next_header-eq-TCP.false (λ e. c.if-size-eq0.false (size ∙ e))
-        c.if-next_header-eq-IPV6_FRAG.false (omega (arith, size)))
+    c.if-next_header-eq-IPV6_FRAG.false (omega (arith, size)))
 
 pub bounds-packet-41 : goal.bounds-packet-41
 bounds-packet-41 c =
@@ -36,4 +36,4 @@ returns c =
     c.eights.ensures
     ∙ sym
     (v6_eights _ c.if-next_header-eq-TCP.false (λ e. c.if-size-eq0.false (size ∙ e))
-        c.if-next_header-eq-IPV6_FRAG.false (omega (arith, size)))
+    c.if-next_header-eq-IPV6_FRAG.false (omega (arith, size)))

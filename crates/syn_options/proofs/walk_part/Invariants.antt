@@ -23,7 +23,7 @@ invariant-loop-at l =
     × (row_walk l.stop l.syn (so_far l.olayout.kinds l.olayout.bytes l.count seen) (record { past = l.past; short = l.short }) l.at
     (options_of (drop l.at l.options))
     ≡ row_walk l.stop l.syn (so_far l.initial.olayout.kinds l.initial.olayout.bytes l.initial.count seen₀)
-        (record { past = l.initial.past; short = l.initial.short }) 0
+    (record { past = l.initial.past; short = l.initial.short }) 0
     (options_of l.options))
 
 abbrev pub decreases-loop-at : goal.decreases-loop-at

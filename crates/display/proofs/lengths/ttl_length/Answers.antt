@@ -11,8 +11,11 @@ pub overflow_add-result : goal.overflow_add-result
 overflow_add-result c = omega (arith, at_most_five _ _ c.decimal_length-in-Distance.ensures)
 
 pub overflow_add-result-in-Distance : goal.overflow_add-result-in-Distance
-overflow_add-result-in-Distance c = omega (arith, at_most_five _ _ c.decimal_length-in-Distance.ensures,
-    at_most_five _ _ c.decimal_length-in-Distance-2.ensures)
+overflow_add-result-in-Distance c = omega (
+  arith,
+  at_most_five _ _ c.decimal_length-in-Distance.ensures,
+  at_most_five _ _ c.decimal_length-in-Distance-2.ensures,
+)
 
 pub overflow_add-result-in-Guess : goal.overflow_add-result-in-Guess
 overflow_add-result-in-Guess c = omega (arith, at_most_five _ _ c.decimal_length-in-Guess.ensures)
