@@ -70,7 +70,7 @@ of_one_lem : (hit : Hit) (x : SignatureFit) → found_of hit x ≡ of_one hit x
 unfolding found_of
 of_one_lem hit fit.None = refl
 of_one_lem hit fit.Exact = refl
-of_one hit (fit.Fuzzy r) = refl
+of_one_lem hit (fit.Fuzzy r) = refl
 
 -- Of one record one is examined.
 one_examined : (hit : Hit) (x : SignatureFit) → hit.number ≡ 0 → examined_of 1 (of_one hit x) ≡ 1

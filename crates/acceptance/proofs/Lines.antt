@@ -49,19 +49,19 @@ read_line s =
     (cond (eqb (byte_at s 3) 97) (Printed.synack (read_found (drop 7 s)))
     (cond (eqb (byte_at s 3) 104) Printed.nothing (Printed.refused (digits_read 0 (drop 8 s)))))
 
-read_found : (f : Found) → TwoBytes f → read_found (found_text f ++ newline) ≡ printed_found f
+read_found_lem : (f : Found) → TwoBytes f → read_found (found_text f ++ newline) ≡ printed_found f
 unfolding found_text read_found
-read_found (found.Exact hit) h = ap PrintedFound.exact (read_decimal hit.label h)
-read_found (found.Fuzzy hit reason) h = ap PrintedFound.fuzzy (read_decimal hit.label h)
-read_found found.None h = refl
+read_found_lem (found.Exact hit) h = ap PrintedFound.exact (read_decimal hit.label h)
+read_found_lem (found.Fuzzy hit reason) h = ap PrintedFound.fuzzy (read_decimal hit.label h)
+read_found_lem found.None h = refl
 
 read_line_lem : (a : PacketAnswer) → LabelFits a → read_line (line_of a) ≡ printed a
 unfolding line_of answer_text read_line
-read_line_lem (packet.Syn s) h = ap Printed.syn (read_found s.found h)
-read_line_lem (packet.SynAck s) h = ap Printed.synack (read_found s.found h)
+read_line_lem (packet.Syn s) h = ap Printed.syn (read_found_lem s.found h)
+read_line_lem (packet.SynAck s) h = ap Printed.synack (read_found_lem s.found h)
 read_line_lem packet.Nothing h = refl
-read_line_lem (packet.Refused r) h = ap Printed.refused (read_decimal (packet_number r) (let few = (numbered
-    (table.Packet r)).1 in omega arith))
+read_line_lem (packet.Refused r) h =
+    ap Printed.refused (read_decimal (packet_number r) (let few = (numbered (table.Packet r)).1 in omega arith))
 
 -- ---- the line of what is printed
 
