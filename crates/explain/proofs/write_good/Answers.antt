@@ -1,7 +1,6 @@
 use mathlib.Core.Path.{sym, ◌∙◌}
 use Rattle.siglist.proofs.List.{header_areas}
 use Rattle.explain.proofs.Laws.{good_list_lem}
-use borrow.Author.Rules.{rules}
 use Rattle.explain.proofs.write_good.Goals as goal
 
 pub write_packets-requires : goal.write_packets-requires

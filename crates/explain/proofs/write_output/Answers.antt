@@ -1,5 +1,4 @@
 use mathlib.Core.Path.{sym, ◌∙◌}
-use borrow.Author.Rules.{rules}
 use Rattle.explain.proofs.write_output.Goals as goal
 
 pub write_good-requires : goal.write_good-requires

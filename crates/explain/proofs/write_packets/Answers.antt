@@ -1,5 +1,3 @@
-use Rattle.explain.specs.RecordLine.{CheckedList}
-use borrow.Author.Rules.{rules}
 use Rattle.explain.proofs.write_packets.Goals as goal
 
 pub loop-left-init : goal.loop-left-init

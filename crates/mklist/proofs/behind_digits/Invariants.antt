@@ -1,6 +1,5 @@
 use lib.ListN.{length}
 use Prim.Native.Nat.{◌-◌, ◌≤◌}
-use borrow.Author.Rules.{rules}
 use Rattle.mklist.proofs.behind_digits.Given as goal
 
 abbrev pub invariant-loop-at : goal.invariant-loop-at

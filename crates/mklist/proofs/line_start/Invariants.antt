@@ -1,6 +1,5 @@
 use lib.ListN.{length}
 use Prim.Native.Nat.{◌+◌, ◌-◌, ◌≤◌}
-use borrow.Author.Rules.{rules}
 use Rattle.mklist.proofs.line_start.Given as goal
 
 abbrev pub invariant-loop-at : goal.invariant-loop-at

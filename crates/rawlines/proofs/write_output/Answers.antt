@@ -1,6 +1,5 @@
 use mathlib.Core.Path.{sym, ◌∙◌}
 use Rattle.bundle.proofs.Packets.{list_within, good_fits}
-use borrow.Author.Rules.{rules}
 use Rattle.rawlines.proofs.write_output.Goals as goal
 
 pub write_good-requires : goal.write_good-requires

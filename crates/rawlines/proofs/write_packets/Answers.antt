@@ -1,5 +1,3 @@
-use mathlib.Core.Path.{◌≡◌}
-use lib.ListN.{length}
 use Rattle.text.proofs.Writing.{put_within}
 use borrow.Author.Rules.{rules}
 use Rattle.rawlines.proofs.write_packets.Goals as goal

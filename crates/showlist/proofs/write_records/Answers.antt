@@ -1,6 +1,3 @@
-use mathlib.Core.Path.{◌≡◌}
-use Prim.Native.Nat.{◌-◌}
-use lib.ListN.{length}
 use Rattle.text.proofs.Writing.{put_within}
 use borrow.Author.Rules.{rules}
 use Rattle.showlist.proofs.write_records.Goals as goal

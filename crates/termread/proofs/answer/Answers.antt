@@ -1,6 +1,5 @@
 use mathlib.Core.Path.{subst}
 use lib.ListN.{length}
-use borrow.Author.Rules.{rules}
 use Rattle.termread.specs.Came.{EndsAs}
 use Rattle.termread.specs.declared.Ending.{Ending}
 use Rattle.termread.proofs.answer.Goals as goal

@@ -1,12 +1,12 @@
 use lib.ListN.{length, replicate}
-use Prim.Native.Nat.{ℕ, ◌≤◌, ◌-◌, ◌*◌}
-use mathlib.Core.Path.{◌≡◌, refl, subst}
+use Prim.Native.Nat.{ℕ, ◌≤◌}
+use mathlib.Core.Path.{refl, subst}
 use native.Mathlib.Omega.{arith}
 use borrow.Author.Rules.{rules}
 use Rattle.flow.specs.Modes.{plain_mode}
 use Rattle.report.proofs.Whole.{first_page_kept, next_page_kept}
 use Rattle.termread.specs.Reached.{Reached, none_yet}
-use Rattle.termread.proofs.Laws.{Left, page_follows, part_length, begun, begun_fits, turned, turned_fits, ended, page_reached}
+use Rattle.termread.proofs.Laws.{page_follows, part_length, begun, begun_fits, turned, turned_fits, ended, page_reached}
 use Rattle.termread.proofs.write_output.Goals as goal
 
 pub loop-turn-init : goal.loop-turn-init
@@ -31,13 +31,13 @@ send-requires g c =
       reached = held.4;
       follows = page_follows c.args.bundle.now c.args.longer c.loop-turn.taken page p held.5;
       text_bound =
-      omega (
-        arith,
-        held.3,
-        held.2,
-        c.loop-turn-test.true,
-        part_length page p.filled (omega (arith, held.1, held.2)),
-      );
+          omega (
+            arith,
+            held.3,
+            held.2,
+            c.loop-turn-test.true,
+            part_length page p.filled (omega (arith, held.1, held.2)),
+          );
     }
 
 pub returns-then-progress-eq0 : goal.returns-then-progress-eq0

@@ -1,8 +1,4 @@
-use mathlib.Core.Path.{◌≡◌}
-use Prim.Native.Nat.{◌+◌, ◌-◌, ◌≤◌}
 use native.Mathlib.Omega.{arith}
-use lib.ListN.{length, drop}
-use Rattle.explain.specs.Gating.{fails}
 use Rattle.explain.proofs.Rows.{fails_turn, fails_end}
 use borrow.Author.Rules.{rules}
 use Rattle.explain.proofs.gates.failing.Goals as goal

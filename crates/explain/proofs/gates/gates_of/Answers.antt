@@ -3,7 +3,6 @@ use Rattle.sigrecord.specs.Layout.{entries_good}
 use Rattle.sigrecord.specs.Record.{signature_of}
 use Rattle.explain.specs.Gating.{gates_of}
 use Rattle.explain.proofs.Laws.{good_layout}
-use borrow.Author.Rules.{rules}
 use Rattle.explain.proofs.gates.gates_of.Goals as goal
 
 pub returns : goal.returns

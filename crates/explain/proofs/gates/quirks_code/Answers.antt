@@ -1,5 +1,4 @@
 use Rattle.basis.proofs.Tests.{and_false}
-use borrow.Author.Rules.{rules}
 use Rattle.explain.proofs.gates.quirks_code.Goals as goal
 
 pub returns-then-not-is_empty : goal.returns-then-not-is_empty

@@ -1,5 +1,4 @@
 use Rattle.explain.specs.Gating.{row_of}
-use borrow.Author.Rules.{rules}
 use Rattle.explain.proofs.gates.row_of.Goals as goal
 
 pub returns : goal.returns

@@ -1,5 +1,4 @@
 use Rattle.text.proofs.Writing.{put_none}
-use borrow.Author.Rules.{rules}
 use Rattle.explain.proofs.lines.put_comma.Goals as goal
 
 pub returns-then-any : goal.returns-then-any

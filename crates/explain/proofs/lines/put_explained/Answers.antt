@@ -1,7 +1,6 @@
 use mathlib.Core.Path.{◌∙◌}
 use Rattle.siglist.proofs.List.{record_of_list}
 use Rattle.explain.proofs.Laws.{explained_put}
-use borrow.Author.Rules.{rules}
 use Rattle.explain.proofs.lines.put_explained.Goals as goal
 
 pub returns : goal.returns

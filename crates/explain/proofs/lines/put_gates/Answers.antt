@@ -1,6 +1,5 @@
 use Rattle.text.proofs.Writing.{both}
 use Rattle.explain.specs.GateText.{gates_text}
-use borrow.Author.Rules.{rules}
 use Rattle.explain.proofs.lines.put_gates.Goals as goal
 
 pub returns : goal.returns

@@ -1,5 +1,4 @@
 use Rattle.text.proofs.Writing.{put_none}
-use borrow.Author.Rules.{rules}
 use Rattle.explain.proofs.lines.put_kind.Goals as goal
 
 pub returns-then-generic : goal.returns-then-generic

@@ -1,5 +1,4 @@
 use Rattle.text.proofs.Writing.{both, put_none}
-use borrow.Author.Rules.{rules}
 use Rattle.explain.proofs.lines.put_named.Goals as goal
 
 pub returns-then-shown : goal.returns-then-shown

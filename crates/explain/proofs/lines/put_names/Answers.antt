@@ -1,9 +1,7 @@
-use mathlib.Core.Path.{◌≡◌, subst}
+use mathlib.Core.Path.{subst}
 use mathlib.Core.List.{List}
-use Prim.Native.Nat.{ℕ, ◌-◌, ◌≤◌}
-use lib.ListN.{length, drop}
+use Prim.Native.Nat.{ℕ}
 use Rattle.text.specs.Written.{Put}
-use Rattle.explain.specs.GateText.{names_from, names_of}
 use Rattle.explain.proofs.Rows.{names_put, names_end}
 use borrow.Author.Rules.{rules}
 use Rattle.explain.proofs.lines.put_names.Goals as goal

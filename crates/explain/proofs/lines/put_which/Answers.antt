@@ -1,6 +1,5 @@
 use Rattle.text.proofs.Writing.{both}
 use Rattle.explain.specs.RecordLine.{which_text}
-use borrow.Author.Rules.{rules}
 use Rattle.explain.proofs.lines.put_which.Goals as goal
 
 pub returns : goal.returns

@@ -1,6 +1,5 @@
 use mathlib.Core.Path.{◌∙◌, ap}
 use Rattle.explain.specs.Gating.{row_of, fails}
-use borrow.Author.Rules.{rules}
 use Rattle.explain.proofs.nearest.failing_at.Goals as goal
 
 pub returns : goal.returns

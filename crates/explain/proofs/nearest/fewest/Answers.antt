@@ -1,5 +1,3 @@
-use Prim.Native.Nat.{◌-◌, ◌≤◌}
-use Rattle.explain.specs.RecordLine.{CheckedList}
 use Rattle.explain.proofs.Laws.{good_record}
 use borrow.Author.Rules.{rules}
 use Rattle.explain.proofs.nearest.fewest.Goals as goal

@@ -1,7 +1,5 @@
 use Prim.Native.Nat.{◌-◌, ◌≤◌}
 use Rattle.explain.specs.RecordLine.{CheckedList}
-use Rattle.explain.proofs.Laws.{good_record}
-use borrow.Author.Rules.{rules}
 use Rattle.explain.proofs.nearest.fewest.Given as goal
 
 abbrev pub invariant-loop-i : goal.invariant-loop-i

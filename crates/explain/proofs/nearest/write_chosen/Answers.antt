@@ -1,6 +1,4 @@
 use native.Mathlib.Omega.{arith}
-use Prim.Native.Nat.{◌-◌, ◌≤◌}
-use Rattle.explain.specs.RecordLine.{CheckedList}
 use Rattle.explain.proofs.Laws.{good_record}
 use borrow.Author.Rules.{rules}
 use Rattle.explain.proofs.nearest.write_chosen.Goals as goal
