@@ -46,7 +46,7 @@ corners =
           free_byte no_header_and_part 20 1 (FreePacket.in_tcp (omega arith) FreeTcp.ports) (omega arith) (omega arith);
       cut_identification_lem =
           free_byte cut_identification 4 2 (FreePacket.header (ItemBy.four refl (FreeIpv4.identification refl))) (omega arith)
-              (omega arith);
+          (omega arith);
       cut_identification_zero = cut_identification_zero;
       cut_flow_label_lem =
           free_byte cut_flow_label 1 2 (FreePacket.header (ItemBy.six refl (FreeIpv6.flow_label refl refl))) (omega arith) (omega arith);

@@ -13,7 +13,6 @@ use Rattle.flow.specs.Reading.{read_packet}
 use Rattle.search.specs.declared.SearchAnswer.{SearchAnswer}
 use Rattle.search.specs.Search.{search_list}
 use Rattle.siglist.specs.List.{check_list}
-use Rattle.packet_answer.specs.declared.PacketAnswer.{PacketAnswer}
 use Rattle.packet_answer.specs.Packet.{peer_of, answer_of, answer_in, after_reading}
 use Rattle.bundle.specs.declared.BundleCheck.{BundleCheck}
 use Rattle.bundle.specs.declared.BundleCheck.TheVariants as check

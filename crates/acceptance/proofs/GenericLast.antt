@@ -2,11 +2,10 @@
 use mathlib.Core.Path.{◌≡◌, refl, sym, ◌∙◌, ap}
 use mathlib.Core.Bool.{false, false≢true}
 use mathlib.Core.List.{List}
-use mathlib.Core.Logic.{◌↔◌, ◌⊎◌, inl, inr}
+use mathlib.Core.Logic.{inl, inr}
 use Prim.Native.Nat.{ℕ, ◌<◌}
 use native.Mathlib.Omega.{arith}
 use lib.Dec.{eqb}
-use Rattle.basis.specs.Bytes.{byte_at}
 use Rattle.observable.specs.declared.TcpObservation.{TcpObservation}
 use Rattle.sigrecord.specs.Record.{is_generic}
 use Rattle.siglist.specs.List.{record_count, record_at}

@@ -1,17 +1,15 @@
 -- One walk, with the places of damage.
-use mathlib.Core.Path.{◌≡◌, refl, sym, ◌∙◌, ap, subst}
-use mathlib.Core.Bool.{Bool, true, false, ◌||◌, true≢false}
+use mathlib.Core.Path.{◌≡◌, refl, sym, ◌∙◌}
+use mathlib.Core.Bool.{false, ◌||◌, true≢false}
 use mathlib.Core.List.{List}
-use Prim.Native.Nat.{ℕ, ◌^◌, ◌<◌, ◌≤◌}
-use native.Mathlib.Omega.{arith}
+use Prim.Native.Nat.{ℕ, ◌≤◌}
 use lib.ListN.{length, take}
 use borrow.Author.Tests.{lt-ltb, le-ltb}
 use Rattle.quirks.specs.declared.Quirk.TheVariants as quirk
-use Rattle.quirks.specs.Quirks.{place_of, bit_of, bits_of, holds, contains, with}
+use Rattle.quirks.specs.Quirks.{place_of, bit_of, holds, contains, with}
 use Rattle.quirks.specs.Named.{empty, fuzzy_deletable, fuzzy_addable, mask_when_obs_v4, mask_when_obs_v6, from_quirks}
 use Rattle.basis.specs.Digits.{digit}
-use Rattle.basis.specs.Bytes.{be16, be32}
-use Rattle.tcp.specs.declared.Mss.{Mss}
+use Rattle.basis.specs.Bytes.{be16}
 use Rattle.tcp.specs.declared.Mss.TheVariants as mss
 use Rattle.one_option.specs.Options.{Opt, asked, runs_past, short_length, options_after}
 use Rattle.one_option.specs.See.{later_mss, later_scale, trailing_nonzero, excessive_scaling, own_timestamp_zero, peer_timestamp_nonzero}
@@ -31,10 +29,9 @@ use Rattle.syn_options.proofs.Strict.{stop_place}
 use Rattle.syn_options.proofs.Entries.{walk_refused_over_forty}
 use Rattle.flow.specs.Reading.{read_packet}
 use Rattle.flow.proofs.Observed.{sound}
-use Rattle.sigrecord.specs.declared.Signature.{Signature}
 use Rattle.matching.specs.declared.SignatureFit.{SignatureFit}
 use Rattle.matching.specs.declared.SignatureFit.TheVariants as fit
-use Rattle.matching.specs.Fit.{features_of, fit_of}
+use Rattle.matching.specs.Fit.{features_of}
 use Rattle.matching.proofs.Rigid.{Rigid, fits_agree}
 use Rattle.acceptance.specs.OneWalk.{an_ethernet_mss, the_most_mss, ThePlaces, TheReaders, BadFits, OneWalk}
 use Rattle.acceptance.proofs.Outcome.{exact_none, fuzzy_none}

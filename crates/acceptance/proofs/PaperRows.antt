@@ -127,7 +127,7 @@ answer_same (answer.Refused r) o l = refl
 
 read_same
     : (mode : Mode) (p : List ℕ) (peer : Mss) (l : List ℕ) → packet_paper (answer_in mode p peer l) ≡ answer_paper
-        (read_in mode p peer).answer
+    (read_in mode p peer).answer
 unfolding answer_in
 read_same mode p peer l = answer_same (read_in mode p peer).answer (read_in mode p peer).observation l
 

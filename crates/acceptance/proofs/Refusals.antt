@@ -160,7 +160,7 @@ module _ (o : TcpObservation) (l : List ℕ) where
       by_count
           : (t : Bool)
           → cond {A = SearchAnswer} t search_answer.LayoutTooLong (after_list_check (check_list l) o l) ≡ search_answer.List
-              (why.BadRecord i)
+          (why.BadRecord i)
           → FirstBad l i
       by_count true e = let z : ◌≡◌ {A = ℕ} 0 1 = cc in absurd (omega arith)
       by_count false e = list_gives l i (after_refused (check_list l) (why.BadRecord i) e)

@@ -32,7 +32,6 @@ use Rattle.found.specs.declared.Hit.{Hit}
 use Rattle.found.specs.declared.Found.{Found}
 use Rattle.found.specs.declared.Found.TheVariants as found
 use Rattle.search.specs.declared.SearchAnswer.{SearchAnswer}
-use Rattle.search.specs.declared.SearchAnswer.TheVariants as answer
 use Rattle.search.specs.Search.{search_list}
 use Rattle.acceptance.specs.Values.{Values, example_list, after}
 

@@ -189,7 +189,7 @@ pub record BundleSame : Type 0 where
   -- the whole output, byte by byte, refusals 12, 9 and 10 included; `longer`: the input goes on past the buffer
   pub whole
       : (mode : Mode) (b c : List ℕ) (longer : Bool) → AlikeBundles b c
-          → output_of_input_in mode b longer ≡ output_of_input_in mode c longer
+      → output_of_input_in mode b longer ≡ output_of_input_in mode c longer
   -- Two bundles that differ in a free byte of a packet need not agree: that byte may be the list's.
   pub not_whole : Overlap
 

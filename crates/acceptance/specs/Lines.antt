@@ -1,6 +1,6 @@
 -- "Exact, fuzzy and none stay three answers", for who reads the output: what a line prints of an answer, that lines which print different
 -- things differ, and every word of the output. `Lines` is the statement.
-use Rattle.std.specs.Prelude.{◌≡◌, Bool, List, [], ◌∷◌, ◌↔◌, ℕ, ◌<◌}
+use Rattle.std.specs.Prelude.{◌≡◌, Bool, List, ◌↔◌, ℕ, ◌<◌}
 use Rattle.basis.specs.Bytes.{AllBytes}
 use Rattle.basis.specs.Ascii.{ascii}
 use Rattle.tcp.specs.declared.Mss.{Mss}

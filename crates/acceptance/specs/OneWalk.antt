@@ -17,10 +17,9 @@ use Rattle.syn_options.specs.declared.StopBefore.{StopBefore}
 use Rattle.syn_options.specs.declared.OptionsAnswer.TheVariants as parsing
 use Rattle.syn_options.specs.declared.WalkRead.{WalkRead}
 use Rattle.syn_options.specs.declared.OptionsRead.{OptionsRead}
-use Rattle.syn_options.specs.declared.ParsedTcpOptions.{ParsedTcpOptions}
 use Rattle.syn_options.specs.Walk.{walk_of, parsed_of, parse_options_raw, options_refusal}
-use Rattle.syn_options.specs.Places.{first_of, places_of, no_places, earlier, TheFirst}
-use Rattle.syn_options.specs.Stops.{nothing, past_the_end, damage, stops_before, stopped, walked_of, walk_with, walk_stopping}
+use Rattle.syn_options.specs.Places.{places_of, no_places, earlier, TheFirst}
+use Rattle.syn_options.specs.Stops.{nothing, past_the_end, damage, stopped, walked_of, walk_with, walk_stopping}
 use Rattle.syn_options.specs.Stops.{walk_options, refused_walk, read_options}
 use Rattle.ip.specs.declared.IpRead.{IpRead}
 use Rattle.ip.specs.declared.IpRead.TheVariants as ip

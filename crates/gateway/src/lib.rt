@@ -288,23 +288,13 @@ pub fn termread_answer(packet: &[u8], peer: u16, list: &[u8]) -> TermreadResult
 }
 
 // Both in any mode, as one number: bit 0 is strict, and the other bits are not read.
-pub fn termread_answer_checked_in(
-    packet: &[u8],
-    peer: u16,
-    list: &[u8],
-    bits: u8,
-) -> TermreadResult
+pub fn termread_answer_checked_in(packet: &[u8], peer: u16, list: &[u8], bits: u8) -> TermreadResult
     ensures { result ≡ packet_parts (answer_in (mode_of bits) packet.now (peer_of peer) list.now) }
 {
     answered(packet, peer, list, mode_of(bits))
 }
 
-pub fn termread_answer_in(
-    packet: &[u8],
-    peer: u16,
-    list: &[u8],
-    bits: u8,
-) -> TermreadResult
+pub fn termread_answer_in(packet: &[u8], peer: u16, list: &[u8], bits: u8) -> TermreadResult
     ensures { result ≡ parts_of (gateway_in (mode_of bits) packet.now peer list.now) }
 {
     match check_list(list) {
@@ -322,23 +312,14 @@ pub fn termread_raw_line(buffer: &mut [u8], packet: &[u8], peer: u16) -> Termrea
 }
 
 // The same in any mode.
-pub fn termread_raw_line_in(
-    buffer: &mut [u8],
-    packet: &[u8],
-    peer: u16,
-    bits: u8,
-) -> TermreadResult
+pub fn termread_raw_line_in(buffer: &mut [u8], packet: &[u8], peer: u16, bits: u8) -> TermreadResult
     ensures { Writes buffer.old (raw_line_in bits packet.now peer) result buffer.new }
 {
     packet_line(buffer, packet, peer, mode_of(bits))
 }
 
 // The line of record `index` of a list, in the same way: refusals 9, 10, 23 and 15.
-pub fn termread_record_line(
-    buffer: &mut [u8],
-    list: &[u8],
-    index: usize,
-) -> TermreadResult
+pub fn termread_record_line(buffer: &mut [u8], list: &[u8], index: usize) -> TermreadResult
     ensures { Writes buffer.old (record_parts list.now index) result buffer.new }
 {
     wrote_parts(0, write_record(buffer, list, index))

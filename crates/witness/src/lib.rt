@@ -235,11 +235,7 @@ fn plain_progress(progress: report::Progress) -> PlainProgress
 }
 
 // The first page of a bundle's output in such a mode, and the next one after a progress.
-pub fn witness_first_page(
-    bundle: &[u8],
-    page: &mut [u8; PAGE],
-    bits: u8,
-) -> PlainProgress
+pub fn witness_first_page(bundle: &[u8], page: &mut [u8; PAGE], bits: u8) -> PlainProgress
     ensures { Paged page.old (first_of bits bundle.now) result page.new }
 {
     plain_progress(report::first_page_in(bundle, false, page, mode_of(bits)))

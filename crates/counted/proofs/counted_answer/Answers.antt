@@ -1,6 +1,5 @@
 -- `counted::counted_answer` meets its contract.
 use Rattle.counted.specs.Counted.{counted_answer}
-use borrow.Author.Rules.{rules}
 use Rattle.counted.proofs.counted_answer.Goals as goal
 
 pub returns : goal.returns

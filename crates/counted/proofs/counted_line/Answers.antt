@@ -1,5 +1,4 @@
 -- `counted::counted_line` meets its contract.
-use borrow.Author.Rules.{rules}
 use Rattle.counted.proofs.counted_line.Goals as goal
 
 pub returns : goal.returns

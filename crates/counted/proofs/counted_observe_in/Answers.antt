@@ -1,6 +1,5 @@
 -- `counted::counted_observe_in` meets its contract.
 use Rattle.counted.specs.Counted.{counted_reading_in}
-use borrow.Author.Rules.{rules}
 use Rattle.counted.proofs.counted_observe_in.Goals as goal
 
 pub returns : goal.returns

@@ -1,6 +1,5 @@
 -- `counted::counted_read` meets its contract.
 use Rattle.counted.specs.Counted.{counted_kind}
-use borrow.Author.Rules.{rules}
 use Rattle.counted.proofs.counted_read.Goals as goal
 
 pub returns : goal.returns

@@ -1,6 +1,5 @@
 -- `counted::searched_code` meets its contract.
 use native.Mathlib.Omega.{arith}
-use borrow.Author.Rules.{rules}
 use Rattle.counted.proofs.searched_code.Goals as goal
 
 pub returns-in-None : goal.returns-in-None

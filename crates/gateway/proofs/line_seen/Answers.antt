@@ -1,4 +1,3 @@
-use borrow.Author.Rules.{rules}
 use Rattle.gateway.proofs.line_seen.Goals as goal
 
 pub returns : goal.returns

@@ -1,6 +1,5 @@
 use native.Mathlib.Omega.{arith}
 use Rattle.gateway.proofs.Marks.{mark_fits}
-use borrow.Author.Rules.{rules}
 use Rattle.gateway.proofs.marks_of.Goals as goal
 
 pub overflow_add-result : goal.overflow_add-result

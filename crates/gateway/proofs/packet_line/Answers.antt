@@ -1,7 +1,6 @@
 use mathlib.Core.Path.{refl}
 use Rattle.text.specs.Written.{written}
 use Rattle.gateway.specs.Lines.{packet_line_in}
-use borrow.Author.Rules.{rules}
 use Rattle.gateway.proofs.packet_line.Goals as goal
 
 pub returns-in-Syn : goal.returns-in-Syn

@@ -1,5 +1,4 @@
 use Rattle.gateway.specs.Parts.{packet_parts}
-use borrow.Author.Rules.{rules}
 use Rattle.gateway.proofs.packet_parts.Goals as goal
 
 pub returns-in-Syn : goal.returns-in-Syn

@@ -6,7 +6,6 @@ use Rattle.refusals.specs.declared.Refusal.TheVariants as refusal
 use Rattle.refusals.specs.Refusals.{number}
 use Rattle.gateway.specs.Parts.{refused}
 use Rattle.gateway.specs.Lines.{refusal_parts}
-use borrow.Author.Rules.{rules}
 use Rattle.gateway.proofs.refusal_parts.Goals as goal
 
 -- What is neither a packet's refusal nor a list's returns nothing.

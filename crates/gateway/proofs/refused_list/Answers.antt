@@ -1,5 +1,4 @@
 use Rattle.gateway.specs.Parts.{refused_list}
-use borrow.Author.Rules.{rules}
 use Rattle.gateway.proofs.refused_list.Goals as goal
 
 pub returns : goal.returns

@@ -1,5 +1,4 @@
 use Rattle.gateway.specs.Parts.{searched_parts}
-use borrow.Author.Rules.{rules}
 use Rattle.gateway.proofs.searched_parts.Goals as goal
 
 pub returns-then-hit : goal.returns-then-hit

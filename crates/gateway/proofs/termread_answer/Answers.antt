@@ -3,7 +3,6 @@ use Rattle.gateway.specs.Parts.{gateway_answer}
 use Rattle.flow.specs.Reading.{read_packet}
 use Rattle.flow.specs.Modes.{read_in}
 use Rattle.packet_answer.specs.Packet.{answer_of, answer_in}
-use borrow.Author.Rules.{rules}
 use Rattle.gateway.proofs.termread_answer.Goals as goal
 
 pub returns-in-Good : goal.returns-in-Good

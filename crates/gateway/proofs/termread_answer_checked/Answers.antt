@@ -1,7 +1,6 @@
 use Rattle.flow.specs.Reading.{read_packet}
 use Rattle.flow.specs.Modes.{read_in}
 use Rattle.packet_answer.specs.Packet.{answer_of, answer_in}
-use borrow.Author.Rules.{rules}
 use Rattle.gateway.proofs.termread_answer_checked.Goals as goal
 
 pub returns : goal.returns

@@ -1,6 +1,5 @@
 use mathlib.Core.Path.{sym, ◌∙◌}
 use Rattle.gateway.specs.Parts.{gateway_in}
-use borrow.Author.Rules.{rules}
 use Rattle.gateway.proofs.termread_answer_in.Goals as goal
 
 pub returns-in-Good : goal.returns-in-Good

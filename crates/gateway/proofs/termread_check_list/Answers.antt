@@ -1,6 +1,5 @@
 use mathlib.Core.Path.{sym, ◌∙◌}
 use Rattle.gateway.specs.Parts.{list_parts}
-use borrow.Author.Rules.{rules}
 use Rattle.gateway.proofs.termread_check_list.Goals as goal
 
 pub returns-in-Good : goal.returns-in-Good

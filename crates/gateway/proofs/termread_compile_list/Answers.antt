@@ -1,5 +1,4 @@
 use Rattle.gateway.specs.Compiled.{compile_parts}
-use borrow.Author.Rules.{rules}
 use Rattle.gateway.proofs.termread_compile_list.Goals as goal
 
 pub returns : goal.returns

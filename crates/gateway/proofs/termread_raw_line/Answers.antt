@@ -1,7 +1,6 @@
 use Rattle.flow.specs.Modes.{read_in}
 use Rattle.flow.specs.Reading.{read_packet}
 use Rattle.gateway.specs.Lines.{packet_line_in, raw_line}
-use borrow.Author.Rules.{rules}
 use Rattle.gateway.proofs.termread_raw_line.Goals as goal
 
 pub returns : goal.returns

@@ -1,4 +1,3 @@
-use borrow.Author.Rules.{rules}
 use Rattle.gateway.proofs.termread_raw_line_in.Goals as goal
 
 pub returns : goal.returns

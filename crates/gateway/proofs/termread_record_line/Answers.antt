@@ -1,5 +1,4 @@
 use Rattle.gateway.specs.Lines.{record_parts}
-use borrow.Author.Rules.{rules}
 use Rattle.gateway.proofs.termread_record_line.Goals as goal
 
 pub returns : goal.returns

@@ -1,5 +1,4 @@
 use Rattle.gateway.specs.Lines.{wrote_parts}
-use borrow.Author.Rules.{rules}
 use Rattle.gateway.proofs.wrote_parts.Goals as goal
 
 pub returns-in-Line : goal.returns-in-Line

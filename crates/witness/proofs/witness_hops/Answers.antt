@@ -1,7 +1,6 @@
 -- `witness::witness_hops` meets its contract.
 use Rattle.basis.proofs.Rules.{cases}
 use Rattle.witness.specs.Taken.{hops_read}
-use borrow.Author.Rules.{rules}
 use Rattle.witness.proofs.witness_hops.Goals as goal
 
 pub returns-then-ttls-lt6 : goal.returns-then-ttls-lt6

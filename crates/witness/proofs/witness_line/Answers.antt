@@ -1,6 +1,5 @@
 -- `witness::witness_line` meets its contract.
 use Rattle.witness.specs.Lined.{line_read}
-use borrow.Author.Rules.{rules}
 use Rattle.witness.proofs.witness_line.Goals as goal
 
 pub returns : goal.returns

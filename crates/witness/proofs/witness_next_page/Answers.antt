@@ -1,6 +1,5 @@
 -- `witness::witness_next_page` meets its contract.
 use mathlib.Core.Path.{refl}
-use borrow.Author.Rules.{rules}
 use Rattle.witness.proofs.witness_next_page.Goals as goal
 
 pub returns : goal.returns

@@ -1,6 +1,5 @@
 -- `witness::witness_options` meets its contract.
 use Rattle.witness.specs.Written.{options_read}
-use borrow.Author.Rules.{rules}
 use Rattle.witness.proofs.witness_options.Goals as goal
 
 pub returns : goal.returns

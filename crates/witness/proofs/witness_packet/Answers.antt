@@ -1,6 +1,5 @@
 -- `witness::witness_packet` meets its contract.
 use Rattle.witness.specs.Written.{packet_read}
-use borrow.Author.Rules.{rules}
 use Rattle.witness.proofs.witness_packet.Goals as goal
 
 pub returns : goal.returns

@@ -1,7 +1,6 @@
 -- `witness::witness_raw` meets its contract.
 use mathlib.Core.Path.{refl}
 use Rattle.witness.specs.Wrote.{raw_line}
-use borrow.Author.Rules.{rules}
 use Rattle.witness.proofs.witness_raw.Goals as goal
 
 pub returns : goal.returns

@@ -1,7 +1,6 @@
 -- `witness::witness_record` meets its contract.
 use mathlib.Core.Path.{refl}
 use Rattle.witness.specs.Wrote.{line_at}
-use borrow.Author.Rules.{rules}
 use Rattle.witness.proofs.witness_record.Goals as goal
 
 pub returns : goal.returns

@@ -1,6 +1,5 @@
 -- `witness::witness_search` meets its contract.
 use Rattle.witness.specs.Taken.{search_read}
-use borrow.Author.Rules.{rules}
 use Rattle.witness.proofs.witness_search.Goals as goal
 
 pub returns : goal.returns

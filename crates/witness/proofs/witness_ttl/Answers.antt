@@ -1,5 +1,4 @@
 -- `witness::witness_ttl` meets its contract.
-use borrow.Author.Rules.{rules}
 use Rattle.witness.specs.Written.{ttl_read}
 use Rattle.witness.proofs.witness_ttl.Goals as goal
 

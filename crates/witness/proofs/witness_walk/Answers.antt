@@ -1,7 +1,6 @@
 -- `witness::witness_walk` meets its contract.
 use Rattle.quirks.proofs.Named.{empty_bits}
 use Rattle.witness.specs.Walked.{walk_read}
-use borrow.Author.Rules.{rules}
 use Rattle.witness.proofs.witness_walk.Goals as goal
 
 pub returns : goal.returns

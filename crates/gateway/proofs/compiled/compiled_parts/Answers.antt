@@ -1,6 +1,5 @@
 use Rattle.gateway.specs.Compiled.{compiled_parts}
 use mathlib.Core.Path.{refl}
-use borrow.Author.Rules.{rules}
 use Rattle.gateway.proofs.compiled.compiled_parts.Goals as goal
 
 pub returns-in-List : goal.returns-in-List

@@ -1,6 +1,5 @@
 -- `witness::plain_line` meets its contract.
 use Rattle.witness.specs.Lined.{plain_line}
-use borrow.Author.Rules.{rules}
 use Rattle.witness.proofs.lined.plain_line.Goals as goal
 
 pub returns : goal.returns

@@ -1,6 +1,5 @@
 -- `witness::plain_search` meets its contract.
 use Rattle.witness.specs.Written.{plain_search}
-use borrow.Author.Rules.{rules}
 use Rattle.witness.proofs.searched.plain_search.Goals as goal
 
 pub returns-in-Searched : goal.returns-in-Searched

@@ -1,6 +1,5 @@
 -- `witness::plain_searched` meets its contract.
 use Rattle.witness.specs.Written.{plain_searched}
-use borrow.Author.Rules.{rules}
 use Rattle.witness.proofs.searched.plain_searched.Goals as goal
 
 pub returns-in-None : goal.returns-in-None

@@ -1,6 +1,5 @@
 -- `witness::observation_of` meets its contract.
 use Rattle.witness.specs.Taken.{observation_of}
-use borrow.Author.Rules.{rules}
 use Rattle.witness.proofs.taken.observation_of.Goals as goal
 
 pub returns : goal.returns

@@ -1,6 +1,5 @@
 -- `witness::plain_walk` meets its contract.
 use Rattle.witness.specs.Walked.{plain_walk}
-use borrow.Author.Rules.{rules}
 use Rattle.witness.proofs.walked.plain_walk.Goals as goal
 
 pub returns : goal.returns

@@ -1,6 +1,5 @@
 -- `witness::plain_observation` meets its contract.
 use Rattle.witness.specs.Written.{plain_observation}
-use borrow.Author.Rules.{rules}
 use Rattle.witness.proofs.written.plain_observation.Goals as goal
 
 pub returns : goal.returns

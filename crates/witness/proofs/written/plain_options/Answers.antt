@@ -1,6 +1,5 @@
 -- `witness::plain_options` meets its contract.
 use Rattle.witness.specs.Written.{plain_options}
-use borrow.Author.Rules.{rules}
 use Rattle.witness.proofs.written.plain_options.Goals as goal
 
 pub returns : goal.returns

@@ -1,6 +1,5 @@
 -- `witness::plain_packet` meets its contract.
 use Rattle.witness.specs.Written.{plain_packet}
-use borrow.Author.Rules.{rules}
 use Rattle.witness.proofs.written.plain_packet.Goals as goal
 
 pub returns : goal.returns

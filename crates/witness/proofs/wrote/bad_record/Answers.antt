@@ -1,5 +1,4 @@
 -- `witness::bad_record` meets its contract.
-use borrow.Author.Rules.{rules}
 use Rattle.witness.proofs.wrote.bad_record.Goals as goal
 
 -- Of a list's refusal.

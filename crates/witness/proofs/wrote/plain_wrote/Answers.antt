@@ -1,6 +1,5 @@
 -- `witness::plain_wrote` meets its contract.
 use Rattle.witness.specs.Wrote.{plain_wrote}
-use borrow.Author.Rules.{rules}
 use Rattle.witness.proofs.wrote.plain_wrote.Goals as goal
 
 pub returns-in-Line : goal.returns-in-Line
