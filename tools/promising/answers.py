@@ -18,8 +18,9 @@ def shown(promise):
 
     def named(match):
         word, alias = match.group(), match.group().split(".")[0]
-        if word not in given and word in file.names and file.names[word].startswith("Rattle.") and not file.names[word].startswith("Rattle.std."):
-            return f"{file.names[word].rpartition('.')[2]}.{word}"
+        module = file.names.get(word, "")
+        if word not in given and module.startswith("Rattle.") and not module.startswith("Rattle.std."):
+            return f"{module.rpartition('.')[2]}.{word}"
         if "." in word[1:] and alias in file.aliases:
             return file.aliases[alias].rpartition(".")[2] + word[len(alias):]
         return word.strip("«»")

@@ -75,6 +75,7 @@ module _ (l b : List ℕ) where
   unfolding write_file
   list_refused_lem r e = rw e (refused_so b (refusal.List r))
 
-  pub its_file : (r : Wrote) (b' : List ℕ) → check_list l ≡ list.Good → Writes b (line_into (file_text l)) r b' → Writes b (write_file l) r b'
+  pub its_file : (r : Wrote) (b' : List ℕ) → check_list l ≡ list.Good → Writes b (line_into (file_text l)) r b'
+      → Writes b (write_file l) r b'
   unfolding write_file
   its_file r b' e w = rw e w
