@@ -21,7 +21,7 @@ all_entries kinds bytes count = refl
 
 next_byte
     : (row : List ℕ) (count i : ℕ) → i < count → count ≤ length row
-        → drop i (take count row) ≡ byte_at row i ∷ drop (i + 1) (take count row)
+    → drop i (take count row) ≡ byte_at row i ∷ drop (i + 1) (take count row)
 next_byte row count i h k =
     drop-cons (take count row) i 0 (omega (arith, length-take count row))
     ∙ ap₂ (λ (b : ℕ) (j : ℕ). b ∷ drop j (take count row)) (get_or-take count row i 0 h) (sym (add-one i))

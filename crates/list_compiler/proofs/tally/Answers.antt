@@ -65,7 +65,7 @@ loop-at-preserved c =
       c.if-entries-gt-MOST_ENTRIES.false,
       counts_on _ l.at c.loop-at-test.true line.result line.ensures l.number l.signatures l.entries
           l.invariant.2 l.invariant.3 one.result one.ensures c.if-signatures-gt-MOST_SIGNATURES.false c.if-entries-gt-MOST_ENTRIES.false
-              ∙ l.invariant.4,
+          ∙ l.invariant.4,
     )
 
 pub returns : goal.returns

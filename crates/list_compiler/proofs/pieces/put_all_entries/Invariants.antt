@@ -13,7 +13,7 @@ abbrev pub invariant-loop-at : goal.invariant-loop-at
 invariant-loop-at l = (l.at ≤ length l.file + 1)
     × (length l.buffer ≡ length l.initial.buffer)
     × ((n : ℕ) (b : List ℕ) → Put l.buffer l.next (entries_text (meanings_from l.file l.at)) n b
-        → Put l.initial.buffer l.start (file_entries l.file) n b)
+    → Put l.initial.buffer l.start (file_entries l.file) n b)
 
 abbrev pub decreases-loop-at : goal.decreases-loop-at
 decreases-loop-at l = length l.file + 1 - l.at

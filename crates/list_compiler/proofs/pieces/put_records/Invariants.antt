@@ -15,7 +15,7 @@ invariant-loop-at l = (l.at ≤ length l.file + 1)
     × (length l.buffer ≡ length l.initial.buffer)
     × (l.first + entry_total (meanings_from l.file l.at) ≤ most_entries)
     × ((n : ℕ) (b : List ℕ) → Put l.buffer l.next (records_text l.first (meanings_from l.file l.at)) n b
-        → Put l.initial.buffer l.start (file_records l.file) n b)
+    → Put l.initial.buffer l.start (file_records l.file) n b)
 
 abbrev pub decreases-loop-at : goal.decreases-loop-at
 decreases-loop-at l = length l.file + 1 - l.at
