@@ -15,7 +15,7 @@ use Rattle.search.proofs.finding.search_records.Goals.{then-rank-best, else-rank
 pub returns-then-observed-gt40 : goal.returns-then-observed-gt40
 returns-then-observed-gt40 c =
     let size = c.requires.records in
-    c.none_of.ensures ∙ answers _ _ _ _ (sym (none_fits _ _ _ _ (over_forty _ _ _ _ c.if-observed-gt40.true) _)) size
+    c.none_of.ensures ∙ answers _ _ _ _ (sym (none_fits _ _ _ _ (over_forty _ _ _ _ (omega (arith, c.if-observed-gt40.true))) _)) size
 
 pub loop-i-init : goal.loop-i-init
 loop-i-init c = (search rules, refl, c.requires, at_start _ _ _ _, refl, omega arith)
@@ -46,7 +46,7 @@ returns-then-rank-eq0 c =
     let found = c.candidate_at-found in
     let next = c.next_candidate-i in
     let l = c.loop-i in
-    let zero = sym rank.ensures ∙ c.if-rank-eq0.true in
+    let zero : rank_of found.result ≡ 0 = omega (arith, rank.ensures, c.if-rank-eq0.true) in
     let size = record_count c.args.list.now in
     answers size _ _ _
     (rw (← l.invariant.2.records)
