@@ -1,6 +1,7 @@
 // What tools/benchmark links of the library `counted`: each export calls the function of its name, and promises what it promises.
 
 #![tactic(auto)]
+
 ghost use Rattle.std.specs.Prelude.{◌≡◌};
 ghost use Rattle.flow.specs.Modes.{mode_of};
 ghost use Rattle.counted.specs.Counted.{counted_reading, counted_reading_in, counted_kind, counted_answer};

@@ -1,6 +1,7 @@
 // What C links of the library `gateway`: each export calls the function of its name, and promises what it promises.
 
 #![tactic(auto)]
+
 ghost use Rattle.std.specs.Prelude.{◌≡◌};
 ghost use Rattle.siglist.specs.List.{check_list};
 ghost use Rattle.flow.specs.Modes.{mode_of};
@@ -39,14 +40,24 @@ pub extern "C" fn termread_answer(packet: &[u8], peer: u16, list: &[u8]) -> Term
 
 // Both in any mode, as one number: bit 0 is strict, and the other bits are not read.
 #[unsafe(no_mangle)]
-pub extern "C" fn termread_answer_checked_in(packet: &[u8], peer: u16, list: &[u8], bits: u8) -> TermreadResult
+pub extern "C" fn termread_answer_checked_in(
+    packet: &[u8],
+    peer: u16,
+    list: &[u8],
+    bits: u8,
+) -> TermreadResult
     ensures { result ≡ packet_parts (answer_in (mode_of bits) packet.now (peer_of peer) list.now) }
 {
     gateway::termread_answer_checked_in(packet, peer, list, bits)
 }
 
 #[unsafe(no_mangle)]
-pub extern "C" fn termread_answer_in(packet: &[u8], peer: u16, list: &[u8], bits: u8) -> TermreadResult
+pub extern "C" fn termread_answer_in(
+    packet: &[u8],
+    peer: u16,
+    list: &[u8],
+    bits: u8,
+) -> TermreadResult
     ensures { result ≡ parts_of (gateway_in (mode_of bits) packet.now peer list.now) }
 {
     gateway::termread_answer_in(packet, peer, list, bits)
@@ -63,7 +74,12 @@ pub extern "C" fn termread_raw_line(buffer: &mut [u8], packet: &[u8], peer: u16)
 
 // The same in any mode.
 #[unsafe(no_mangle)]
-pub extern "C" fn termread_raw_line_in(buffer: &mut [u8], packet: &[u8], peer: u16, bits: u8) -> TermreadResult
+pub extern "C" fn termread_raw_line_in(
+    buffer: &mut [u8],
+    packet: &[u8],
+    peer: u16,
+    bits: u8,
+) -> TermreadResult
     ensures { Writes buffer.old (raw_line_in bits packet.now peer) result buffer.new }
 {
     gateway::termread_raw_line_in(buffer, packet, peer, bits)
@@ -71,7 +87,11 @@ pub extern "C" fn termread_raw_line_in(buffer: &mut [u8], packet: &[u8], peer: u
 
 // The line of record `index` of a list, in the same way: refusals 9, 10, 23 and 15.
 #[unsafe(no_mangle)]
-pub extern "C" fn termread_record_line(buffer: &mut [u8], list: &[u8], index: usize) -> TermreadResult
+pub extern "C" fn termread_record_line(
+    buffer: &mut [u8],
+    list: &[u8],
+    index: usize,
+) -> TermreadResult
     ensures { Writes buffer.old (record_parts list.now index) result buffer.new }
 {
     gateway::termread_record_line(buffer, list, index)

@@ -1,6 +1,7 @@
 // What C drivers link of the library `witness`: each export calls the function of its name, and promises what it promises.
 
 #![tactic(auto)]
+
 ghost use Rattle.std.specs.Prelude.{◌≡◌};
 ghost use Rattle.text.specs.Written.{Writes};
 ghost use Rattle.witness.specs.Written.{packet_read, options_read, ttl_read, first_of, next_of, Paged};
@@ -10,7 +11,10 @@ ghost use Rattle.witness.specs.Walked.{walk_read};
 ghost use Rattle.witness.specs.Wrote.{raw_line, line_at};
 
 use report::PAGE;
-use witness::{PlainLine, PlainObservation, PlainOptions, PlainPacket, PlainProgress, PlainSearch, PlainTtl, PlainWalk, PlainWrote};
+use witness::{
+    PlainLine, PlainObservation, PlainOptions, PlainPacket, PlainProgress, PlainSearch, PlainTtl,
+    PlainWalk, PlainWrote,
+};
 
 // The reading of a packet, in a mode that is given as for C; a peer's MSS of 0 is an absent one.
 #[unsafe(no_mangle)]
@@ -85,14 +89,23 @@ pub extern "C" fn witness_hops(ttls: &[u8]) -> u8
 
 // The first page of a bundle's output in such a mode, and the next one after a progress.
 #[unsafe(no_mangle)]
-pub extern "C" fn witness_first_page(bundle: &[u8], page: &mut [u8; PAGE], bits: u8) -> PlainProgress
+pub extern "C" fn witness_first_page(
+    bundle: &[u8],
+    page: &mut [u8; PAGE],
+    bits: u8,
+) -> PlainProgress
     ensures { Paged page.old (first_of bits bundle.now) result page.new }
 {
     witness::witness_first_page(bundle, page, bits)
 }
 
 #[unsafe(no_mangle)]
-pub extern "C" fn witness_next_page(bundle: &[u8], progress: PlainProgress, page: &mut [u8; PAGE], bits: u8) -> PlainProgress
+pub extern "C" fn witness_next_page(
+    bundle: &[u8],
+    progress: PlainProgress,
+    page: &mut [u8; PAGE],
+    bits: u8,
+) -> PlainProgress
     ensures { Paged page.old (next_of bits bundle.now progress) result page.new }
 {
     witness::witness_next_page(bundle, progress, page, bits)
