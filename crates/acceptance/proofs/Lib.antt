@@ -37,6 +37,7 @@ pub mod Stages
 pub mod StrictValues
 pub mod TextLines
 pub mod TtlTable
+pub mod Uncited
 pub mod Unchecked
 pub mod Values
 pub mod WrittenLines
