@@ -1,7 +1,7 @@
 """What a contract says, in the words of a file of antt."""
 import re
 
-from promising.source import NUMBERS, Unfit, type_module
+from promising.source import NUMBERS, Unfit, parted, type_module
 
 # A contract that is a relation of a lent buffer, the result and the buffer at exit, by its name; and what a line of demand 1 says of it.
 RELATIONS = {"Put": "BufferAnswers", "Paged": "PageAnswers", "Writes": "LineAnswers"}
@@ -81,19 +81,42 @@ class Promise:
         return [atom(term) if self.form in ("equation", "part") else term for term in self.terms]
 
 
+def applied(f, name, types):
+    """A type that takes others, and what these bring in."""
+    said, brought = [], []
+    for one in types:
+        inner, names = antt_type(f, one)
+        said.append(atom(inner))
+        brought += names
+    return " ".join([name] + said), brought
+
+
 def antt_type(f, type_):
     """A type of a head, and what it brings in."""
     if type_ in NUMBERS:
         return "ℕ", []
     if type_ == "bool":
         return "Bool", []
+    if type_ == "()":
+        return "Unit {0}", []
+    generic = re.fullmatch(r"(Option|Result)<(.*)>", type_ or "", re.S)
+    if generic:
+        return applied(f, generic.group(1), parted(generic.group(2)))
+    if (type_ or "").startswith("("):
+        said, brought = applied(f, "", parted(type_[1:-1]))
+        return " × ".join(arguments(said)[1:]), brought
     row = re.fullmatch(r"(&(?:'\w+ )?(mut )?)?\[(\w+)(?:; [^\]]+)?\]", type_)
     if row and row.group(3) in NUMBERS:
         return ("MutBor (List ℕ)" if row.group(2) else "Bor (List ℕ)" if row.group(1) else "List ℕ"), []
     rows = re.fullmatch(r"\[\[(\w+); \w+\]; \w+\]", type_ or "")
     if rows and rows.group(1) in NUMBERS:
         return "List (List ℕ)", []
-    if re.fullmatch(r"\w+", type_ or ""):
-        crate, module = type_module(f, type_)
-        return type_, [(f"Rattle.{crate}.specs.{module}", type_)]
+    told = re.fullmatch(r"(&(?:'\w+ )?(?:mut )?)?(\w+)(?:<'\w+>)?", type_ or "")
+    if told:
+        crate, module = type_module(f, told.group(2))
+        said = f"{'MutBor' if 'mut ' in (told.group(1) or '') else 'Bor'} {told.group(2)}" if told.group(1) else told.group(2)
+        return said, [(f"Rattle.{crate}.specs.{module}", told.group(2))]
+    rows = re.fullmatch(r"\[(\w+); \w+\]", type_ or "")
+    if rows:
+        return applied(f, "List", [rows.group(1)])
     raise Unfit(f"no form for the type {type_}")

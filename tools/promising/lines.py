@@ -11,6 +11,12 @@ BASE = {
     "ℕ": "Rattle.std.specs.Prelude",
     "Bool": "Rattle.std.specs.Prelude",
     "List": "Rattle.std.specs.Prelude",
+    "Option": "Rattle.std.specs.Prelude",
+    "Result": "Rattle.std.specs.Prelude",
+    "Some": "Rattle.std.specs.Prelude",
+    "None": "Rattle.std.specs.Prelude",
+    "Ok": "Rattle.std.specs.Prelude",
+    "Err": "Rattle.std.specs.Prelude",
     "◌≡◌": "Rattle.std.specs.Prelude",
     "refl": "Rattle.std.specs.Prelude",
     "Lfts": "contract.Lifetimes",
@@ -125,7 +131,7 @@ def stated(name, bound, rows, indent):
     rows = [[("→ " if bound else ": ") + rows[0][0]] + rows[0][1:]] + rows[1:]
     joined = [word for row in rows for word in row]
     lines = [" ".join(joined)] if len(deep + " ".join(joined)) <= WIDTH else [folded(row, deep) for row in rows]
-    head = [f"{indent}pub {name}"] + ([deep + folded([": " + bound], deep)] if bound else [])
+    head = [f"{indent}pub {name}"] + ([deep + folded(re.split(r"(?<=\)) (?=\()", ": " + bound), deep)] if bound else [])
     return "\n".join(head + [deep + line for line in lines]) + "\n"
 
 

@@ -7,7 +7,7 @@ ROOT = os.path.dirname(os.path.dirname(os.path.dirname(os.path.abspath(__file__)
 # No part of the product: their functions have no line of demand 1.
 BESIDE = {"witness", "counted"}
 # They call the system, whose answers no equation can promise: their functions have neither uniqueness nor a line of demand 1.
-SYSTEM = {"streams"}
+SYSTEM = {"streams", "bundle_lines"}
 NUMBERS = {"u8", "u16", "u32", "u64", "usize"}
 HEAD = re.compile(r'^( *)(?:#\[unsafe\(no_mangle\)\]\s*)?pub\s+(?:extern\s+"C"\s+)?fn\s+(\w+)\s*', re.M)
 PARAMETER = re.compile(r"(?:mut\s+)?(\w+)\s*:\s*(.*)", re.S)
@@ -81,6 +81,16 @@ def balanced(text, at):
     raise Unfit("a bracket does not close")
 
 
+def angle(text, at):
+    """Where the row of generic parameters that opens at a place closes; the `>` of an arrow closes none."""
+    depth = 0
+    for i in range(at, len(text)):
+        depth += (text[i] == "<") - (text[i] == ">" and text[i - 1] != "-")
+        if depth == 0:
+            return i
+    raise Unfit("a row of generic parameters does not close")
+
+
 def parted(text):
     """The parts of a row between its outer commas."""
     parts, depth, last = [], 0, 0
@@ -94,7 +104,7 @@ def parted(text):
 
 def owner_at(text, place):
     """The type whose `impl` block a place lies in."""
-    blocks = [m for m in re.finditer(r"^impl (\w+)", text[:place], re.M)]
+    blocks = [m for m in re.finditer(r"^impl(?:<[^>]*>)? (\w+)", text[:place], re.M)]
     return blocks[-1].group(1) if blocks and not re.search(r"^}", text[blocks[-1].start():place], re.M) else ""
 
 
@@ -106,13 +116,13 @@ def function_at(file, head):
     f.file = file
     at, named = head.end(), set()
     if text[at] == "<":
-        end = text.index(">", at)
+        end = angle(text, at)
         named = set(re.findall(r"'\w+", text[at:end]))
         at = end + 1
     end = balanced(text, at)
     for part in parted(text[at + 1:end]):
-        if part in ("self", "mut self"):
-            f.parameters.append(("self", f.owner))
+        if part in ("self", "mut self", "&self", "&mut self"):
+            f.parameters.append(("self", part.removeprefix("mut ").replace("self", f.owner)))
             continue
         name, type_ = PARAMETER.fullmatch(part).groups()
         f.parameters.append((name, type_.replace("Self", f.owner)))

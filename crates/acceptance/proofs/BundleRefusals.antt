@@ -1,4 +1,5 @@
 -- The refusals of bundles.
+use Rattle.std.specs.Prelude.{Result, Ok, Err}
 use mathlib.Core.Path.{◌≡◌, refl, ap}
 use mathlib.Core.Bool.{Bool, true, false, cond}
 use mathlib.Core.List.{List, [], ◌∷◌}
@@ -6,11 +7,9 @@ use Prim.Native.Nat.{ℕ, ◌<◌}
 use native.Mathlib.Omega.{arith}
 use lib.ListN.{length}
 use Rattle.refusals.specs.declared.ListRefusal.{ListRefusal}
-use Rattle.siglist.specs.declared.ListAnswer.{ListAnswer}
-use Rattle.siglist.specs.declared.ListAnswer.TheVariants as list_answer
 use Rattle.siglist.specs.List.{check_list, list_refusal}
-use Rattle.bundle.specs.declared.BundleCheck.{BundleCheck}
-use Rattle.bundle.specs.declared.BundleCheck.TheVariants as bundle_check
+use Rattle.bundle.specs.declared.BundleRefusal.{BundleRefusal}
+use Rattle.bundle.specs.declared.BundleRefusal.TheVariants as bundle_check
 use Rattle.bundle.specs.Bundle.{packet_count, list_of, bundle_fits, of_list, check_bundle, bundle_refusal}
 use Rattle.flow.specs.declared.Mode.{Mode}
 use Rattle.bundle.specs.Answers.{after_bundle_check, bundle_answer}
@@ -57,18 +56,19 @@ module _ (b : List ℕ) where
       by_fit true e = First.later (λ r. fit_not_unfit b e (as_unfit r)) (as_list of_list_lem)
       by_fit false e = First.here (as_row (unfit b e))
 
-  of_refused : (a : ListAnswer) (r : ListRefusal) → of_list a ≡ bundle_check.List r → a ≡ list_answer.Refused r
-  of_refused list_answer.Good r e = let z : ◌≡◌ {A = ℕ} 0 1 = cc in absurd (omega arith)
-  of_refused (list_answer.Refused s) r e = let same : s ≡ r = cc in ap list_answer.Refused same
+  of_refused : (a : Result (Unit {0}) ListRefusal) (r : ListRefusal) → of_list a ≡ Err (bundle_check.List r) → a ≡ Err r
+  of_refused (Ok tt) r e = let z : ◌≡◌ {A = ℕ} 0 1 = cc in absurd (omega arith)
+  of_refused (Err s) r e = let same : s ≡ r = cc in ap Err same
 
-  pub refused_of_list : (r : ListRefusal) → check_bundle b ≡ bundle_check.List r → check_list (list_of b) ≡ list_answer.Refused r
+  pub refused_of_list : (r : ListRefusal) → check_bundle b ≡ Err (bundle_check.List r) → check_list (list_of b) ≡ Err r
   unfolding check_bundle
   refused_of_list r = by_fit (bundle_fits b)
     where
       by_fit
           : (t : Bool)
-          → cond {A = BundleCheck} t (of_list (check_list (list_of b))) bundle_check.DoesNotFit ≡ bundle_check.List r
-          → check_list (list_of b) ≡ list_answer.Refused r
+          → cond {A = (Result (Unit {0}) BundleRefusal)} t (of_list (check_list (list_of b))) (Err bundle_check.DoesNotFit)
+          ≡ Err (bundle_check.List r)
+          → check_list (list_of b) ≡ Err r
       by_fit true e = of_refused (check_list (list_of b)) r e
       by_fit false e = let z : ◌≡◌ {A = ℕ} 0 1 = cc in absurd (omega arith)
 
@@ -76,11 +76,11 @@ module _ (b : List ℕ) where
   unfolding bundle_answer bundle_refusal
   none_beside mode = by_check (check_bundle b)
     where
-      by_check : (c : BundleCheck) → 0 < bundle_refusal c → (after_bundle_check mode c b).answers ≡ []
-      by_check bundle_check.Good h = absurd (omega arith)
-      by_check bundle_check.DoesNotFit h = refl
-      by_check (bundle_check.List r) h = refl
+      by_check : (c : Result (Unit {0}) BundleRefusal) → 0 < bundle_refusal c → (after_bundle_check mode c b).answers ≡ []
+      by_check (Ok tt) h = absurd (omega arith)
+      by_check (Err bundle_check.DoesNotFit) h = refl
+      by_check (Err (bundle_check.List r)) h = refl
 
-  pub answered : (mode : Mode) → check_bundle b ≡ bundle_check.Good → length (bundle_answer mode b).answers ≡ packet_count b
+  pub answered : (mode : Mode) → check_bundle b ≡ (Ok tt) → length (bundle_answer mode b).answers ≡ packet_count b
   unfolding bundle_answer
   answered mode good = rw good (all_answered mode b (good_fits b good))

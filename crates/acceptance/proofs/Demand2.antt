@@ -1,4 +1,5 @@
 -- Demand 2: the theorems of the crates, collected, and what the table of values shuts out.
+use Rattle.std.specs.Prelude.{Option, None, Ok, Err, Some, Result}
 use mathlib.Core.Path.{◌≡◌, refl, sym, ◌∙◌, ap}
 use mathlib.Core.Bool.{Bool, true, false, cond}
 use mathlib.Core.List.{List, []}
@@ -7,11 +8,9 @@ use native.Mathlib.Omega.{arith}
 use lib.Dec.{eqb}
 use borrow.Author.Tests.{lt-ltb, le-ltb}
 use Rattle.basis.specs.Bytes.{be16, be32, any_nonzero}
-use Rattle.tcp.specs.declared.Mss.TheVariants as mss
 use Rattle.quirks.specs.Quirks.{add_if, with, bit_of, place_of}
 use Rattle.quirks.specs.Named.{empty, from_quirks}
-use Rattle.window_size.specs.declared.Multiplier.{Multiplier}
-use Rattle.window_size.specs.declared.Multiplier.TheVariants as multiplier
+use Rattle.window_size.specs.declared.WindowMultiplier.{WindowMultiplier}
 use Rattle.window_size.specs.Multiplier.{multiplier_of}
 use Rattle.window_size.proofs.First.{exactly_if, the_first}
 use Rattle.observable.specs.declared.TcpObservation.{TcpObservation}
@@ -23,21 +22,21 @@ use Rattle.syn_options.specs.Walk.{entry_byte, put_entry, walk_from, walk_of}
 use Rattle.refusals.specs.declared.PacketRefusal.TheVariants as refusal
 use Rattle.refusals.specs.declared.ListRefusal.TheVariants as why
 use Rattle.ip.specs.Ip.{read_ip}
-use Rattle.flow.specs.declared.Answer.TheVariants as packet
+use Rattle.flow.specs.declared.Kind.TheVariants as kind
 use Rattle.flow.specs.declared.Reading.{Reading}
-use Rattle.flow.specs.Reading.{read_packet}
+use Rattle.flow.specs.Reading.{read_packet, kind_read, observation_read}
+use Rattle.refusals.specs.declared.PacketRefusal.{PacketRefusal}
 use Rattle.matching.specs.declared.SignatureFit.{SignatureFit}
 use Rattle.matching.specs.declared.SignatureFit.TheVariants as fit
 use Rattle.matching.specs.Fit.{features_of, fit_of}
 use Rattle.sigrecord.specs.Record.{signature_of, entry_count}
-use Rattle.siglist.specs.declared.ListAnswer.TheVariants as list
 use Rattle.siglist.specs.List.{record_count, list_fits, record_at, entries_of, record_good, check_list}
 use Rattle.siglist.proofs.FirstBad.{does_not_fit, each_good}
 use Rattle.found.specs.declared.Hit.{Hit}
 use Rattle.found.specs.declared.Found.{Found}
 use Rattle.found.specs.declared.Found.TheVariants as found
 use Rattle.found.specs.Examined.{examined_of, searched_in}
-use Rattle.search.specs.declared.SearchAnswer.TheVariants as answer
+use Rattle.search.specs.declared.SearchRefusal.TheVariants as answer
 use Rattle.found.specs.Rank.{found_of}
 use Rattle.search.specs.Search.{fit_at, hit_at, candidate_at, searched, search_list}
 use Rattle.search.proofs.Order.{single}
@@ -48,7 +47,7 @@ use Rattle.acceptance.proofs.Values.{same_found, values}
 
 -- ---- the multiplier
 
-either_way : (t : Bool) (m : Multiplier) → cond t m m ≡ m
+either_way : (t : Bool) (m : Option WindowMultiplier) → cond t m m ≡ m
 either_way true m = refl
 either_way false m = refl
 
@@ -59,9 +58,9 @@ multiplier_theorem =
       given_exactly_if = exactly_if;
       over_the_first = the_first;
       window_0 = λ own headers stamped version peer. refl;
-      mss_absent = λ window headers stamped version peer. either_way (eqb window 0) multiplier.Absent;
+      mss_absent = λ window headers stamped version peer. either_way (eqb window 0) None;
       mss_under_100 = λ window own headers stamped version peer h.
-          rw (lt-ltb own 100 h) (either_way (eqb window 0) multiplier.Absent);
+          rw (lt-ltb own 100 h) (either_way (eqb window 0) None);
     }
 
 -- ---- the single fit
@@ -86,10 +85,10 @@ one_answer
     : (hit : Hit) (x : SignatureFit) (y : Found)
     → hit.number ≡ 0
     → y ≡ found_of hit x
-    → answer.Searched (searched_in 1 y) ≡ after 1 (of_one hit x)
+    → Ok (searched_in 1 y) ≡ after 1 (of_one hit x)
 one_answer hit x y first e = rw (e, of_one_lem hit x, one_examined hit x first)
 
-module _ (l : List ℕ) (good : check_list l ≡ list.Good) where
+module _ (l : List ℕ) (good : check_list l ≡ (Ok tt)) where
   -- A good list fits, and its records are good.
   fits : list_fits l ≡ true
   fits = by_test (list_fits l) refl
@@ -114,17 +113,17 @@ single_fit o l few good one =
 
 -- ---- what is shut out
 
-answer_a : (read_packet packet_a mss.Absent).answer ≡ packet.Syn
-answer_a = ap (λ (x : Reading). x.answer) values.packet.packet_a_lem
+answer_a : kind_read (read_packet packet_a None) ≡ Ok (Some kind.Syn)
+answer_a = ap (λ (x : Result Reading PacketRefusal). (kind_read x)) values.packet.packet_a_lem
 
-window_a : (read_packet packet_a mss.Absent).observation.wsize ≡ 5840
-window_a = ap (λ (x : Reading). x.observation.wsize) values.packet.packet_a_lem
+window_a : (observation_read (read_packet packet_a None)).wsize ≡ 5840
+window_a = ap (λ (x : Result Reading PacketRefusal). (observation_read x).wsize) values.packet.packet_a_lem
 
-answer_of_nothing : (read_packet [] mss.Absent).answer ≡ packet.Refused refusal.Version
+answer_of_nothing : kind_read (read_packet [] None) ≡ Err refusal.Version
 unfolding read_packet read_ip
 answer_of_nothing = refl
 
-nothing_fits : search_list empty_observation [] ≡ answer.List why.DoesNotFit
+nothing_fits : search_list empty_observation [] ≡ Err (answer.List why.DoesNotFit)
 unfolding search_list check_list list_fits empty_observation empty_layout be16
 nothing_fits = refl
 
@@ -149,14 +148,14 @@ shut_out =
           omega arith;
       second_mss = refl;
       constant_reader = λ c h.
-          let e : packet.Syn ≡ packet.Refused refusal.Version =
-          sym answer_a ∙ ap (λ (x : Reading). x.answer) (h packet_a mss.Absent ∙ sym (h [] mss.Absent)) ∙ answer_of_nothing in
+          let e : (Ok (Some kind.Syn)) ≡ Err refusal.Version =
+          sym answer_a ∙ ap (λ (x : Result Reading PacketRefusal). (kind_read x)) (h packet_a None ∙ sym (h [] None)) ∙ answer_of_nothing in
           let z : ◌≡◌ {A = ℕ} 0 1 = cc in
           omega arith;
       constant_search = λ c h.
-          let e : after 1 (found.Exact the_record) ≡ answer.List why.DoesNotFit =
+          let e : after 1 (found.Exact the_record) ≡ Err (answer.List why.DoesNotFit) =
           sym values.search.exact
-          ∙ h (read_packet packet_a mss.Absent).observation example_list
+          ∙ h (observation_read (read_packet packet_a None)) example_list
           ∙ sym (h empty_observation [])
           ∙ nothing_fits in
           let z : ◌≡◌ {A = ℕ} 0 1 = cc in

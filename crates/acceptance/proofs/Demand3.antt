@@ -1,21 +1,23 @@
 -- Demand 3: the theorems of the crate alike, and what follows for the search and for what the functions return.
+use Rattle.std.specs.Prelude.{Option, Result, Ok, Err}
 use mathlib.Core.Path.{◌≡◌, refl, sym, ◌∙◌, ap, ap₂}
 use mathlib.Core.Bool.{Bool}
 use mathlib.Core.List.{List}
 use Prim.Native.Nat.{ℕ, zero, suc}
 use contract.Lifetimes.{Lfts}
 use denote.Ref.{Bor}
-use Rattle.tcp.specs.declared.Mss.{Mss}
 use Rattle.flow.specs.declared.Mode.{Mode}
 use Rattle.flow.specs.declared.Reading.{Reading}
 use Rattle.flow.specs.Modes.{mode_of, plain_mode, read_in}
-use Rattle.flow.specs.Reading.{read_packet}
-use Rattle.search.specs.declared.SearchAnswer.{SearchAnswer}
+use Rattle.flow.specs.Reading.{read_packet, observation_read}
+use Rattle.refusals.specs.declared.PacketRefusal.{PacketRefusal}
+use Rattle.found.specs.declared.Searched.{Searched}
+use Rattle.search.specs.declared.SearchRefusal.{SearchRefusal}
 use Rattle.search.specs.Search.{search_list}
 use Rattle.siglist.specs.List.{check_list}
 use Rattle.packet_answer.specs.Packet.{peer_of, answer_of, answer_in, after_reading}
-use Rattle.bundle.specs.declared.BundleCheck.{BundleCheck}
-use Rattle.bundle.specs.declared.BundleCheck.TheVariants as check
+use Rattle.bundle.specs.declared.BundleRefusal.{BundleRefusal}
+use Rattle.bundle.specs.declared.BundleRefusal.TheVariants as check
 use Rattle.bundle.specs.Bundle.{packet_count, packets_offset, list_of, packet_bytes, packet_peer, packet_end, packet_fits, packets_fit}
 use Rattle.bundle.specs.Bundle.{list_lies}
 use Rattle.bundle.specs.Bundle.{bundle_fits, check_bundle}
@@ -75,28 +77,29 @@ the_relation =
 -- ---- the same answer
 
 search_alike
-    : (mode : Mode) (p q : List ℕ) (peer : Mss) (l : List ℕ)
+    : (mode : Mode) (p q : List ℕ) (peer : Option ℕ) (l : List ℕ)
     → Alike p q
-    → search_list (read_in mode p peer).observation l ≡ search_list (read_in mode q peer).observation l
-search_alike mode p q peer l a = ap (λ (r : Reading). search_list r.observation l) (read_alike mode p q peer a)
+    → search_list (observation_read (read_in mode p peer)) l ≡ search_list (observation_read (read_in mode q peer)) l
+search_alike mode p q peer l a = ap (λ (r : Result Reading PacketRefusal). search_list (observation_read r) l) (read_alike mode p q peer a)
 
 -- Either function gives the reading of its mode.
 reading_of_lem
-    : {κs : Lfts 1} {packet : Bor (List ℕ)} {peer : Mss} {r : Reading} {mode : Mode}
+    : {κs : Lfts 1} {packet : Bor (List ℕ)} {peer : Option ℕ} {r : Result Reading PacketRefusal} {mode : Mode}
     → Read κs packet peer r mode
     → r ≡ read_in mode packet.now peer
 unfolding read_packet read_in
 reading_of_lem (Read.plainly e) = e
 reading_of_lem (Read.in_mode e) = e
 
-module _ (mode : Mode) (p q list : Bor (List ℕ)) (peer : Mss) (r s : Reading) (a b : SearchAnswer) (alike : Alike p.now q.now)
+module _ (mode : Mode) (p q list : Bor (List ℕ)) (peer : Option ℕ) (r s : Result Reading PacketRefusal)
+    (a b : Result Searched SearchRefusal) (alike : Alike p.now q.now)
     (x : Run mode p peer list r a) (y : Run mode q peer list s b) where
   same_reading : r ≡ s
   same_reading = reading_of_lem x.reads ∙ read_alike mode p.now q.now peer alike ∙ sym (reading_of_lem y.reads)
 
   same_search : a ≡ b
   same_search =
-      x.searches ∙ ap (λ (z : Reading). search_list z.observation list.now) same_reading ∙ sym y.searches
+      x.searches ∙ ap (λ (z : Result Reading PacketRefusal). search_list (observation_read z) list.now) same_reading ∙ sym y.searches
 
 same_answer : SameAnswer
 same_answer =
@@ -117,11 +120,11 @@ same_answer =
 -- ---- bundles and the gateway
 
 answer_alike
-    : (mode : Mode) (p q : List ℕ) (peer : Mss) (l : List ℕ) → Alike p q → answer_in mode p peer l ≡ answer_in mode q peer l
+    : (mode : Mode) (p q : List ℕ) (peer : Option ℕ) (l : List ℕ) → Alike p q → answer_in mode p peer l ≡ answer_in mode q peer l
 unfolding answer_in
-answer_alike mode p q peer l a = ap (λ (r : Reading). after_reading r l) (read_alike mode p q peer a)
+answer_alike mode p q peer l a = ap (λ (r : Result Reading PacketRefusal). after_reading r l) (read_alike mode p q peer a)
 
-plain_alike : (p q : List ℕ) (peer : Mss) (l : List ℕ) → Alike p q → answer_of p peer l ≡ answer_of q peer l
+plain_alike : (p q : List ℕ) (peer : Option ℕ) (l : List ℕ) → Alike p q → answer_of p peer l ≡ answer_of q peer l
 unfolding answer_of answer_in read_packet read_in
 plain_alike p q peer l a = answer_alike plain_mode p q peer l a
 
@@ -134,7 +137,7 @@ in_bundles
 unfolding answer_at
 in_bundles mode b c at to list peer alike =
     answer_alike mode (packet_bytes b at) (packet_bytes c to) (packet_peer b at) (list_of b) alike
-    ∙ ap₂ (λ (m : Mss) (l : List ℕ). answer_in mode (packet_bytes c to) m l) peer list
+    ∙ ap₂ (λ (m : Option ℕ) (l : List ℕ). answer_in mode (packet_bytes c to) m l) peer list
 
 gateway_alike
     : (mode : Mode) (p q : List ℕ) (peer : ℕ) (l : List ℕ) → Alike p q → gateway_in mode p peer l ≡ gateway_in mode q peer l
@@ -191,11 +194,11 @@ module _ (b c : List ℕ) (a : AlikeBundles b c) where
       answers_alike mode (packet_count b) (packets_offset b) a.packets
       ∙ ap₂ (λ (x y : ℕ). answers_from mode c x y) a.offset a.count
 
-  by_check : (mode : Mode) (x : BundleCheck) → check_bundle c ≡ x → output_in mode b ≡ output_in mode c
+  by_check : (mode : Mode) (x : Result (Unit {0}) BundleRefusal) → check_bundle c ≡ x → output_in mode b ≡ output_in mode c
   unfolding output_in bundle_answer
-  by_check mode check.Good e = rw (check_alike, e, same_answers mode, a.count)
-  by_check mode check.DoesNotFit e = rw (check_alike, e)
-  by_check mode (check.List r) e = rw (check_alike, e)
+  by_check mode (Ok tt) e = rw (check_alike, e, same_answers mode, a.count)
+  by_check mode (Err check.DoesNotFit) e = rw (check_alike, e)
+  by_check mode (Err (check.List r)) e = rw (check_alike, e)
 
 output_alike
     : (mode : Mode) (b c : List ℕ) (longer : Bool) → AlikeBundles b c → output_of_input_in mode b longer ≡ output_of_input_in mode c longer

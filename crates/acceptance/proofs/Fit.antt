@@ -1,4 +1,5 @@
 -- One record: exact exactly when nothing is tolerated, fuzzy exactly when something is, with its reason.
+use Rattle.std.specs.Prelude.{Option, Some, None}
 use mathlib.Core.Path.{◌≡◌, refl}
 use mathlib.Core.Bool.{Bool, true, false, cond, ◌&&◌}
 use mathlib.Core.List.{List}
@@ -10,9 +11,6 @@ use Rattle.distances.specs.declared.TtlFit.{TtlFit}
 use Rattle.distances.specs.declared.TtlFit.TheVariants as ttlfit
 use Rattle.matching.specs.declared.Features.{Features}
 use Rattle.matching.specs.declared.FuzzyReason.{FuzzyReason}
-use Rattle.matching.specs.declared.Hops.TheVariants as hops
-use Rattle.matching.specs.declared.QuirksFit.{QuirksFit}
-use Rattle.matching.specs.declared.QuirksFit.TheVariants as quirksfit
 use Rattle.sigrecord.specs.declared.Signature.{Signature}
 use Rattle.matching.specs.declared.SignatureFit.TheVariants as fit
 use Rattle.matching.specs.declared.Tolerated.{Tolerated}
@@ -23,17 +21,17 @@ use Rattle.matching.proofs.Laws.{Untolerated, exact_untolerated, untolerated_exa
 use Rattle.acceptance.specs.Honesty.{NothingTolerated, FitsExactly, ToleratedWith, FitsFuzzily}
 use Rattle.acceptance.proofs.Fails.{and_false}
 
-as_nothing : {t : TtlFit} {q : QuirksFit} → Untolerated t q → NothingTolerated t q
+as_nothing : {t : Option TtlFit} {q : Option Tolerated} → Untolerated t q → NothingTolerated t q
 as_nothing (Untolerated.nothing_tolerated a m) = NothingTolerated.nothing_tolerated a m
 
-as_untolerated : {t : TtlFit} {q : QuirksFit} → NothingTolerated t q → Untolerated t q
+as_untolerated : {t : Option TtlFit} {q : Option Tolerated} → NothingTolerated t q → Untolerated t q
 as_untolerated (NothingTolerated.nothing_tolerated a m) = Untolerated.nothing_tolerated a m
 
 -- What is fuzzy with the TTL in range has a quirk added or missing.
 in_range_fuzzy
     : (d : ℕ) (q : Tolerated) (r : FuzzyReason)
     → judge_in_range q ≡ fit.Fuzzy r
-    → ToleratedWith (ttlfit.InRange d) (quirksfit.Tolerated q) r
+    → ToleratedWith (Some (ttlfit.InRange d)) (Some q) r
 unfolding judge_in_range
 in_range_fuzzy d q r = by_tests (is_empty q.added) (is_empty q.missing) refl refl
   where
@@ -41,27 +39,27 @@ in_range_fuzzy d q r = by_tests (is_empty q.added) (is_empty q.missing) refl ref
         : (a m : Bool)
         → is_empty q.added ≡ a
         → is_empty q.missing ≡ m
-        → cond (a && m) fit.Exact (fit.Fuzzy (record { hops = hops.InRange; added = q.added; missing = q.missing })) ≡ fit.Fuzzy r
-        → ToleratedWith (ttlfit.InRange d) (quirksfit.Tolerated q) r
+        → cond (a && m) fit.Exact (fit.Fuzzy (record { hops = None; added = q.added; missing = q.missing })) ≡ fit.Fuzzy r
+        → ToleratedWith (Some (ttlfit.InRange d)) (Some q) r
     by_tests true true ea em e = let z : ◌≡◌ {A = ℕ} 0 1 = cc in absurd (omega arith)
     by_tests true false ea em e =
-        let same : record { hops = hops.InRange; added = q.added; missing = q.missing } ≡ r = cc in
+        let same : record { hops = None; added = q.added; missing = q.missing } ≡ r = cc in
         rw (← same) (ToleratedWith.a_missing em)
     by_tests false m ea em e =
-        let same : record { hops = hops.InRange; added = q.added; missing = q.missing } ≡ r = cc in
+        let same : record { hops = None; added = q.added; missing = q.missing } ≡ r = cc in
         rw (← same) (ToleratedWith.an_added ea)
 
-fuzzy_tolerated : (t : TtlFit) (q : QuirksFit) (r : FuzzyReason) → judge t q ≡ fit.Fuzzy r → ToleratedWith t q r
+fuzzy_tolerated : (t : Option TtlFit) (q : Option Tolerated) (r : FuzzyReason) → judge t q ≡ fit.Fuzzy r → ToleratedWith t q r
 unfolding judge
-fuzzy_tolerated ttlfit.Rejected q r e = let z : ◌≡◌ {A = ℕ} 0 1 = cc in absurd (omega arith)
-fuzzy_tolerated (ttlfit.InRange d) quirksfit.Rejected r e = let z : ◌≡◌ {A = ℕ} 0 1 = cc in absurd (omega arith)
-fuzzy_tolerated (ttlfit.InRange d) (quirksfit.Tolerated q) r e = in_range_fuzzy d q r e
-fuzzy_tolerated (ttlfit.OutOfRange d) quirksfit.Rejected r e = let z : ◌≡◌ {A = ℕ} 0 1 = cc in absurd (omega arith)
-fuzzy_tolerated (ttlfit.OutOfRange d) (quirksfit.Tolerated q) r e =
-    let same : record { hops = hops.OutOfRange d; added = q.added; missing = q.missing } ≡ r = cc in
+fuzzy_tolerated None q r e = let z : ◌≡◌ {A = ℕ} 0 1 = cc in absurd (omega arith)
+fuzzy_tolerated (Some (ttlfit.InRange d)) None r e = let z : ◌≡◌ {A = ℕ} 0 1 = cc in absurd (omega arith)
+fuzzy_tolerated (Some (ttlfit.InRange d)) (Some q) r e = in_range_fuzzy d q r e
+fuzzy_tolerated (Some (ttlfit.OutOfRange d)) None r e = let z : ◌≡◌ {A = ℕ} 0 1 = cc in absurd (omega arith)
+fuzzy_tolerated (Some (ttlfit.OutOfRange d)) (Some q) r e =
+    let same : record { hops = Some d; added = q.added; missing = q.missing } ≡ r = cc in
     rw (← same) ToleratedWith.out_of_range
 
-tolerated_fuzzy : {t : TtlFit} {q : QuirksFit} {r : FuzzyReason} → ToleratedWith t q r → judge t q ≡ fit.Fuzzy r
+tolerated_fuzzy : {t : Option TtlFit} {q : Option Tolerated} {r : FuzzyReason} → ToleratedWith t q r → judge t q ≡ fit.Fuzzy r
 unfolding judge judge_in_range
 tolerated_fuzzy ToleratedWith.out_of_range = refl
 tolerated_fuzzy (ToleratedWith.an_added a) = rw a

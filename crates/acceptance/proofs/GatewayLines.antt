@@ -1,4 +1,5 @@
 -- The lines that a gateway gets: what is said of them is true of every packet and of every list.
+use Rattle.std.specs.Prelude.{Result}
 use mathlib.Core.Path.{◌≡◌, refl, ap}
 use mathlib.Core.List.{List}
 use Prim.Native.Nat.{ℕ}
@@ -7,6 +8,7 @@ use Rattle.flow.specs.declared.Mode.{Mode}
 use Rattle.flow.specs.declared.Reading.{Reading}
 use Rattle.flow.specs.Modes.{plain_mode, read_in}
 use Rattle.flow.specs.Reading.{read_packet}
+use Rattle.refusals.specs.declared.PacketRefusal.{PacketRefusal}
 use Rattle.packet_answer.specs.Packet.{peer_of}
 use Rattle.gateway.specs.Lines.{line_of_reading, packet_line_in, raw_line}
 use Rattle.gateway.specs.LineTold.{LineTold}
@@ -27,7 +29,7 @@ plain_line_lem p peer room = refl
 line_alike
     : (mode : Mode) (p q : List ℕ) (peer room : ℕ) → Alike p q → packet_line_in mode p peer room ≡ packet_line_in mode q peer room
 unfolding packet_line_in
-line_alike mode p q peer room a = ap (λ (r : Reading). line_of_reading r room) (read_alike mode p q (peer_of peer) a)
+line_alike mode p q peer room a = ap (λ (r : Result Reading PacketRefusal). line_of_reading r room) (read_alike mode p q (peer_of peer) a)
 
 pub gateway_lines_lem : GatewayLines
 gateway_lines_lem =

@@ -1,14 +1,18 @@
 -- The three answers stay three: what each means.
+use Rattle.std.specs.Prelude.{Option, Some, None, Result, Ok, Err}
 use mathlib.Core.Path.{◌≡◌, refl}
 use mathlib.Core.List.{List}
 use Prim.Native.Nat.{ℕ}
 use native.Mathlib.Omega.{arith}
 use Rattle.basis.specs.Bytes.{AllBytes}
-use Rattle.tcp.specs.declared.Mss.{Mss}
 use Rattle.refusals.specs.declared.PacketRefusal.{PacketRefusal}
-use Rattle.flow.specs.declared.Answer.TheVariants as reading
+use Rattle.flow.specs.declared.Kind.{Kind}
+use Rattle.flow.specs.declared.Kind.TheVariants as kind
+use Rattle.flow.specs.declared.Reading.{Reading}
+use Rattle.flow.specs.declared.Reading.TheVariants as reading
 use Rattle.flow.specs.declared.Mode.{Mode}
 use Rattle.flow.specs.Modes.{read_in}
+use Rattle.flow.specs.Reading.{kind_read, observation_read}
 use Rattle.matching.specs.Fit.{features_of}
 use Rattle.siglist.specs.List.{check_list}
 use Rattle.found.specs.declared.Found.{Found}
@@ -17,7 +21,7 @@ use Rattle.search.specs.Search.{search_over, searched}
 use Rattle.search.proofs.Rows.{longer_row}
 use Rattle.packet_answer.specs.declared.PacketAnswer.{PacketAnswer}
 use Rattle.packet_answer.specs.declared.PacketAnswer.TheVariants as packet
-use Rattle.packet_answer.specs.Packet.{peer_of, answer_in}
+use Rattle.packet_answer.specs.Packet.{peer_of, after_reading, answer_in}
 use Rattle.gateway.specs.Parts.{GatewayAnswer, found_parts, searched_parts, packet_parts, refused_list, parts_of, gateway_in}
 use Rattle.gateway.specs.Decode.{answer_from}
 use Rattle.gateway.specs.Zeros.{Zeros}
@@ -31,25 +35,45 @@ use Rattle.acceptance.proofs.Fit.{exact_to, exact_from, fuzzy_to, fuzzy_from}
 
 -- ---- a packet's answer
 
-module _ (mode : Mode) (p : List ℕ) (peer : Mss) (l : List ℕ) where
+-- By the kind of what was read.
+opened
+    : (r : Result Reading PacketRefusal) (k : Kind) (l : List ℕ)
+    → kind_read r ≡ Ok (Some k)
+    → after_reading r l ≡ Ok (packet.Opening k (searched (observation_read r) l))
+opened (Ok (reading.Opening j o)) k l e = let same : j ≡ k = cc in rw same
+opened (Ok reading.Nothing) k l e = let z : ◌≡◌ {A = ℕ} 0 1 = cc in absurd (omega arith)
+opened (Err why) k l e = let z : ◌≡◌ {A = ℕ} 0 1 = cc in absurd (omega arith)
+
+neither : (r : Result Reading PacketRefusal) (l : List ℕ) → kind_read r ≡ Ok None → after_reading r l ≡ Ok packet.Nothing
+neither (Ok (reading.Opening j o)) l e = let z : ◌≡◌ {A = ℕ} 0 1 = cc in absurd (omega arith)
+neither (Ok reading.Nothing) l e = refl
+neither (Err why) l e = let z : ◌≡◌ {A = ℕ} 0 1 = cc in absurd (omega arith)
+
+refused : (r : Result Reading PacketRefusal) (why : PacketRefusal) (l : List ℕ) → kind_read r ≡ Err why → after_reading r l ≡ Err why
+refused (Ok (reading.Opening j o)) why l e = let z : ◌≡◌ {A = ℕ} 0 1 = cc in absurd (omega arith)
+refused (Ok reading.Nothing) why l e = let z : ◌≡◌ {A = ℕ} 0 1 = cc in absurd (omega arith)
+refused (Err other) why l e = let same : other ≡ why = cc in rw same
+
+module _ (mode : Mode) (p : List ℕ) (peer : Option ℕ) (l : List ℕ) where
   syn_answer
-      : (read_in mode p peer).answer ≡ reading.Syn → answer_in mode p peer l ≡ packet.Syn (searched (read_in mode p peer).observation l)
+      : kind_read (read_in mode p peer) ≡ Ok (Some kind.Syn)
+      → answer_in mode p peer l ≡ Ok (packet.Opening kind.Syn (searched (observation_read (read_in mode p peer)) l))
   unfolding answer_in
-  syn_answer e = rw e
+  syn_answer = opened (read_in mode p peer) kind.Syn l
 
   syn_ack_answer
-      : (read_in mode p peer).answer ≡ reading.SynAck
-      → answer_in mode p peer l ≡ packet.SynAck (searched (read_in mode p peer).observation l)
+      : kind_read (read_in mode p peer) ≡ Ok (Some kind.SynAck)
+      → answer_in mode p peer l ≡ Ok (packet.Opening kind.SynAck (searched (observation_read (read_in mode p peer)) l))
   unfolding answer_in
-  syn_ack_answer e = rw e
+  syn_ack_answer = opened (read_in mode p peer) kind.SynAck l
 
-  nothing_answer : (read_in mode p peer).answer ≡ reading.Nothing → answer_in mode p peer l ≡ packet.Nothing
+  nothing_answer : kind_read (read_in mode p peer) ≡ Ok None → answer_in mode p peer l ≡ Ok packet.Nothing
   unfolding answer_in
-  nothing_answer e = rw e
+  nothing_answer = neither (read_in mode p peer) l
 
-  refused_answer : (r : PacketRefusal) → (read_in mode p peer).answer ≡ reading.Refused r → answer_in mode p peer l ≡ packet.Refused r
+  refused_answer : (r : PacketRefusal) → kind_read (read_in mode p peer) ≡ Err r → answer_in mode p peer l ≡ Err r
   unfolding answer_in
-  refused_answer r e = rw e
+  refused_answer r = refused (read_in mode p peer) r l
 
 -- ---- the struct that a gateway gets
 
@@ -62,14 +86,14 @@ found_outcome_of kind n (found.Fuzzy hit reason) = refl
 -- The outcome in an answer's struct is what the answer is.
 outcome_of_lem : (a : GatewayAnswer) → (parts_of a).outcome ≡ outcome_of a
 unfolding packet_parts searched_parts refused_list
-outcome_of_lem (GatewayAnswer.answered (packet.Syn s)) = found_outcome_of 1 s.examined s.found
-outcome_of_lem (GatewayAnswer.answered (packet.SynAck s)) = found_outcome_of 2 s.examined s.found
-outcome_of_lem (GatewayAnswer.answered packet.Nothing) = refl
-outcome_of_lem (GatewayAnswer.answered (packet.Refused r)) = refl
+outcome_of_lem (GatewayAnswer.answered (Ok (packet.Opening kind.Syn s))) = found_outcome_of 1 s.examined s.found
+outcome_of_lem (GatewayAnswer.answered (Ok (packet.Opening kind.SynAck s))) = found_outcome_of 2 s.examined s.found
+outcome_of_lem (GatewayAnswer.answered (Ok packet.Nothing)) = refl
+outcome_of_lem (GatewayAnswer.answered (Err r)) = refl
 outcome_of_lem (GatewayAnswer.list_refused_lem r) = refl
 
 -- A packet's own answer, as the gateway's that holds it.
-unwrapped : (a b : PacketAnswer) → GatewayAnswer.answered a ≡ GatewayAnswer.answered b → a ≡ b
+unwrapped : (a b : Result PacketAnswer PacketRefusal) → GatewayAnswer.answered a ≡ GatewayAnswer.answered b → a ≡ b
 unwrapped a b e = cc
 
 module _ (mode : Mode) (p : List ℕ) (peer : ℕ) (l : List ℕ) (hp : AllBytes p) (hl : AllBytes l) where

@@ -1,14 +1,15 @@
 -- How many records a search examined, by the list's records alone.
+use Rattle.std.specs.Prelude.{Result, Ok, Err}
 use mathlib.Core.Path.{◌≡◌, refl, ap}
 use mathlib.Core.Bool.{Bool, true, false, cond}
 use mathlib.Core.List.{List}
 use Prim.Native.Nat.{ℕ, ◌+◌, ◌<◌}
+use Rattle.flow.specs.declared.Kind.TheVariants as kind
 use native.Mathlib.Omega.{arith}
 use Rattle.observable.specs.declared.TcpObservation.{TcpObservation}
 use Rattle.matching.specs.Fit.{features_of}
 use Rattle.refusals.specs.declared.ListRefusal.TheVariants as why
-use Rattle.siglist.specs.declared.ListAnswer.{ListAnswer}
-use Rattle.siglist.specs.declared.ListAnswer.TheVariants as list
+use Rattle.refusals.specs.declared.ListRefusal.{ListRefusal}
 use Rattle.siglist.specs.List.{record_count, size_of, list_fits, check_list}
 use Rattle.found.specs.declared.Hit.{Hit}
 use Rattle.found.specs.declared.Found.{Found}
@@ -74,12 +75,14 @@ module _ (o : TcpObservation) (l : List ℕ) where
       }
 
 -- A list that is good fits.
-good_size : (l : List ℕ) → check_list l ≡ list.Good → size_of l ≡ record_count l
+good_size : (l : List ℕ) → check_list l ≡ (Ok tt) → size_of l ≡ record_count l
 unfolding check_list
 good_size l = by_test (list_fits l) _
   where
     by_test
-        : (t : Bool) (a : ListAnswer) → cond t a (list.Refused why.DoesNotFit) ≡ list.Good → cond t (record_count l) 0 ≡ record_count l
+        : (t : Bool) (a : Result (Unit {0}) ListRefusal)
+        → cond t a (Err why.DoesNotFit) ≡ (Ok tt)
+        → cond t (record_count l) 0 ≡ record_count l
     by_test true a e = refl
     by_test false a e = let z : ◌≡◌ {A = ℕ} 0 1 = cc in absurd (omega arith)
 
@@ -92,10 +95,10 @@ found_count kind n (found.Fuzzy hit reason) = refl
 
 count_of_lem : (a : GatewayAnswer) → (parts_of a).examined ≡ count_of a
 unfolding packet_parts searched_parts refused_list
-count_of_lem (GatewayAnswer.answered (packet.Syn s)) = found_count 1 s.examined s.found
-count_of_lem (GatewayAnswer.answered (packet.SynAck s)) = found_count 2 s.examined s.found
-count_of_lem (GatewayAnswer.answered packet.Nothing) = refl
-count_of_lem (GatewayAnswer.answered (packet.Refused r)) = refl
+count_of_lem (GatewayAnswer.answered (Ok (packet.Opening kind.Syn s))) = found_count 1 s.examined s.found
+count_of_lem (GatewayAnswer.answered (Ok (packet.Opening kind.SynAck s))) = found_count 2 s.examined s.found
+count_of_lem (GatewayAnswer.answered (Ok packet.Nothing)) = refl
+count_of_lem (GatewayAnswer.answered (Err r)) = refl
 count_of_lem (GatewayAnswer.list_refused_lem r) = refl
 
 pub how_long_lem : HowLong

@@ -1,6 +1,8 @@
 -- The keeper's file: each theorem in its place.
 use mathlib.Core.Path.{refl}
-use Rattle.keeper_file.proofs.Accepted.{kept_accepted, kept_refused, kept_nothing_beside, kept_one_meaning}
+use Rattle.signature_line.proofs.Accepted.{nothing_beside}
+use Rattle.keeper_file.specs.KeptReader.{read_kept}
+use Rattle.keeper_file.proofs.Accepted.{kept_accepted, kept_refused, kept_one_meaning}
 use Rattle.keeper_file.proofs.CompileAnswers.{compile_answer, nothing_written}
 use Rattle.keeper_file.proofs.CompiledAgain.{compiled_again}
 use Rattle.keeper_file.proofs.FileAnswers.{file_answer}
@@ -15,7 +17,7 @@ keepers_file_lem =
     record {
       accepted = kept_accepted;
       refused = kept_refused;
-      refusal_gives = kept_nothing_beside;
+      refusal_gives = λ s. nothing_beside (read_kept s);
       one_meaning = kept_one_meaning;
       compiled = compile_answer;
       nothing_written = nothing_written;

@@ -1,4 +1,5 @@
 -- Every line is read back, so lines that print different things differ; and every word has its letters.
+use Rattle.std.specs.Prelude.{Option, Result, Ok, Err}
 use mathlib.Core.Path.{◌≡◌, refl, sym, ◌∙◌, ap}
 use mathlib.Core.Bool.{Bool, true, false, cond, true≢false}
 use mathlib.Core.List.{List, ◌++◌}
@@ -8,7 +9,6 @@ use native.Mathlib.Omega.{arith}
 use lib.Dec.{eqb}
 use lib.ListN.{drop}
 use Rattle.basis.specs.Bytes.{byte_at, AllBytes}
-use Rattle.tcp.specs.declared.Mss.{Mss}
 use Rattle.refusals.specs.declared.PacketRefusal.{PacketRefusal}
 use Rattle.refusals.specs.declared.PacketRefusal.TheVariants as refusal
 use Rattle.refusals.specs.declared.ListRefusal.TheVariants as why
@@ -20,9 +20,10 @@ use Rattle.found.specs.declared.Found.TheVariants as found
 use Rattle.packet_answer.specs.declared.PacketAnswer.{PacketAnswer}
 use Rattle.packet_answer.specs.declared.PacketAnswer.TheVariants as packet
 use Rattle.flow.specs.declared.Mode.{Mode}
+use Rattle.flow.specs.declared.Kind.TheVariants as kind
 use Rattle.packet_answer.specs.Packet.{answer_in}
-use Rattle.bundle.specs.declared.BundleCheck.{BundleCheck}
-use Rattle.bundle.specs.declared.BundleCheck.TheVariants as check
+use Rattle.bundle.specs.declared.BundleRefusal.{BundleRefusal}
+use Rattle.bundle.specs.declared.BundleRefusal.TheVariants as check
 use Rattle.bundle.specs.Bundle.{bundle_verdict, bundle_refusal}
 use Rattle.gateway.proofs.Room.{FoundFits, PacketFits}
 use Rattle.gateway.proofs.Fits.{packet_fits_lem}
@@ -55,12 +56,12 @@ read_found_lem (found.Exact hit) h = ap PrintedFound.exact (read_decimal hit.lab
 read_found_lem (found.Fuzzy hit reason) h = ap PrintedFound.fuzzy (read_decimal hit.label h)
 read_found_lem found.None h = refl
 
-read_line_lem : (a : PacketAnswer) → LabelFits a → read_line (line_of a) ≡ printed a
+read_line_lem : (a : Result PacketAnswer PacketRefusal) → LabelFits a → read_line (line_of a) ≡ printed a
 unfolding line_of answer_text read_line
-read_line_lem (packet.Syn s) h = ap Printed.syn (read_found_lem s.found h)
-read_line_lem (packet.SynAck s) h = ap Printed.synack (read_found_lem s.found h)
-read_line_lem packet.Nothing h = refl
-read_line_lem (packet.Refused r) h =
+read_line_lem (Ok (packet.Opening kind.Syn s)) h = ap Printed.syn (read_found_lem s.found h)
+read_line_lem (Ok (packet.Opening kind.SynAck s)) h = ap Printed.synack (read_found_lem s.found h)
+read_line_lem (Ok packet.Nothing) h = refl
+read_line_lem (Err r) h =
     ap Printed.refused (read_decimal (packet_number r) (let few = (numbered (table.Packet r)).1 in omega arith))
 
 -- ---- the line of what is printed
@@ -82,14 +83,14 @@ found_printed_lem (found.Exact hit) = refl
 found_printed_lem (found.Fuzzy hit reason) = refl
 found_printed_lem found.None = refl
 
-line_printed_lem : (a : PacketAnswer) → line_of a ≡ line_printed (printed a)
+line_printed_lem : (a : Result PacketAnswer PacketRefusal) → line_of a ≡ line_printed (printed a)
 unfolding line_of answer_text line_printed
-line_printed_lem (packet.Syn s) = rw (found_printed_lem s.found)
-line_printed_lem (packet.SynAck s) = rw (found_printed_lem s.found)
-line_printed_lem packet.Nothing = refl
-line_printed_lem (packet.Refused r) = refl
+line_printed_lem (Ok (packet.Opening kind.Syn s)) = rw (found_printed_lem s.found)
+line_printed_lem (Ok (packet.Opening kind.SynAck s)) = rw (found_printed_lem s.found)
+line_printed_lem (Ok packet.Nothing) = refl
+line_printed_lem (Err r) = refl
 
-told : (a b : PacketAnswer) → LabelFits a → LabelFits b → (line_of a ≡ line_of b) ↔ (printed a ≡ printed b)
+told : (a b : Result PacketAnswer PacketRefusal) → LabelFits a → LabelFits b → (line_of a ≡ line_of b) ↔ (printed a ≡ printed b)
 told a b ha hb = (
   λ e. sym (read_line_lem a ha) ∙ ap read_line e ∙ read_line_lem b hb,
   λ e. line_printed_lem a ∙ ap line_printed e ∙ sym (line_printed_lem b),
@@ -101,14 +102,14 @@ found_fits (found.Exact hit) h = h.0
 found_fits (found.Fuzzy hit reason) h = h.0.0
 found_fits found.None h = tt
 
-label_fits : (a : PacketAnswer) → PacketFits a → LabelFits a
-label_fits (packet.Syn s) h = found_fits s.found h.0
-label_fits (packet.SynAck s) h = found_fits s.found h.0
-label_fits packet.Nothing h = tt
-label_fits (packet.Refused r) h = tt
+label_fits : (a : Result PacketAnswer PacketRefusal) → PacketFits a → LabelFits a
+label_fits (Ok (packet.Opening kind.Syn s)) h = found_fits s.found h.0
+label_fits (Ok (packet.Opening kind.SynAck s)) h = found_fits s.found h.0
+label_fits (Ok packet.Nothing) h = tt
+label_fits (Err r) h = tt
 
 answer_label
-    : (mode : Mode) (p : List ℕ) (peer : Mss) (l : List ℕ) → AllBytes p → AllBytes l → LabelFits (answer_in mode p peer l)
+    : (mode : Mode) (p : List ℕ) (peer : Option ℕ) (l : List ℕ) → AllBytes p → AllBytes l → LabelFits (answer_in mode p peer l)
 answer_label mode p peer l hp hl = label_fits (answer_in mode p peer l) (packet_fits_lem mode p peer l hp hl)
 
 -- ---- the lines that are no packet's
@@ -125,12 +126,12 @@ refused_read : (n : ℕ) → n < 65536 → behind (refused_line n) ≡ n
 unfolding refused_line behind
 refused_read n h = read_decimal n h
 
-no_packets_line : (a : PacketAnswer) (n : ℕ) → line_of a ≡ head_line n → ⊥
+no_packets_line : (a : Result PacketAnswer PacketRefusal) (n : ℕ) → line_of a ≡ head_line n → ⊥
 unfolding line_of answer_text head_line
-no_packets_line (packet.Syn f) n e = let z = ap (λ (s : List ℕ). byte_at s 0) e in omega arith
-no_packets_line (packet.SynAck f) n e = let z = ap (λ (s : List ℕ). byte_at s 0) e in omega arith
-no_packets_line packet.Nothing n e = let z = ap (λ (s : List ℕ). byte_at s 0) e in omega arith
-no_packets_line (packet.Refused r) n e = let z = ap (λ (s : List ℕ). byte_at s 0) e in omega arith
+no_packets_line (Ok (packet.Opening kind.Syn f)) n e = let z = ap (λ (s : List ℕ). byte_at s 0) e in omega arith
+no_packets_line (Ok (packet.Opening kind.SynAck f)) n e = let z = ap (λ (s : List ℕ). byte_at s 0) e in omega arith
+no_packets_line (Ok packet.Nothing) n e = let z = ap (λ (s : List ℕ). byte_at s 0) e in omega arith
+no_packets_line (Err r) n e = let z = ap (λ (s : List ℕ). byte_at s 0) e in omega arith
 
 no_count : (m n : ℕ) → head_line m ≡ refused_line n → ⊥
 unfolding head_line refused_line
@@ -140,7 +141,7 @@ verdict_small : (v : Verdict) → number_of v < 65536
 verdict_small Verdict.accepted = omega arith
 verdict_small (Verdict.refused r) = let small = (numbered r).1 in omega arith
 
-bundle_small : (c : BundleCheck) → bundle_refusal c < 65536
+bundle_small : (c : Result (Unit {0}) BundleRefusal) → bundle_refusal c < 65536
 unfolding bundle_refusal
 bundle_small c = verdict_small (bundle_verdict c)
 
@@ -160,19 +161,23 @@ packets_own (refusal.InvalidTcpFlags byte) = refl
 packets_own refusal.DataOffset = refl
 packets_own refusal.ExtensionHeaders = refl
 
-no_packets : (c : BundleCheck) → 0 < bundle_refusal c → of_packet (bundle_refusal c) ≡ false
+no_packets : (c : Result (Unit {0}) BundleRefusal) → 0 < bundle_refusal c → of_packet (bundle_refusal c) ≡ false
 unfolding bundle_refusal refusal_from first_numbered
-no_packets check.Good h = absurd (omega arith)
-no_packets check.DoesNotFit h = refl
-no_packets (check.List why.DoesNotFit) h = refl
-no_packets (check.List (why.BadRecord i)) h = refl
+no_packets (Ok tt) h = absurd (omega arith)
+no_packets (Err check.DoesNotFit) h = refl
+no_packets (Err (check.List why.DoesNotFit)) h = refl
+no_packets (Err (check.List (why.BadRecord i))) h = refl
 
-packet_or_bundle : (a : PacketAnswer) (c : BundleCheck) → 0 < bundle_refusal c → line_of a ≡ refused_line (bundle_refusal c) → ⊥
+packet_or_bundle
+    : (a : Result PacketAnswer PacketRefusal) (c : Result (Unit {0}) BundleRefusal)
+    → 0 < bundle_refusal c
+    → line_of a ≡ refused_line (bundle_refusal c)
+    → ⊥
 unfolding line_of answer_text refused_line
-packet_or_bundle (packet.Syn f) c h e = let z = ap (λ (s : List ℕ). byte_at s 0) e in omega arith
-packet_or_bundle (packet.SynAck f) c h e = let z = ap (λ (s : List ℕ). byte_at s 0) e in omega arith
-packet_or_bundle packet.Nothing c h e = let z = ap (λ (s : List ℕ). byte_at s 0) e in omega arith
-packet_or_bundle (packet.Refused r) c h e =
+packet_or_bundle (Ok (packet.Opening kind.Syn f)) c h e = let z = ap (λ (s : List ℕ). byte_at s 0) e in omega arith
+packet_or_bundle (Ok (packet.Opening kind.SynAck f)) c h e = let z = ap (λ (s : List ℕ). byte_at s 0) e in omega arith
+packet_or_bundle (Ok packet.Nothing) c h e = let z = ap (λ (s : List ℕ). byte_at s 0) e in omega arith
+packet_or_bundle (Err r) c h e =
     let small = (numbered (table.Packet r)).1 in
     let same = sym (refused_read (packet_number r) (omega arith)) ∙ ap behind e ∙ refused_read (bundle_refusal c) (bundle_small c) in
     true≢false (sym (packets_own r) ∙ ap of_packet same ∙ no_packets c h)

@@ -1,4 +1,5 @@
 -- What the modes are to each other.
+use Rattle.std.specs.Prelude.{Option, None, Result, Ok, Err}
 use mathlib.Core.Path.{◌≡◌, refl, sym, ◌∙◌, ap}
 use mathlib.Core.Bool.{Bool, false}
 use mathlib.Core.List.{List}
@@ -9,22 +10,20 @@ use borrow.Author.Tests.{eq-eqb, ne_eqb}
 use Rattle.quirks.specs.declared.Quirk.TheVariants as quirk
 use Rattle.quirks.specs.Quirks.{contains}
 use Rattle.quirks.proofs.Within.{Within}
-use Rattle.tcp.specs.declared.Mss.{Mss}
-use Rattle.tcp.specs.declared.Mss.TheVariants as mss
 use Rattle.refusals.specs.declared.PacketRefusal.TheVariants as refusal
 use Rattle.flow.specs.declared.Mode.{Mode}
 use Rattle.flow.specs.declared.Reading.{Reading}
-use Rattle.flow.specs.Tcp.{refusing}
+use Rattle.flow.specs.declared.Reading.TheVariants as reading
 use Rattle.flow.specs.Modes.{plain_mode, strict_mode, read_in}
-use Rattle.flow.specs.Reading.{read_packet, refusal_of}
+use Rattle.flow.specs.Reading.{read_packet, refusal_of, observation_read}
 use Rattle.flow.proofs.Observed.{sound, sound_in}
 use Rattle.flow.specs.Peer.{with_peer}
 use Rattle.flow.proofs.Peer.{with_peer_in}
+use Rattle.refusals.specs.declared.PacketRefusal.{PacketRefusal}
 use Rattle.siglist.specs.List.{check_list}
-use Rattle.packet_answer.specs.declared.PacketAnswer.TheVariants as packet
 use Rattle.packet_answer.specs.Packet.{peer_of, after_reading, answer_of, answer_in}
-use Rattle.bundle.specs.declared.BundleCheck.{BundleCheck}
-use Rattle.bundle.specs.declared.BundleCheck.TheVariants as check
+use Rattle.bundle.specs.declared.BundleRefusal.{BundleRefusal}
+use Rattle.bundle.specs.declared.BundleRefusal.TheVariants as check
 use Rattle.bundle.specs.Bundle.{packet_count, list_of, packet_bytes, packet_peer, check_bundle}
 use Rattle.bundle.specs.Answers.{answer_at, start_of, answers_from, after_bundle_check, bundle_answer}
 use Rattle.report.specs.Pages.{output_in, output_of_input, output_of_input_in}
@@ -58,14 +57,14 @@ plain_mode_lem =
 
 -- ---- the strict mode
 
-module _ (p : List ℕ) (peer : Mss) where
-  never : refusal_of (read_packet p peer).answer ≡ 14 → ⊥
+module _ (p : List ℕ) (peer : Option ℕ) where
+  never : refusal_of (read_packet p peer) ≡ 14 → ⊥
   never = plain_mode_lem.no_14 p peer
 
-  plain_clean : contains (read_packet p peer).observation.quirks quirk.OptBad ≡ false
+  plain_clean : contains (observation_read (read_packet p peer)).quirks quirk.OptBad ≡ false
   plain_clean = (sound p peer).quirks.not_bad
 
-  reader_aside : SetAside p peer → read_in strict_mode p peer ≡ refusing refusal.DataOffset
+  reader_aside : SetAside p peer → read_in strict_mode p peer ≡ Err refusal.DataOffset
   reader_aside = is_aside_lem (beside p peer) never
 
   reader_else : NothingWrong p peer → read_in strict_mode p peer ≡ read_packet p peer
@@ -74,25 +73,30 @@ module _ (p : List ℕ) (peer : Mss) where
 
   only_then : read_in strict_mode p peer ≡ read_packet p peer → NothingWrong p peer
   only_then e =
-      let other : SetAside p peer → ⊥ = λ f. never (sym (ap (λ (r : Reading). refusal_of r.answer) e) ∙ f) in
+      let other : SetAside p peer → ⊥ = λ f. never (sym (ap (λ (r : Result Reading PacketRefusal). refusal_of r) e) ∙ f) in
       ⊎_elim (λ sound. NothingWrong.sound other sound)
       (λ none. NothingWrong.no_opening other (record { no_syn = none.0; no_syn_ack = none.1 }))
       (same_why (beside p peer) other plain_clean e)
 
 -- The number of a reading does not depend on the peer's MSS.
 without_peer
-    : (p : List ℕ) (peer : Mss) → refusal_of (read_in strict_mode p peer).answer ≡ refusal_of (read_in strict_mode p mss.Absent).answer
-unfolding with_peer
-without_peer p peer = ap (λ (r : Reading). refusal_of r.answer) (with_peer_in strict_mode p peer)
+    : (p : List ℕ) (peer : Option ℕ) → refusal_of (read_in strict_mode p peer) ≡ refusal_of (read_in strict_mode p None)
+unfolding with_peer refusal_of
+without_peer p peer = ap refusal_of (with_peer_in strict_mode p peer) ∙ same (read_in strict_mode p None)
+  where
+    same : (r : Result Reading PacketRefusal) → refusal_of (with_peer peer r) ≡ refusal_of r
+    same (Ok (reading.Opening k o)) = refl
+    same (Ok reading.Nothing) = refl
+    same (Err why) = refl
 
-module _ (p : List ℕ) (peer : Mss) (l : List ℕ) where
-  answer_aside : SetAside p peer → answer_in strict_mode p peer l ≡ packet.Refused refusal.DataOffset
+module _ (p : List ℕ) (peer : Option ℕ) (l : List ℕ) where
+  answer_aside : SetAside p peer → answer_in strict_mode p peer l ≡ Err refusal.DataOffset
   unfolding answer_in
-  answer_aside e = ap (λ (r : Reading). after_reading r l) (reader_aside p peer e)
+  answer_aside e = ap (λ (r : Result Reading PacketRefusal). after_reading r l) (reader_aside p peer e)
 
   answer_else : NothingWrong p peer → answer_in strict_mode p peer l ≡ answer_of p peer l
   unfolding answer_of answer_in
-  answer_else other = ap (λ (r : Reading). after_reading r l) (reader_else p peer other)
+  answer_else other = ap (λ (r : Result Reading PacketRefusal). after_reading r l) (reader_else p peer other)
 
 -- The packets of a bundle from the i-th on.
 module _ (b : List ℕ) (none : (i : ℕ) → i < packet_count b → NothingWrong (packet_bytes b (start_of b i)) (packet_peer b
@@ -108,11 +112,11 @@ module _ (b : List ℕ) (none : (i : ℕ) → i < packet_count b → NothingWron
         answers_else n (suc i) (omega arith),
       )
 
-  bundle_same : (c : BundleCheck) → after_bundle_check strict_mode c b ≡ after_bundle_check plain_mode c b
+  bundle_same : (c : Result (Unit {0}) BundleRefusal) → after_bundle_check strict_mode c b ≡ after_bundle_check plain_mode c b
   unfolding start_of
-  bundle_same check.Good = rw (answers_else (packet_count b) 0 (omega arith))
-  bundle_same check.DoesNotFit = refl
-  bundle_same (check.List r) = refl
+  bundle_same (Ok tt) = rw (answers_else (packet_count b) 0 (omega arith))
+  bundle_same (Err check.DoesNotFit) = refl
+  bundle_same (Err (check.List r)) = refl
 
   output_else : (longer : Bool) → output_of_input_in strict_mode b longer ≡ output_of_input b longer
   unfolding output_of_input_in output_in bundle_answer
@@ -151,10 +155,10 @@ every_mode =
       bundle_check_lem = λ mode b. checked mode b (check_bundle b);
     }
   where
-    checked : (mode : Mode) (b : List ℕ) (c : BundleCheck) → (after_bundle_check mode c b).check ≡ c
-    checked mode b check.Good = refl
-    checked mode b check.DoesNotFit = refl
-    checked mode b (check.List r) = refl
+    checked : (mode : Mode) (b : List ℕ) (c : Result (Unit {0}) BundleRefusal) → (after_bundle_check mode c b).check ≡ c
+    checked mode b (Ok tt) = refl
+    checked mode b (Err check.DoesNotFit) = refl
+    checked mode b (Err (check.List r)) = refl
 
 mode_numbers : ModeNumbers
 mode_numbers =

@@ -1,4 +1,5 @@
 -- What is not free changes the answer: each pair is read, and one number of the two readings compared.
+use Rattle.std.specs.Prelude.{None, Result}
 use mathlib.Core.Path.{◌≡◌, refl, sym, ◌∙◌, ap}
 use mathlib.Core.Bool.{false, true≢false}
 use mathlib.Core.List.{List}
@@ -10,7 +11,6 @@ use borrow.Author.Tests.{eq-eqb}
 use Rattle.basis.specs.Bytes.{byte_at, be16, be32, any_nonzero}
 use Rattle.basis.specs.Digits.{digit}
 use Rattle.basis.specs.Tests.{all_below}
-use Rattle.tcp.specs.declared.Mss.TheVariants as mss
 use Rattle.quirks.specs.Quirks.{place_of, bit_of, holds, contains, is_empty, bits_of, with, add_if, difference}
 use Rattle.quirks.specs.Named.{from_quirks, display_order, empty, fuzzy_deletable, fuzzy_addable, mask_when_obs_v4, mask_when_obs_v6}
 use Rattle.quirks.specs.Named.{seventeen}
@@ -29,7 +29,8 @@ use Rattle.tcp_header.specs.Flags.{masked_type, flags_invalid, is_syn_type, is_s
 use Rattle.flow.specs.Tcp.{quirks_of_headers, payload_class, observation_of, observation_from, known_peer, read_tcp}
 use Rattle.tcp_header.specs.HeaderQuirks.{header_quirks}
 use Rattle.flow.specs.Modes.{plain_mode, read_in}
-use Rattle.flow.specs.Reading.{read_packet, refusal_of}
+use Rattle.flow.specs.Reading.{read_packet, refusal_of, observation_read}
+use Rattle.refusals.specs.declared.PacketRefusal.{PacketRefusal}
 use Rattle.distances.specs.DistanceGates.{version_matches, window_matches, payload_matches}
 use Rattle.distances.specs.Distances.{ttl_fit}
 use Rattle.sigrecord.specs.Layout.{entry_good, entries_good}
@@ -51,47 +52,47 @@ use Rattle.acceptance.proofs.Values.{same_found, values}
 
 -- Two readings of which one number differs.
 told_apart
-    : (f : Reading → ℕ) (p q : List ℕ)
-    → eqb (f (read_packet p mss.Absent)) (f (read_packet q mss.Absent)) ≡ false
+    : (f : Result Reading PacketRefusal → ℕ) (p q : List ℕ)
+    → eqb (f (read_packet p None)) (f (read_packet q None)) ≡ false
     → ReadApart p q
 told_apart f p q differs same =
-    true≢false (sym (eq-eqb (f (read_packet p mss.Absent)) (f (read_packet q mss.Absent)) (ap f same)) ∙ differs)
+    true≢false (sym (eq-eqb (f (read_packet p None)) (f (read_packet q None)) (ap f same)) ∙ differs)
 
 -- The numbers that are compared.
-abbrev refused : Reading → ℕ
-refused r = refusal_of r.answer
+abbrev refused : Result Reading PacketRefusal → ℕ
+refused r = refusal_of r
 
-abbrev quirk_bits : Reading → ℕ
-quirk_bits r = bits_of r.observation.quirks
+abbrev quirk_bits : Result Reading PacketRefusal → ℕ
+quirk_bits r = bits_of (observation_read r).quirks
 
-abbrev ttl_byte : Reading → ℕ
-ttl_byte r = byte_of r.observation.ittl
+abbrev ttl_byte : Result Reading PacketRefusal → ℕ
+ttl_byte r = byte_of (observation_read r).ittl
 
-abbrev mss_number : Reading → ℕ
-mss_number r = peer_size r.observation.mss
+abbrev mss_number : Result Reading PacketRefusal → ℕ
+mss_number r = peer_size (observation_read r).mss
 
-abbrev window_number : Reading → ℕ
-window_number r = r.observation.wsize
+abbrev window_number : Result Reading PacketRefusal → ℕ
+window_number r = (observation_read r).wsize
 
-abbrev headers : Reading → ℕ
-headers r = r.observation.tot_hdr
+abbrev headers : Result Reading PacketRefusal → ℕ
+headers r = (observation_read r).tot_hdr
 
-abbrev service : Reading → ℕ
-service r = r.observation.tos
+abbrev service : Result Reading PacketRefusal → ℕ
+service r = (observation_read r).tos
 
-abbrev first_kind : Reading → ℕ
-first_kind r = byte_at r.observation.olayout.kinds 0
+abbrev first_kind : Result Reading PacketRefusal → ℕ
+first_kind r = byte_at (observation_read r).olayout.kinds 0
 
 -- An answer that is another than packet A's.
 not_exact
     : (p : List ℕ) (x : Found)
-    → search_list (read_packet p mss.Absent).observation example_list ≡ after 1 x
+    → search_list (observation_read (read_packet p None)) example_list ≡ after 1 x
     → (found.Exact the_record ≡ x → ⊥)
     → AnsweredApart packet_a p
 not_exact p x other differs same = differs (same_found _ _ _ _ (sym values.search.exact ∙ same ∙ other))
 
 -- With another kind of option packet A does not fit.
-other_kind : search_list (read_packet (set packet_a 40 3) mss.Absent).observation example_list ≡ after 1 found.None
+other_kind : search_list (observation_read (read_packet (set packet_a 40 3) None)) example_list ≡ after 1 found.None
 unfolding read_packet read_ip read_ipv4 ipv4_facts ipv4_quirks ipv4_option_length reading_of guess_of initial_of read_tcp flags_invalid
     masked_type is_syn_type observation_from observation_of quirks_of_headers header_quirks payload_class walk_of walk_from options_after
     asked runs_past put_entry entry_byte see_option later_mss later_scale later_quirks trailing_nonzero excessive_scaling
@@ -113,7 +114,7 @@ unfolding read_packet read_in read_ip read_ipv4 ipv4_facts ipv4_quirks ipv4_opti
     peer_timestamp_nonzero any_nonzero add_if with bit_of place_of empty from_quirks be16 be32 refusal_of
 not_free =
     record {
-      apart = λ p q differs a. differs (read_alike plain_mode p q mss.Absent a);
+      apart = λ p q differs a. differs (read_alike plain_mode p q None a);
       ttl = not_exact (set packet_a 8 0x1c) _ values.search.fuzzy (λ e. let z : ◌≡◌ {A = ℕ} 0 1 = cc in omega arith);
       window = not_exact (set packet_a 34 0x17) _ values.search.none (λ e. let z : ◌≡◌ {A = ℕ} 0 1 = cc in omega arith);
       kind = not_exact (set packet_a 40 3) _ other_kind (λ e. let z : ◌≡◌ {A = ℕ} 0 1 = cc in omega arith);

@@ -1,4 +1,5 @@
 -- What holds of every reading: its layout, its quirks and its peer's MSS by flow's laws; the TTL and the peer's timestamp, stage by stage.
+use Rattle.std.specs.Prelude.{Option, None, Result, Some, Ok, Err}
 use mathlib.Core.Path.{◌≡◌, refl, sym, ◌∙◌, ap}
 use mathlib.Core.Bool.{Bool, true, false, cond, not, ◌&&◌, false≢true}
 use mathlib.Core.List.{List, [], ◌∷◌}
@@ -10,8 +11,6 @@ use Rattle.basis.specs.Digits.{digit}
 use Rattle.rfc.specs.Rfc791 as v4
 use Rattle.rfc.specs.Rfc8200 as v6
 use Rattle.rfc.specs.Rfc9293.{control, options}
-use Rattle.tcp.specs.declared.Mss.{Mss}
-use Rattle.tcp.specs.declared.Mss.TheVariants as mss
 use Rattle.quirks.specs.declared.Quirk.{Quirk}
 use Rattle.quirks.specs.declared.Quirk.TheVariants as quirk
 use Rattle.quirks.specs.declared.QuirkSet.{QuirkSet}
@@ -27,19 +26,20 @@ use Rattle.one_option.specs.Options.{Opt, data_of, options_of}
 use Rattle.one_option.specs.See.{peer_timestamp_nonzero, later_quirks, see_option}
 use Rattle.syn_options.specs.Walk.{Walked, put_option, walk_from, start_walk, walk_of}
 use Rattle.ip.specs.declared.IpFacts.{IpFacts}
-use Rattle.ip.specs.declared.IpRead.{IpRead}
+use Rattle.refusals.specs.declared.PacketRefusal.{PacketRefusal}
 use Rattle.ip.specs.Ip.{ipv4_quirks, ipv4_facts, ipv6_quirks, ipv6_facts}
 use Rattle.ip.proofs.Ip.{Given, given}
-use Rattle.flow.specs.declared.Answer.{Answer}
-use Rattle.flow.specs.declared.Answer.TheVariants as answer
+use Rattle.flow.specs.declared.Kind.{Kind}
+use Rattle.flow.specs.declared.Kind.TheVariants as kind
 use Rattle.flow.specs.declared.Reading.{Reading}
 use Rattle.tcp_header.specs.Flags.{flags_invalid, is_syn_type, is_syn_ack_type}
 use Rattle.flow.specs.Tcp.{quirks_of_headers, observation_of, observation_from, known_peer, read_tcp}
 use Rattle.tcp_header.specs.HeaderQuirks.{header_quirks}
-use Rattle.flow.specs.Reading.{after_ip, read_packet}
+use Rattle.flow.specs.Reading.{after_ip, read_packet, kind_read, observation_read}
 use Rattle.flow.specs.Peer.{peer_beside}
 use Rattle.flow.proofs.Observed.{sound}
 use Rattle.flow.proofs.Peer.{peer_beside_lem, peer_only_synack}
+use Rattle.flow.specs.declared.Reading.TheVariants as reading
 use Rattle.acceptance.specs.Demand2.{TheObservation}
 
 -- ---- a set without the peer's timestamp
@@ -97,28 +97,32 @@ header_lacks t q lacks =
 abbrev NoGuess : Ttl → Type 0
 NoGuess x = (t : ℕ) → x ≡ ttl.Guess t → ⊥
 
-record Shown (r : Reading) : Type 0 where
-  guess : NoGuess r.observation.ittl
-  stamp : contains r.observation.quirks quirk.PeerTimestampNonZero ≡ true → r.answer ≡ answer.Syn
+record Shown (r : Result Reading PacketRefusal) : Type 0 where
+  guess : NoGuess (observation_read r).ittl
+  stamp : contains (observation_read r).quirks quirk.PeerTimestampNonZero ≡ true → kind_read r ≡ Ok (Some kind.Syn)
 
 record FactsFit (f : IpFacts) : Type 0 where
   guess : NoGuess f.ittl
   lacks : Lacks f.quirks
 
-shown_empty : (a : Answer) → Shown (record { answer = a; observation = empty_observation })
+empty_guess : NoGuess empty_observation.ittl
 unfolding empty_observation
-shown_empty a =
-    record {
-      guess = λ t e. let z : ◌≡◌ {A = ℕ} 0 1 = cc in omega arith;
-      stamp = λ e. absurd (false≢true (sym lacks_empty ∙ e));
-    }
+empty_guess t e = let z : ◌≡◌ {A = ℕ} 0 1 = cc in omega arith
 
-module _ (f : IpFacts) (t : List ℕ) (peer : Mss) (fits : FactsFit f) where
-  shown_syn : Shown (record { answer = answer.Syn; observation = observation_from f t true mss.Absent })
+shown_refused : (why : PacketRefusal) → Shown (Err why)
+unfolding empty_observation
+shown_refused why = record { guess = empty_guess; stamp = λ e. absurd (false≢true (sym lacks_empty ∙ e)) }
+
+shown_nothing : Shown (Ok reading.Nothing)
+unfolding empty_observation
+shown_nothing = record { guess = empty_guess; stamp = λ e. absurd (false≢true (sym lacks_empty ∙ e)) }
+
+module _ (f : IpFacts) (t : List ℕ) (peer : Option ℕ) (fits : FactsFit f) where
+  shown_syn : Shown (Ok (reading.Opening kind.Syn (observation_from f t true None)))
   unfolding observation_from observation_of
   shown_syn = record { guess = fits.guess; stamp = λ e. refl }
 
-  shown_syn_ack : Shown (record { answer = answer.SynAck; observation = observation_from f t false (known_peer peer) })
+  shown_syn_ack : Shown (Ok (reading.Opening kind.SynAck (observation_from f t false (known_peer peer))))
   unfolding observation_from observation_of walk_of
   shown_syn_ack =
       record {
@@ -132,21 +136,21 @@ module _ (f : IpFacts) (t : List ℕ) (peer : Mss) (fits : FactsFit f) where
             ∙ e));
       }
 
-  either : (c : Bool) (a b : Reading) → Shown a → Shown b → Shown (cond {A = Reading} c a b)
+  either : (c : Bool) (a b : Result Reading PacketRefusal) → Shown a → Shown b → Shown (cond {A = Result Reading PacketRefusal} c a b)
   either true a b x y = x
   either false a b x y = y
 
   shown_tcp : Shown (read_tcp f t peer)
   unfolding read_tcp
   shown_tcp =
-      either (flags_invalid (control t)) _ _ (shown_empty _)
-      (either (is_syn_type (control t)) _ _ shown_syn (either (is_syn_ack_type (control t)) _ _ shown_syn_ack (shown_empty _)))
+      either (flags_invalid (control t)) _ _ (shown_refused _)
+      (either (is_syn_type (control t)) _ _ shown_syn (either (is_syn_ack_type (control t)) _ _ shown_syn_ack shown_nothing))
 
 -- ---- after the IP stage
 
-after_ip_lem : (p : List ℕ) (peer : Mss) {n : ℕ} {r : IpRead} → Given p n r → Shown (after_ip read_tcp r p peer)
+after_ip_lem : (p : List ℕ) (peer : Option ℕ) {n : ℕ} {r : Result IpFacts PacketRefusal} → Given p n r → Shown (after_ip read_tcp r p peer)
 unfolding ipv4_facts ipv4_quirks ipv6_facts ipv6_quirks place_of
-after_ip_lem p peer (Given.refused small) = shown_empty _
+after_ip_lem p peer (Given.refused small) = shown_refused _
 after_ip_lem p peer (Given.four long words) =
     shown_tcp _ _ peer
     (record {
@@ -158,11 +162,11 @@ after_ip_lem p peer (Given.six long) =
     shown_tcp _ _ peer
     (record { guess = never_guess (v6.hop_limit p); lacks = lacks_add_if _ _ _ refl (lacks_add_if _ _ _ refl lacks_empty) })
 
-reading_shown : (p : List ℕ) (peer : Mss) → Shown (read_packet p peer)
+reading_shown : (p : List ℕ) (peer : Option ℕ) → Shown (read_packet p peer)
 unfolding read_packet
 reading_shown p peer = after_ip_lem p peer (given p)
 
-pub the_observation : (p : List ℕ) (peer : Mss) → TheObservation p peer
+pub the_observation : (p : List ℕ) (peer : Option ℕ) → TheObservation p peer
 unfolding Within peer_beside
 the_observation p peer =
     let s = sound p peer in
@@ -175,7 +179,7 @@ the_observation p peer =
       of_seventeen = s.quirks.within;
       no_opt_bad = s.quirks.not_bad;
       peer_stamp_lem = r.stamp;
-      syn_has_none = λ e. peer_beside_lem p peer ∙ ap (λ (a : Answer). peer_beside a peer) e;
-      syn_ack_takes = λ e. peer_beside_lem p peer ∙ ap (λ (a : Answer). peer_beside a peer) e;
+      syn_has_none = λ e. peer_beside_lem p peer ∙ ap (λ (a : Result (Option Kind) PacketRefusal). peer_beside a peer) e;
+      syn_ack_takes = λ e. peer_beside_lem p peer ∙ ap (λ (a : Result (Option Kind) PacketRefusal). peer_beside a peer) e;
       no_other_takes = peer_only_synack p peer;
     }

@@ -1,4 +1,5 @@
 -- The structs of refusals, and all that is said of the paper's numbers and values.
+use Rattle.std.specs.Prelude.{Result, Ok, Err}
 use mathlib.Core.Path.{◌≡◌, refl}
 use mathlib.Core.List.{List}
 use Prim.Native.Nat.{ℕ, ◌<◌}
@@ -8,10 +9,10 @@ use Rattle.basis.specs.Bytes.{AllBytes}
 use Rattle.refusals.specs.declared.ListRefusal.{ListRefusal}
 use Rattle.refusals.specs.declared.ListRefusal.TheVariants as why
 use Rattle.refusals.specs.Refusals.{list_value}
-use Rattle.siglist.specs.declared.ListAnswer.{ListAnswer}
-use Rattle.siglist.specs.declared.ListAnswer.TheVariants as list
 use Rattle.siglist.specs.List.{check_list}
 use Rattle.flow.specs.declared.Mode.{Mode}
+use Rattle.flow.specs.declared.Kind.TheVariants as kind
+use Rattle.refusals.specs.declared.PacketRefusal.{PacketRefusal}
 use Rattle.packet_answer.specs.declared.PacketAnswer.{PacketAnswer}
 use Rattle.packet_answer.specs.declared.PacketAnswer.TheVariants as packet
 use Rattle.packet_answer.specs.Packet.{peer_of, answer_in}
@@ -25,28 +26,32 @@ use Rattle.acceptance.proofs.PaperTold.{told}
 
 -- ---- the structs
 
-packet_struct : (a : PacketAnswer) → 0 < (packet_paper a).number → packet_parts a ≡ refused_struct (packet_paper a)
+packet_struct : (a : Result PacketAnswer PacketRefusal) → 0 < (packet_paper a).number → packet_parts a ≡ refused_struct (packet_paper a)
 unfolding packet_parts
-packet_struct (packet.Syn f) h = absurd (omega arith)
-packet_struct (packet.SynAck f) h = absurd (omega arith)
-packet_struct packet.Nothing h = absurd (omega arith)
-packet_struct (packet.Refused r) h = refl
+packet_struct (Ok (packet.Opening kind.Syn f)) h = absurd (omega arith)
+packet_struct (Ok (packet.Opening kind.SynAck f)) h = absurd (omega arith)
+packet_struct (Ok packet.Nothing) h = absurd (omega arith)
+packet_struct (Err r) h = refl
 
 module _ (l : List ℕ) (bytes : AllBytes l) where
   -- An index fits two bytes, as the count of records does.
-  small : (r : ListRefusal) → check_list l ≡ list.Refused r → list_value r < 65536
+  small : (r : ListRefusal) → check_list l ≡ Err r → list_value r < 65536
   small why.DoesNotFit e = omega arith
   small (why.BadRecord i) e = let within = (refusals.list_gives l i e).within in let two = two_bytes l 0 bytes in omega arith
 
   refused_struct_lem
-      : (r : ListRefusal) → check_list l ≡ list.Refused r → refused_list r ≡ refused_struct (list_paper (list.Refused r))
+      : (r : ListRefusal) → check_list l ≡ Err r → refused_list r ≡ refused_struct (list_paper (Err r))
   unfolding refused_list
   refused_struct_lem r e = rw (mod-eq_of_lt (small r e))
 
-  list_struct_lem : (a : ListAnswer) → check_list l ≡ a → 0 < (list_paper a).number → list_parts a ≡ refused_struct (list_paper a)
+  list_struct_lem
+      : (a : Result (Unit {0}) ListRefusal)
+      → check_list l ≡ a
+      → 0 < (list_paper a).number
+      → list_parts a ≡ refused_struct (list_paper a)
   unfolding list_parts
-  list_struct_lem list.Good e h = absurd (omega arith)
-  list_struct_lem (list.Refused r) e h = refused_struct_lem r e
+  list_struct_lem (Ok tt) e h = absurd (omega arith)
+  list_struct_lem (Err r) e h = refused_struct_lem r e
 
   answer_struct
       : (mode : Mode) (p : List ℕ) (peer : ℕ)
@@ -56,12 +61,12 @@ module _ (l : List ℕ) (bytes : AllBytes l) where
   answer_struct mode p peer = after (answer_in mode p (peer_of peer) l) (check_list l) refl
     where
       after
-          : (x : PacketAnswer) (a : ListAnswer)
+          : (x : Result PacketAnswer PacketRefusal) (a : Result (Unit {0}) ListRefusal)
           → check_list l ≡ a
           → 0 < (gateway_paper (after_list a x)).number
           → parts_of (after_list a x) ≡ refused_struct (gateway_paper (after_list a x))
-      after x list.Good e h = packet_struct x h
-      after x (list.Refused r) e h = refused_struct_lem r e
+      after x (Ok tt) e h = packet_struct x h
+      after x (Err r) e h = refused_struct_lem r e
 
 -- ---- the statement
 

@@ -1,4 +1,5 @@
 -- One walk, with the places of damage.
+use Rattle.std.specs.Prelude.{Option, Some, None, Ok}
 use mathlib.Core.Path.{◌≡◌, refl, sym, ◌∙◌}
 use mathlib.Core.Bool.{false, ◌||◌, true≢false}
 use mathlib.Core.List.{List}
@@ -10,16 +11,12 @@ use Rattle.quirks.specs.Quirks.{place_of, bit_of, holds, contains, with}
 use Rattle.quirks.specs.Named.{empty, fuzzy_deletable, fuzzy_addable, mask_when_obs_v4, mask_when_obs_v6, from_quirks}
 use Rattle.basis.specs.Digits.{digit}
 use Rattle.basis.specs.Bytes.{be16}
-use Rattle.tcp.specs.declared.Mss.TheVariants as mss
 use Rattle.one_option.specs.Options.{Opt, asked, runs_past, short_length, options_after}
 use Rattle.one_option.specs.See.{later_mss, later_scale, trailing_nonzero, excessive_scaling, own_timestamp_zero, peer_timestamp_nonzero}
 use Rattle.one_option.specs.See.{later_quirks, see_option}
 use Rattle.one_option.proofs.Options.{never_both}
 use Rattle.one_option.proofs.Begins.{past_is_last, end_is_last, last_runs_past, last_not_short}
 use Rattle.quirks.specs.Quirks.{add_if}
-use Rattle.syn_options.specs.declared.Place.TheVariants as place
-use Rattle.syn_options.specs.declared.OptionsAnswer.TheVariants as parsing
-use Rattle.syn_options.specs.declared.Place.{Place}
 use Rattle.syn_options.specs.Walk.{entry_byte, put_entry, walk_from, walk_of, parsed_of, parse_options_raw}
 use Rattle.syn_options.specs.Places.{first_from, places_of, earlier, TheFirst}
 use Rattle.syn_options.specs.Stops.{nothing, damage, stops_before, walk_up_to, came_to, walk_to, walk_options, read_options}
@@ -27,13 +24,13 @@ use Rattle.syn_options.proofs.First.{the_first}
 use Rattle.syn_options.proofs.Readers.{whole_walk, parsed_of_walk, string_up_to}
 use Rattle.syn_options.proofs.Strict.{stop_place}
 use Rattle.syn_options.proofs.Entries.{walk_refused_over_forty}
-use Rattle.flow.specs.Reading.{read_packet}
+use Rattle.flow.specs.Reading.{read_packet, observation_read}
 use Rattle.flow.proofs.Observed.{sound}
 use Rattle.matching.specs.declared.SignatureFit.{SignatureFit}
 use Rattle.matching.specs.declared.SignatureFit.TheVariants as fit
 use Rattle.matching.specs.Fit.{features_of}
 use Rattle.matching.proofs.Rigid.{Rigid, fits_agree}
-use Rattle.acceptance.specs.OneWalk.{an_ethernet_mss, the_most_mss, ThePlaces, TheReaders, BadFits, OneWalk}
+use Rattle.acceptance.specs.OneWalk.{an_ethernet_mss, the_most_mss, mss_told, ThePlaces, TheReaders, BadFits, OneWalk}
 use Rattle.acceptance.proofs.Outcome.{exact_none, fuzzy_none}
 
 the_places : ThePlaces
@@ -52,8 +49,8 @@ the_places =
 -- The values, computed.
 record Values : Type 0 where
   same_walk : walk_options nothing false empty an_ethernet_mss ≡ walk_options nothing false empty the_most_mss
-  ethernet : (parse_options_raw an_ethernet_mss).options.mss ≡ mss.Present 1460
-  most : (parse_options_raw the_most_mss).options.mss ≡ mss.Present 65535
+  ethernet : mss_told (parse_options_raw an_ethernet_mss) ≡ Some 1460
+  most : mss_told (parse_options_raw the_most_mss) ≡ Some 65535
 
 values : Values
 unfolding walk_options walk_to walk_up_to walk_of walk_from put_entry entry_byte see_option later_mss later_scale later_quirks
@@ -63,10 +60,10 @@ values = record { same_walk = refl; ethernet = refl; most = refl }
 
 -- The option-string reader by the place of the first option past the end.
 string_by
-    : (s : List ℕ) (k : Place)
+    : (s : List ℕ) (k : Option ℕ)
     → length s ≤ 40
     → (places_of s).past ≡ k
-    → parse_options_raw s ≡ record { answer = parsing.Parsed; options = parsed_of (walk_up_to k false empty s) }
+    → parse_options_raw s ≡ Ok (parsed_of (walk_up_to k false empty s))
 unfolding parse_options_raw
 string_by s k few e = rw (le-ltb 40 (length s) few, string_up_to s few, e)
 
@@ -82,8 +79,8 @@ the_readers =
     record {
       packet = whole_walk;
       string = parsed_of_walk;
-      string_whole = λ s few none. string_by s place.None few none;
-      string_before = λ s k few at-k. string_by s (place.At k) few at-k;
+      string_whole = λ s few none. string_by s None few none;
+      string_before = λ s k few at-k. string_by s (Some k) few at-k;
       same_walk = values.same_walk;
       ethernet = values.ethernet;
       most = values.most;
@@ -111,7 +108,8 @@ bad_fits =
           true≢false
           (sym has
           ∙ sym
-          (fits_agree quirk.OptBad bad_rigid (features_of (read_packet p peer).observation) kinds bytes s count entries clean.small small
+          (fits_agree quirk.OptBad bad_rigid (features_of (observation_read (read_packet p peer))) kinds bytes s count entries
+          clean.small small
           other)
           ∙ clean.not_bad));
     }

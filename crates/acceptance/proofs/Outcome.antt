@@ -1,4 +1,5 @@
 -- A search has one outcome, and no other: what its answer says of the records of its list.
+use Rattle.std.specs.Prelude.{Result, Ok, Err}
 use mathlib.Core.Path.{◌≡◌, refl, sym, ◌∙◌, ap}
 use mathlib.Core.Bool.{Bool, true, false, cond, false≢true}
 use mathlib.Core.List.{List}
@@ -13,16 +14,15 @@ use Rattle.matching.specs.declared.FuzzyReason.{FuzzyReason}
 use Rattle.matching.specs.declared.SignatureFit.{SignatureFit}
 use Rattle.matching.specs.declared.SignatureFit.TheVariants as fit
 use Rattle.matching.specs.Fit.{features_of}
-use Rattle.siglist.specs.declared.ListAnswer.{ListAnswer}
-use Rattle.siglist.specs.declared.ListAnswer.TheVariants as list
+use Rattle.refusals.specs.declared.ListRefusal.{ListRefusal}
 use Rattle.sigrecord.specs.Record.{label_of, is_generic}
 use Rattle.siglist.specs.List.{record_count, record_at, check_list}
 use Rattle.found.specs.declared.Hit.{Hit}
 use Rattle.found.specs.declared.Found.{Found}
 use Rattle.found.specs.declared.Found.TheVariants as found
 use Rattle.found.specs.declared.Searched.{Searched}
-use Rattle.search.specs.declared.SearchAnswer.{SearchAnswer}
-use Rattle.search.specs.declared.SearchAnswer.TheVariants as answer
+use Rattle.search.specs.declared.SearchRefusal.{SearchRefusal}
+use Rattle.search.specs.declared.SearchRefusal.TheVariants as answer
 use Rattle.found.specs.Least.{numbers_from}
 use Rattle.found.proofs.Least.{numbers_length, numbers_at}
 use Rattle.search.specs.Search.{hit_at, search_over, search_all, searched, after_list_check, search_list}
@@ -200,20 +200,20 @@ module _ (o : TcpObservation) (l : List ℕ) where
       }
 
   -- What is not refused is the search of the list.
-  after_found : (a : ListAnswer) (s : Searched) → after_list_check a o l ≡ answer.Searched s → s ≡ searched o l
-  after_found list.Good s e = cc
-  after_found (list.Refused r) s e = let z : ◌≡◌ {A = ℕ} 0 1 = cc in absurd (omega arith)
+  after_found : (a : Result (Unit {0}) ListRefusal) (s : Searched) → after_list_check a o l ≡ Ok s → s ≡ searched o l
+  after_found (Ok tt) s e = cc
+  after_found (Err r) s e = let z : ◌≡◌ {A = ℕ} 0 1 = cc in absurd (omega arith)
 
-  pub not_refused : (s : Searched) → search_list o l ≡ answer.Searched s → s ≡ searched o l
+  pub not_refused : (s : Searched) → search_list o l ≡ Ok s → s ≡ searched o l
   unfolding search_list
   not_refused s = by_count (ltb 40 o.olayout.count)
     where
       by_count
           : (t : Bool)
-          → cond {A = SearchAnswer} t answer.LayoutTooLong (after_list_check (check_list l) o l) ≡ answer.Searched s
+          → cond {A = (Result Searched SearchRefusal)} t (Err answer.LayoutTooLong) (after_list_check (check_list l) o l) ≡ Ok s
           → s ≡ searched o l
       by_count true e = let z : ◌≡◌ {A = ℕ} 0 1 = cc in absurd (omega arith)
       by_count false e = after_found (check_list l) s e
 
-  pub search_outcome : (s : Searched) → search_list o l ≡ answer.Searched s → Outcome o l s.found
+  pub search_outcome : (s : Searched) → search_list o l ≡ Ok s → Outcome o l s.found
   search_outcome s e = rw (not_refused s e) found_outcome

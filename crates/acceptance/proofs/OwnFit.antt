@@ -1,4 +1,5 @@
 -- An observation fits a signature that says what it has: the gates hold, and nothing is tolerated.
+use Rattle.std.specs.Prelude.{Option, Some, None}
 use mathlib.Core.Path.{◌≡◌, refl}
 use mathlib.Core.Bool.{true}
 use mathlib.Core.List.{List, [], ◌∷◌}
@@ -15,22 +16,17 @@ use Rattle.quirks.specs.Quirks.{bits_of, is_empty, difference, SubsetByPlaces}
 use Rattle.quirks.proofs.Subset.{difference_empty}
 use Rattle.tcp.specs.declared.IpVersion.{IpVersion}
 use Rattle.tcp.specs.declared.IpVersion.TheVariants as version
-use Rattle.tcp.specs.declared.Mss.{Mss}
-use Rattle.tcp.specs.declared.Mss.TheVariants as mss
 use Rattle.tcp.specs.declared.PayloadSize.{PayloadSize}
 use Rattle.tcp.specs.declared.PayloadSize.TheVariants as payload
-use Rattle.tcp.specs.declared.Wscale.{Wscale}
-use Rattle.tcp.specs.declared.Wscale.TheVariants as wscale
 use Rattle.ttl.specs.declared.Ttl.{Ttl}
 use Rattle.ttl.specs.declared.Ttl.TheVariants as ttl
 use Rattle.ttl.specs.Ttl.{byte_of}
-use Rattle.window_size.specs.declared.Multiplier.{Multiplier}
+use Rattle.window_size.specs.declared.WindowMultiplier.{WindowMultiplier}
 use Rattle.observable.specs.declared.TcpObservation.{TcpObservation}
 use Rattle.sigrecord.specs.declared.WindowSize.TheVariants as window
 use Rattle.distances.specs.declared.TtlFit.TheVariants as ttlfit
 use Rattle.distances.specs.DistanceGates.{version_matches, window_matches, payload_matches}
 use Rattle.distances.specs.Distances.{ttl_fit}
-use Rattle.matching.specs.declared.QuirksFit.TheVariants as quirksfit
 use Rattle.matching.specs.Fit.{features_of, scalar_gates}
 use Rattle.matching.specs.Gates.{olen_matches, mss_matches, scale_matches, entries_match, layout_matches}
 use Rattle.matching.specs.Tolerance.{masked_quirks, quirks_fit}
@@ -88,15 +84,15 @@ unfolding version_matches
 same_version version.V4 = refl
 same_version version.V6 = refl
 
-same_mss : (m : Mss) → mss_matches m m ≡ true
+same_mss : (m : Option ℕ) → mss_matches m m ≡ true
 unfolding mss_matches
-same_mss mss.Absent = refl
-same_mss (mss.Present n) = eq-eqb n n refl
+same_mss None = refl
+same_mss (Some n) = eq-eqb n n refl
 
-same_scale : (w : Wscale) → scale_matches w w ≡ true
+same_scale : (w : Option ℕ) → scale_matches w w ≡ true
 unfolding scale_matches
-same_scale wscale.Absent = refl
-same_scale (wscale.Present n) = eq-eqb n n refl
+same_scale None = refl
+same_scale (Some n) = eq-eqb n n refl
 
 same_payload : (c : PayloadSize) → payload_matches c (payload_seen c) ≡ true
 unfolding payload_matches
@@ -107,13 +103,13 @@ same_olen : (n : ℕ) → olen_matches n n ≡ true
 unfolding olen_matches
 same_olen n = eq-eqb n n refl
 
-same_window : (n : ℕ) (m : Multiplier) → window_matches n (window.Value n) m ≡ true
+same_window : (n : ℕ) (m : Option WindowMultiplier) → window_matches n (window.Value n) m ≡ true
 unfolding window_matches
 same_window n m = eq-eqb n n refl
 
 -- ---- TTL and quirks
 
-in_range : (t : Ttl) → TtlHeld t → NearEnough t → (d : ℕ) × (ttl_fit (byte_of t) t ≡ ttlfit.InRange d)
+in_range : (t : Ttl) → TtlHeld t → NearEnough t → (d : ℕ) × (ttl_fit (byte_of t) t ≡ Some (ttlfit.InRange d))
 unfolding ttl_fit
 in_range (ttl.Value t) held near = (t - t, rw (le-ltb t t (omega arith), le-ltb 35 (t - t) (omega arith)))
 in_range (ttl.Distance t d) held near =
@@ -141,7 +137,7 @@ unmasked q version.V6 = refl
 same_quirks
     : (q : QuirkSet)
     → bits_of q < 2 ^ 32
-    → quirks_fit q q ≡ quirksfit.Tolerated (record { added = difference q q; missing = difference q q })
+    → quirks_fit q q ≡ Some (record { added = difference q q; missing = difference q q })
 unfolding quirks_fit
 same_quirks q small =
     let none = none_differs q small in

@@ -1,4 +1,5 @@
 -- An observation is fitted exactly by the record that is read of its own line.
+use Rattle.std.specs.Prelude.{Ok}
 use mathlib.Core.Path.{◌≡◌, refl, sym, ◌∙◌, ap}
 use mathlib.Core.Bool.{Bool, true, false}
 use mathlib.Core.List.{List}
@@ -10,17 +11,14 @@ use lib.Seq.{take_at, take_all, drop_at}
 use borrow.Author.Tests.{le-ltb}
 use Rattle.basis.specs.Bytes.{be16}
 use Rattle.observable.specs.declared.TcpObservation.{TcpObservation}
-use Rattle.flow.specs.Modes.{read_in}
 use Rattle.sigrecord.specs.Record.{first_entry, entry_count, label_of, is_generic}
 use Rattle.matching.specs.declared.SignatureFit.TheVariants as fit
 use Rattle.matching.specs.Fit.{features_of}
-use Rattle.siglist.specs.declared.ListAnswer.TheVariants as list
 use Rattle.siglist.specs.List.{record_count, size_of, list_fits, record_at, entries_from, record_good, records_from, check_list}
 use Rattle.found.specs.declared.Hit.{Hit}
 use Rattle.found.specs.declared.Found.{Found}
 use Rattle.found.specs.declared.Found.TheVariants as found
 use Rattle.found.specs.Examined.{searched_in}
-use Rattle.search.specs.declared.SearchAnswer.TheVariants as answer
 use Rattle.search.specs.Search.{fit_at, searched, search_list}
 use Rattle.signature_line.specs.Meaning.{LineMeaning}
 use Rattle.signature_line.specs.OneRecord.{entries_in, list_of_one, WellFormedLine}
@@ -78,7 +76,7 @@ module _ (m : LineMeaning) (formed : WellFormedLine m) where
           : (t u : Bool)
           → list_fits l ≡ t
           → record_good l 0 ≡ u
-          → check_list l ≡ list.Good
+          → check_list l ≡ (Ok tt)
           → (list_fits l ≡ true) × (record_good l 0 ≡ true)
       by true true a b e = (a, b)
       by true false a b e = let bad = rw (a, one_record, b) at e in let z : ◌≡◌ {A = ℕ} 0 1 = cc in absurd (omega arith)
@@ -152,7 +150,7 @@ module _ (o : TcpObservation) (seen : Observed o) where
         reads = own.reads;
         exact =
             rw (le-ltb 40 o.olayout.count seen.few, formed.good)
-            (ap (λ (x : Found). answer.Searched (searched_in (size_of (list_of_one m)) x)) found_so);
+            (ap (λ (x : Found). Ok (searched_in (size_of (list_of_one m)) x)) found_so);
       }
 
 -- ---- of every packet
@@ -161,5 +159,5 @@ pub own_line : OwnLine
 own_line =
     record {
       observed = observed;
-      fits = λ mode p peer all. fits_itself (read_in mode p peer).observation (observed mode p peer all);
+      fits = λ mode p peer all. fits_itself _ (observed mode p peer all);
     }

@@ -1,4 +1,5 @@
 -- The refusals of a packet, in every mode: by the first row of the table that holds.
+use Rattle.std.specs.Prelude.{Option}
 use mathlib.Core.Path.{◌≡◌, refl}
 use mathlib.Core.Bool.{Bool, true, false, not, ◌&&◌, ◌||◌, true≢false, false≢true}
 use mathlib.Core.List.{List, [], ◌∷◌}
@@ -13,7 +14,6 @@ use borrow.Author.Tests.{lt-ltb, ltb-true, ltb-false, eqb-true, eqb-false, eq-eq
 use Rattle.rfc.specs.Rfc791 as v4
 use Rattle.rfc.specs.Rfc8200 as v6
 use Rattle.rfc.specs.Rfc9293 as tcp
-use Rattle.tcp.specs.declared.Mss.{Mss}
 use Rattle.tcp_header.specs.Flags.{masked_type, flags_invalid}
 use Rattle.flow.specs.declared.Mode.{Mode}
 use Rattle.flow.specs.Strict.{contradicts_itself}
@@ -216,8 +216,8 @@ first_row_lem mode p =
     ]
 
 pub packet_first
-    : (mode : Mode) (p : List ℕ) (peer : Mss) (n : ℕ)
-    → (refusal_of (read_in mode p peer).answer ≡ n) ↔ First (PacketRow mode p) packet_order n
+    : (mode : Mode) (p : List ℕ) (peer : Option ℕ) (n : ℕ)
+    → (refusal_of (read_in mode p peer) ≡ n) ↔ First (PacketRow mode p) packet_order n
 packet_first mode p peer = exactly (rw (by_first_row mode p peer) (first_row_lem mode p))
 
 -- In the plain mode row 14 never holds, and can be left out.
@@ -226,9 +226,9 @@ never_14 p (PacketRow.contradicts4 s v c) = false≢true s
 never_14 p (PacketRow.contradicts6 s v c) = false≢true s
 
 pub plain_first
-    : (p : List ℕ) (peer : Mss) (n : ℕ) → (refusal_of (read_packet p peer).answer ≡ n) ↔ First (PacketRow plain_mode p) plain_order n
+    : (p : List ℕ) (peer : Option ℕ) (n : ℕ) → (refusal_of (read_packet p peer) ≡ n) ↔ First (PacketRow plain_mode p) plain_order n
 unfolding read_packet read_in
 plain_first p peer =
     exactly
     (left_out 14 (1 ∷ 2 ∷ 3 ∷ 4 ∷ 5 ∷ 6 ∷ []) (7 ∷ []) (never_14 p)
-    ((packet_first plain_mode p peer (refusal_of (read_packet p peer).answer)).0 refl))
+    ((packet_first plain_mode p peer (refusal_of (read_packet p peer))).0 refl))

@@ -1,37 +1,36 @@
 -- The number and the value of every answer on paper: those of the first row that holds.
+use Rattle.std.specs.Prelude.{Option, Result, Ok, Err}
 use mathlib.Core.Path.{◌≡◌, refl}
 use mathlib.Core.List.{List, [], ◌∷◌}
 use Prim.Native.Nat.{ℕ, zero, suc, ◌<◌, ◌≤◌}
 use native.Mathlib.Omega.{arith}
-use Rattle.tcp.specs.declared.Mss.{Mss}
 use Rattle.observable.specs.declared.TcpObservation.{TcpObservation}
 use Rattle.refusals.specs.declared.PacketRefusal.{PacketRefusal}
 use Rattle.refusals.specs.declared.ListRefusal.TheVariants as why
 use Rattle.refusals.specs.declared.Refusal.TheVariants as table
 use Rattle.refusals.specs.Refusals.{packet_refused}
 use Rattle.refusals.proofs.Back.{numbered}
-use Rattle.flow.specs.declared.Answer.{Answer}
-use Rattle.flow.specs.declared.Answer.TheVariants as answer
 use Rattle.flow.specs.declared.Reading.{Reading}
+use Rattle.flow.specs.declared.Reading.TheVariants as reading
 use Rattle.flow.specs.declared.Mode.{Mode}
 use Rattle.flow.specs.Modes.{read_in}
 use Rattle.flow.specs.Reading.{refusal_of}
-use Rattle.syn_options.specs.declared.OptionsAnswer.{OptionsAnswer}
-use Rattle.syn_options.specs.declared.OptionsAnswer.TheVariants as options
+use Rattle.syn_options.specs.declared.ParsedTcpOptions.{ParsedTcpOptions}
+use Rattle.refusals.specs.declared.OptionsTooLong.{OptionsTooLong}
 use Rattle.syn_options.specs.Walk.{parse_options_raw, options_refusal}
-use Rattle.siglist.specs.declared.ListAnswer.{ListAnswer}
-use Rattle.siglist.specs.declared.ListAnswer.TheVariants as list
+use Rattle.refusals.specs.declared.ListRefusal.{ListRefusal}
 use Rattle.siglist.specs.List.{check_list, list_refusal}
-use Rattle.signature_line.specs.declared.LineAnswer.{LineAnswer}
-use Rattle.signature_line.specs.declared.LineAnswer.TheVariants as line
+use Rattle.signature_line.specs.declared.BadLine.{BadLine}
+use Rattle.signature_line.specs.declared.SignatureRead.{SignatureRead}
 use Rattle.signature_line.specs.LineReader.{read_line}
 use Rattle.signature_line.proofs.Accepted.{refused_exactly}
-use Rattle.search.specs.declared.SearchAnswer.{SearchAnswer}
-use Rattle.search.specs.declared.SearchAnswer.TheVariants as search
+use Rattle.found.specs.declared.Searched.{Searched}
+use Rattle.search.specs.declared.SearchRefusal.{SearchRefusal}
+use Rattle.search.specs.declared.SearchRefusal.TheVariants as search
 use Rattle.search.specs.Search.{search_list, search_refusal}
-use Rattle.packet_answer.specs.Packet.{peer_of, judged, answer_in}
-use Rattle.bundle.specs.declared.BundleCheck.{BundleCheck}
-use Rattle.bundle.specs.declared.BundleCheck.TheVariants as bundle
+use Rattle.packet_answer.specs.Packet.{peer_of, after_reading, answer_in}
+use Rattle.bundle.specs.declared.BundleRefusal.{BundleRefusal}
+use Rattle.bundle.specs.declared.BundleRefusal.TheVariants as bundle
 use Rattle.bundle.specs.Bundle.{list_of, check_bundle, bundle_refusal}
 use Rattle.gateway.specs.Parts.{after_list, gateway_in}
 use Rattle.acceptance.specs.Refusals.{First, PacketRow, packet_order, Refused, Gives, Answered, ListRow}
@@ -42,23 +41,23 @@ use Rattle.acceptance.proofs.PaperStages.{others, not_7, ip_row, header_row}
 
 -- ---- the numbers
 
-packet_same : (a : Answer) → refusal_of a ≡ (answer_paper a).number
+packet_same : (a : Result Reading PacketRefusal) → refusal_of a ≡ (answer_paper a).number
 unfolding refusal_of
 packet_same a = refl
 
-options_same : (a : OptionsAnswer) → options_refusal a ≡ (options_paper a).number
+options_same : (a : Result ParsedTcpOptions OptionsTooLong) → options_refusal a ≡ (options_paper a).number
 unfolding options_refusal
 options_same a = refl
 
-list_same : (a : ListAnswer) → list_refusal a ≡ (list_paper a).number
+list_same : (a : Result (Unit {0}) ListRefusal) → list_refusal a ≡ (list_paper a).number
 unfolding list_refusal
 list_same a = refl
 
-search_same : (a : SearchAnswer) → search_refusal a ≡ (search_paper a).number
+search_same : (a : Result Searched SearchRefusal) → search_refusal a ≡ (search_paper a).number
 unfolding search_refusal
 search_same a = refl
 
-bundle_same : (a : BundleCheck) → bundle_refusal a ≡ (bundle_paper a).number
+bundle_same : (a : Result (Unit {0}) BundleRefusal) → bundle_refusal a ≡ (bundle_paper a).number
 unfolding bundle_refusal
 bundle_same a = refl
 
@@ -72,64 +71,63 @@ module _ (p l : List ℕ) where
   none_returned : Also p l (alone 0)
   none_returned = others p l 0 (λ e. omega arith) (λ e. omega arith)
 
-  of_answered : {x : Reading} → Answered p x → Also p l (answer_paper x.answer)
+  of_answered : {x : Result Reading PacketRefusal} → Answered p x → Also p l (answer_paper x)
   of_answered (Answered.syn b e) = none_returned
   of_answered (Answered.syn_ack b e) = none_returned
   of_answered (Answered.neither b e g) = none_returned
 
-  packet_also : (mode : Mode) (peer : Mss) → Also p l (answer_paper (read_in mode p peer).answer)
-  packet_also mode peer = by_number (refusal_of (read_in mode p peer).answer) refl
+  packet_also : (mode : Mode) (peer : Option ℕ) → Also p l (answer_paper (read_in mode p peer))
+  packet_also mode peer = by_number (refusal_of (read_in mode p peer)) refl
     where
-      of_given : Gives mode p peer → Also p l (answer_paper (read_in mode p peer).answer)
+      of_given : Gives mode p peer → Also p l (answer_paper (read_in mode p peer))
       of_given g = rw g.reading (of_refused g.also)
 
-      by_number : (n : ℕ) → refusal_of (read_in mode p peer).answer ≡ n → Also p l (answer_paper (read_in mode p peer).answer)
+      by_number : (n : ℕ) → refusal_of (read_in mode p peer) ≡ n → Also p l (answer_paper (read_in mode p peer))
       by_number zero e = of_answered (refusals.packet_answers mode p peer e)
       by_number (suc n) e = of_given (refusals.packet_gives mode p peer (omega arith))
 
   -- ---- what a list's row returns
 
-  list_also : (a : ListAnswer) → check_list l ≡ a → Also p l (list_paper a)
-  list_also list.Good e = none_returned
-  list_also (list.Refused why.DoesNotFit) e = others p l 9 (λ e. omega arith) (λ e. omega arith)
-  list_also (list.Refused (why.BadRecord i)) e = Also.of_10 (refusals.list_gives l i e)
+  list_also : (a : Result (Unit {0}) ListRefusal) → check_list l ≡ a → Also p l (list_paper a)
+  list_also (Ok tt) e = none_returned
+  list_also (Err why.DoesNotFit) e = others p l 9 (λ e. omega arith) (λ e. omega arith)
+  list_also (Err (why.BadRecord i)) e = Also.of_10 (refusals.list_gives l i e)
 
-  search_also : (o : TcpObservation) (a : SearchAnswer) → search_list o l ≡ a → Also p l (search_paper a)
-  search_also o (search.Searched f) e = none_returned
-  search_also o (search.List why.DoesNotFit) e = others p l 9 (λ e. omega arith) (λ e. omega arith)
-  search_also o (search.List (why.BadRecord i)) e = Also.of_10 (refusals.search_gives o l i e)
-  search_also o search.LayoutTooLong e = others p l 11 (λ e. omega arith) (λ e. omega arith)
+  search_also : (o : TcpObservation) (a : Result Searched SearchRefusal) → search_list o l ≡ a → Also p l (search_paper a)
+  search_also o (Ok f) e = none_returned
+  search_also o (Err (search.List why.DoesNotFit)) e = others p l 9 (λ e. omega arith) (λ e. omega arith)
+  search_also o (Err (search.List (why.BadRecord i))) e = Also.of_10 (refusals.search_gives o l i e)
+  search_also o (Err search.LayoutTooLong) e = others p l 11 (λ e. omega arith) (λ e. omega arith)
 
-bundle_also : (b : List ℕ) (a : BundleCheck) → check_bundle b ≡ a → Also [] (list_of b) (bundle_paper a)
-bundle_also b bundle.Good e = none_returned [] (list_of b)
-bundle_also b (bundle.List why.DoesNotFit) e = others [] (list_of b) 9 (λ e. omega arith) (λ e. omega arith)
-bundle_also b (bundle.List (why.BadRecord i)) e = Also.of_10 (refusals.bundle_gives b i e)
-bundle_also b bundle.DoesNotFit e = others [] (list_of b) 12 (λ e. omega arith) (λ e. omega arith)
+bundle_also : (b : List ℕ) (a : Result (Unit {0}) BundleRefusal) → check_bundle b ≡ a → Also [] (list_of b) (bundle_paper a)
+bundle_also b (Ok tt) e = none_returned [] (list_of b)
+bundle_also b (Err (bundle.List why.DoesNotFit)) e = others [] (list_of b) 9 (λ e. omega arith) (λ e. omega arith)
+bundle_also b (Err (bundle.List (why.BadRecord i))) e = Also.of_10 (refusals.bundle_gives b i e)
+bundle_also b (Err bundle.DoesNotFit) e = others [] (list_of b) 12 (λ e. omega arith) (λ e. omega arith)
 
-options_also : (a : OptionsAnswer) → Also [] [] (options_paper a)
-options_also options.Parsed = none_returned [] []
-options_also options.Refused = others [] [] 8 (λ e. omega arith) (λ e. omega arith)
+options_also : (a : Result ParsedTcpOptions OptionsTooLong) → Also [] [] (options_paper a)
+options_also (Ok _) = none_returned [] []
+options_also (Err _) = others [] [] 8 (λ e. omega arith) (λ e. omega arith)
 
 -- ---- the rows
 
 packet_row
-    : (mode : Mode) (p : List ℕ) (peer : Mss) → First (PacketRow mode p) packet_order (answer_paper (read_in mode p peer).answer).number
-packet_row mode p peer = (refusals.packet mode p peer _).0 (packet_same (read_in mode p peer).answer)
+    : (mode : Mode) (p : List ℕ) (peer : Option ℕ) → First (PacketRow mode p) packet_order (answer_paper (read_in mode p peer)).number
+packet_row mode p peer = (refusals.packet mode p peer _).0 (packet_same (read_in mode p peer))
 
 list_row : (l : List ℕ) → First (ListRow l) (9 ∷ 10 ∷ []) (list_paper (check_list l)).number
 list_row l = (refusals.list l _).0 (list_same (check_list l))
 
-answer_same : (a : Answer) (o : TcpObservation) (l : List ℕ) → packet_paper (judged a o l) ≡ answer_paper a
-answer_same answer.Syn o l = refl
-answer_same answer.SynAck o l = refl
-answer_same answer.Nothing o l = refl
-answer_same (answer.Refused r) o l = refl
+answer_same : (r : Result Reading PacketRefusal) (l : List ℕ) → packet_paper (after_reading r l) ≡ answer_paper r
+answer_same (Ok (reading.Opening k o)) l = refl
+answer_same (Ok reading.Nothing) l = refl
+answer_same (Err why) l = refl
 
 read_same
-    : (mode : Mode) (p : List ℕ) (peer : Mss) (l : List ℕ) → packet_paper (answer_in mode p peer l) ≡ answer_paper
-    (read_in mode p peer).answer
+    : (mode : Mode) (p : List ℕ) (peer : Option ℕ) (l : List ℕ)
+    → packet_paper (answer_in mode p peer l) ≡ answer_paper (read_in mode p peer)
 unfolding answer_in
-read_same mode p peer l = answer_same (read_in mode p peer).answer (read_in mode p peer).observation l
+read_same mode p peer l = answer_same (read_in mode p peer) l
 
 -- A gateway's rows: its list's, then its packet's.
 module _ (mode : Mode) (p l : List ℕ) where
@@ -217,7 +215,7 @@ module _ (mode : Mode) (p l : List ℕ) where
       First.later (λ g. d (of_its_list (omega arith, omega arith) g)) (First.here (GatewayRow.of_list_lem r))
   in_List (First.later d (First.later c First.none)) h = absurd (omega arith)
 
-  packet_answer_row : (peer : Mss) → IsRow (PacketRow mode p) packet_order p l (packet_paper (answer_in mode p peer l))
+  packet_answer_row : (peer : Option ℕ) → IsRow (PacketRow mode p) packet_order p l (packet_paper (answer_in mode p peer l))
   packet_answer_row peer = rw (read_same mode p peer l) (record { first = packet_row mode p peer; also = packet_also p l mode peer })
 
   gateway_row : (peer : ℕ) → IsRow (GatewayRow mode p l) (9 ∷ 10 ∷ packet_order) p l (gateway_paper (gateway_in mode p peer l))
@@ -225,14 +223,14 @@ module _ (mode : Mode) (p l : List ℕ) where
   gateway_row peer = by_list (check_list l) refl (list_row l)
     where
       by_list
-          : (a : ListAnswer)
+          : (a : Result (Unit {0}) ListRefusal)
           → check_list l ≡ a
           → First (ListRow l) (9 ∷ 10 ∷ []) (list_paper a).number
           → IsRow (GatewayRow mode p l) (9 ∷ 10 ∷ packet_order) p l (gateway_paper (after_list a (answer_in mode p (peer_of peer) l)))
-      by_list list.Good e f =
+      by_list (Ok tt) e f =
           let row = packet_answer_row (peer_of peer) in
           record { first = behind_list f refl (as_gateway packet_order none_of_list row.first); also = row.also }
-      by_list (list.Refused r) e f = record { first = in_List f (numbered (table.List r)).0; also = list_also p l (list.Refused r) e }
+      by_list (Err r) e f = record { first = in_List f (numbered (table.List r)).0; also = list_also p l (Err r) e }
 
 -- ---- together
 
@@ -241,13 +239,13 @@ the_table value = refl
 
 -- ---- a signature line
 
-line_row : (s : List ℕ) → LinePaper s (line_paper (read_line s).answer)
-line_row s = by (read_line s).answer refl
+line_row : (s : List ℕ) → LinePaper s (line_paper (read_line s))
+line_row s = by (read_line s) refl
   where
-    by : (a : LineAnswer) → (read_line s).answer ≡ a → LinePaper s (line_paper a)
-    by line.Read e =
+    by : (a : Result SignatureRead BadLine) → read_line s ≡ a → LinePaper s (line_paper a)
+    by (Ok _) e =
         LinePaper.of_0 (λ at r. let q = (refused_exactly s at).1 r in let z : ◌≡◌ {A = ℕ} 0 1 = cc in omega arith)
-    by (line.Refused at) e = LinePaper.of_13 ((refused_exactly s at).0 e)
+    by (Err bad) e = LinePaper.of_13 ((refused_exactly s bad.offset).0 e)
 
 pub rows : Rows
 rows =
@@ -256,7 +254,7 @@ rows =
       packet = λ mode p peer. record { first = packet_row mode p peer; also = packet_also p [] mode peer };
       options =
           λ s.
-          let a = (parse_options_raw s).answer in
+          let a = parse_options_raw s in
           record { first = (refusals.options s _).0 (options_same a); also = options_also a };
       header = header_row;
       list = λ l. record { first = list_row l; also = list_also [] l (check_list l) refl };

@@ -1,13 +1,12 @@
 -- The stages that a whole answer is made of, on paper: the IP stage meets rows 1 to 6, a list's header row 9.
+use Rattle.std.specs.Prelude.{None, Result, Ok, Err}
 use mathlib.Core.Path.{◌≡◌, refl, ◌∙◌, ap, subst}
 use mathlib.Core.Bool.{Bool, true, false, cond}
 use mathlib.Core.List.{List, [], ◌∷◌, ◌++◌}
 use Prim.Native.Nat.{ℕ}
 use native.Mathlib.Omega.{arith}
 use Rattle.rfc.specs.Rfc9293.{control}
-use Rattle.tcp.specs.declared.Mss.TheVariants as mss
-use Rattle.ip.specs.declared.IpRead.{IpRead}
-use Rattle.ip.specs.declared.IpRead.TheVariants as ip
+use Rattle.ip.specs.declared.IpFacts.{IpFacts}
 use Rattle.refusals.specs.declared.PacketRefusal.{PacketRefusal}
 use Rattle.refusals.specs.declared.PacketRefusal.TheVariants as refusal
 use Rattle.refusals.specs.declared.ListRefusal.TheVariants as why
@@ -19,8 +18,7 @@ use Rattle.flow.specs.Tcp.{read_tcp}
 use Rattle.flow.specs.Modes.{plain_mode}
 use Rattle.flow.specs.Reading.{tcp_part, after_ip, read_packet, refusal_of}
 use Rattle.flow.proofs.FirstRow.{by_header}
-use Rattle.siglist.specs.declared.ListAnswer.{ListAnswer}
-use Rattle.siglist.specs.declared.ListAnswer.TheVariants as list
+use Rattle.refusals.specs.declared.ListRefusal.{ListRefusal}
 use Rattle.siglist.specs.List.{record_count, list_fits, header_of, check_list, list_refusal}
 use Rattle.siglist.proofs.FirstBad.{Checked, does_not_fit, first_bad_named}
 use Rattle.acceptance.specs.Refusals.{First, PacketRow, plain_order, ListRow}
@@ -83,43 +81,47 @@ pub ip_row : (p : List ℕ) → IsRow (PacketRow plain_mode p) rows6 p [] (ip_pa
 unfolding read_packet refusal_of
 ip_row p = by_stage (read_ip p) refl (given p)
   where
-    at_seven : First (PacketRow plain_mode p) plain_order (refusal_of (read_packet p mss.Absent).answer)
-    at_seven = (refusals.plain_packet_lem p mss.Absent (refusal_of (read_packet p mss.Absent).answer)).0 refl
+    at_seven : First (PacketRow plain_mode p) plain_order (refusal_of (read_packet p None))
+    at_seven = (refusals.plain_packet_lem p None (refusal_of (read_packet p None))).0 refl
 
     stage_number
-        : (x : IpRead)
+        : (x : Result IpFacts PacketRefusal)
         → read_ip p ≡ x
-        → refusal_of (read_packet p mss.Absent).answer ≡ refusal_of (after_ip read_tcp x p mss.Absent).answer
-    stage_number x e = ap (λ (y : IpRead). refusal_of (after_ip read_tcp y p mss.Absent).answer) e
+        → refusal_of (read_packet p None) ≡ refusal_of (after_ip read_tcp x p None)
+    stage_number x e = ap (λ (y : Result IpFacts PacketRefusal). refusal_of (after_ip read_tcp y p None)) e
 
-    refused_number : (r : PacketRefusal) → refusal_of (after_ip read_tcp (ip.Refused r) p mss.Absent).answer ≡ packet_number r
+    refused_number : (r : PacketRefusal) → refusal_of (after_ip read_tcp (Err r) p None) ≡ packet_number r
     refused_number r = refl
 
-    by_stage : (x : IpRead) {n : ℕ} → read_ip p ≡ x → Given p n x → IsRow (PacketRow plain_mode p) rows6 p [] (ip_paper x)
-    by_stage (ip.Refused r) e (Given.refused h) =
-        let n = stage_number (ip.Refused r) e ∙ refused_number r in
+    by_stage
+        : (x : Result IpFacts PacketRefusal) {n : ℕ}
+        → read_ip p ≡ x
+        → Given p n x
+        → IsRow (PacketRow plain_mode p) rows6 p [] (ip_paper x)
+    by_stage (Err r) e (Given.refused h) =
+        let n = stage_number (Err r) e ∙ refused_number r in
         let seven : First (PacketRow plain_mode p) plain_order (packet_number r) =
         subst (First (PacketRow plain_mode p) plain_order) n at_seven in
         record {
           first = without_last 7 rows6 seven (λ (s : packet_number r ≡ 7). omega arith);
           also = not_7 p [] r (λ (s : packet_number r ≡ 7). omega arith);
         }
-    by_stage (ip.Facts f) e gives =
-        let n = stage_number (ip.Facts f) e ∙ by_header plain_mode f (tcp_part f p) mss.Absent in
+    by_stage (Ok f) e gives =
+        let n = stage_number (Ok f) e ∙ by_header plain_mode f (tcp_part f p) None in
         record {
           first =
-              none_of 7 rows6 at_seven (past_six (flags_invalid (control (tcp_part f p))) (refusal_of (read_packet p mss.Absent).answer) n);
+              none_of 7 rows6 at_seven (past_six (flags_invalid (control (tcp_part f p))) (refusal_of (read_packet p None)) n);
           also = others p [] 0 (λ e. omega arith) (λ e. omega arith);
         }
 
 -- ---- a list's header
 
-not_nine : {l : List ℕ} {a : ListAnswer} → Checked l 0 (record_count l) a → list_refusal a ≡ 9 → ⊥
+not_nine : {l : List ℕ} {a : Result (Unit {0}) ListRefusal} → Checked l 0 (record_count l) a → list_refusal a ≡ 9 → ⊥
 unfolding list_refusal
 not_nine (Checked.all_good all) e = omega arith
 not_nine (Checked.first_bad_lem k b u bad before) e = omega arith
 
-nine : list_refusal (list.Refused why.DoesNotFit) ≡ 9
+nine : list_refusal (Err why.DoesNotFit) ≡ 9
 unfolding list_refusal
 nine = refl
 

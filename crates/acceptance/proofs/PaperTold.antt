@@ -1,4 +1,5 @@
 -- Nothing of a refusal is lost on paper: every one is read back.
+use Rattle.std.specs.Prelude.{Some, None, Ok, Err, Result}
 use mathlib.Core.Path.{◌≡◌, refl, ap}
 use Rattle.refusals.specs.declared.PacketRefusal.{PacketRefusal}
 use Rattle.refusals.specs.declared.PacketRefusal.TheVariants as refusal
@@ -6,24 +7,18 @@ use Rattle.refusals.specs.declared.ListRefusal.{ListRefusal}
 use Rattle.refusals.specs.declared.Refusal.{Refusal}
 use Rattle.refusals.specs.Refusals.{by_kind, value_of, returned, Verdict}
 use Rattle.refusals.proofs.Back.{IfRefused, told_apart}
-use Rattle.ip.specs.declared.IpRead.TheVariants as ip
 use Rattle.ip.specs.Ip.{ip_verdict}
-use Rattle.flow.specs.declared.Answer.TheVariants as answer
 use Rattle.flow.specs.Reading.{answer_verdict}
-use Rattle.syn_options.specs.declared.OptionsAnswer.TheVariants as options
-use Rattle.syn_options.specs.Walk.{options_verdict}
-use Rattle.siglist.specs.declared.Header.TheVariants as header
-use Rattle.siglist.specs.declared.ListAnswer.TheVariants as list
+use Rattle.syn_options.specs.declared.ParsedTcpOptions.{ParsedTcpOptions}
+use Rattle.refusals.specs.declared.OptionsTooLong.{OptionsTooLong}
+use Rattle.syn_options.specs.Walk.{too_long, options_verdict}
 use Rattle.siglist.specs.List.{header_verdict, list_verdict}
-use Rattle.signature_line.specs.declared.LineAnswer.TheVariants as line
-use Rattle.signature_line.specs.Answer.{line_verdict}
-use Rattle.written_line.specs.declared.Wrote.TheVariants as wrote
+use Rattle.signature_line.specs.Answer.{refused_at, line_verdict}
 use Rattle.written_line.specs.Writing.{wrote_verdict}
-use Rattle.search.specs.declared.SearchAnswer.TheVariants as search
+use Rattle.search.specs.declared.SearchRefusal.TheVariants as search
 use Rattle.search.specs.Search.{search_verdict}
-use Rattle.packet_answer.specs.declared.PacketAnswer.TheVariants as packet
 use Rattle.packet_answer.specs.Packet.{packet_verdict}
-use Rattle.bundle.specs.declared.BundleCheck.TheVariants as bundle
+use Rattle.bundle.specs.declared.BundleRefusal.TheVariants as bundle
 use Rattle.bundle.specs.Bundle.{bundle_verdict}
 use Rattle.gateway.specs.Parts.{GatewayAnswer, gateway_verdict}
 use Rattle.gateway.specs.Decode.{refused_as}
@@ -41,76 +36,70 @@ by_again from verdict again a b h e =
 abbrev of_packet : {A : Type 0} → (PacketRefusal → A) → Refusal → A
 of_packet refused r = by_kind refused (λ why. refused refusal.Version) (refused refusal.Version) r
 
-ip_again : Again (of_packet ip.Refused) ip_verdict
-ip_again (ip.Refused r) = refl
-ip_again (ip.Facts f) = tt
+ip_again : Again (of_packet Err) ip_verdict
+ip_again (Err r) = refl
+ip_again (Ok f) = tt
 
-answer_again : Again (of_packet answer.Refused) answer_verdict
-answer_again answer.Syn = tt
-answer_again answer.SynAck = tt
-answer_again answer.Nothing = tt
-answer_again (answer.Refused r) = refl
+answer_again : Again (of_packet Err) answer_verdict
+answer_again (Ok r) = tt
+answer_again (Err r) = refl
 
-packet_again : Again (of_packet packet.Refused) packet_verdict
-packet_again (packet.Syn f) = tt
-packet_again (packet.SynAck f) = tt
-packet_again packet.Nothing = tt
-packet_again (packet.Refused r) = refl
+packet_again : Again (of_packet Err) packet_verdict
+packet_again (Ok a) = tt
+packet_again (Err r) = refl
 
-options_again : Again (λ r. options.Refused) options_verdict
-options_again options.Parsed = tt
-options_again options.Refused = refl
+options_again : Again {A = Result ParsedTcpOptions OptionsTooLong} (λ r. Err too_long) options_verdict
+options_again (Ok _) = tt
+options_again (Err _) = refl
 
-header_again : Again (λ r. header.DoesNotFit) header_verdict
-header_again (header.Fits areas) = tt
-header_again header.DoesNotFit = refl
+header_again : Again (λ r. None) header_verdict
+header_again (Some areas) = tt
+header_again None = refl
 
-line_again : Again (λ r. line.Refused (value_of (returned r))) line_verdict
-line_again line.Read = tt
-line_again (line.Refused at) = refl
+line_again : Again (λ r. refused_at (value_of (returned r))) line_verdict
+line_again (Ok _) = tt
+line_again (Err _) = refl
 
-wrote_again : Again wrote.Refused wrote_verdict
-wrote_again (wrote.Line size) = tt
-wrote_again (wrote.Refused r) = refl
+wrote_again : Again Err wrote_verdict
+wrote_again (Ok size) = tt
+wrote_again (Err r) = refl
 
 -- One whose refusals are a list's, and one more or none.
 abbrev of_list : {A : Type 0} → (ListRefusal → A) → A → Refusal → A
 of_list refused other r = by_kind (λ why. other) refused other r
 
-list_again : Again (of_list list.Refused list.Good) list_verdict
-list_again list.Good = tt
-list_again (list.Refused r) = refl
+list_again : Again (of_list Err (Ok tt)) list_verdict
+list_again (Ok tt) = tt
+list_again (Err r) = refl
 
-search_again : Again (of_list search.List search.LayoutTooLong) search_verdict
-search_again (search.Searched f) = tt
-search_again search.LayoutTooLong = refl
-search_again (search.List r) = refl
+search_again : Again (of_list (λ why. Err (search.List why)) (Err search.LayoutTooLong)) search_verdict
+search_again (Ok f) = tt
+search_again (Err search.LayoutTooLong) = refl
+search_again (Err (search.List r)) = refl
 
-bundle_again : Again (of_list bundle.List bundle.DoesNotFit) bundle_verdict
-bundle_again bundle.Good = tt
-bundle_again bundle.DoesNotFit = refl
-bundle_again (bundle.List r) = refl
+bundle_again : Again (of_list (λ why. Err (bundle.List why)) (Err bundle.DoesNotFit)) bundle_verdict
+bundle_again (Ok tt) = tt
+bundle_again (Err bundle.DoesNotFit) = refl
+bundle_again (Err (bundle.List r)) = refl
 
 gateway_again : Again refused_as gateway_verdict
-gateway_again (GatewayAnswer.answered (packet.Syn f)) = tt
-gateway_again (GatewayAnswer.answered (packet.SynAck f)) = tt
-gateway_again (GatewayAnswer.answered packet.Nothing) = tt
-gateway_again (GatewayAnswer.answered (packet.Refused r)) = refl
+gateway_again (GatewayAnswer.answered (Ok a)) = tt
+gateway_again (GatewayAnswer.answered (Err r)) = refl
 gateway_again (GatewayAnswer.list_refused_lem r) = refl
 
 pub told : Told
 told =
     record {
       refusal = by_again (λ r. r) Verdict.refused (λ r. refl);
-      ip = by_again (of_packet ip.Refused) ip_verdict ip_again;
-      packet = by_again (of_packet answer.Refused) answer_verdict answer_again;
-      options = by_again (λ r. options.Refused) options_verdict options_again;
-      header = by_again (λ r. header.DoesNotFit) header_verdict header_again;
-      list = by_again (of_list list.Refused list.Good) list_verdict list_again;
-      line = by_again (λ r. line.Refused (value_of (returned r))) line_verdict line_again;
-      wrote = by_again wrote.Refused wrote_verdict wrote_again;
-      search = by_again (of_list search.List search.LayoutTooLong) search_verdict search_again;
-      bundle = by_again (of_list bundle.List bundle.DoesNotFit) bundle_verdict bundle_again;
-      packet_answer = by_again (of_packet packet.Refused) packet_verdict packet_again;
+      ip = by_again (of_packet Err) ip_verdict ip_again;
+      packet = by_again (of_packet Err) answer_verdict answer_again;
+      options = by_again (λ r. Err too_long) options_verdict options_again;
+      header = by_again (λ r. None) header_verdict header_again;
+      list = by_again (of_list Err (Ok tt)) list_verdict list_again;
+      line = by_again (λ r. refused_at (value_of (returned r))) line_verdict line_again;
+      wrote = by_again Err wrote_verdict wrote_again;
+      search = by_again (of_list (λ why. Err (search.List why)) (Err search.LayoutTooLong)) search_verdict search_again;
+      bundle = by_again (of_list (λ why. Err (bundle.List why)) (Err bundle.DoesNotFit)) bundle_verdict bundle_again;
+      packet_answer = by_again (of_packet Err) packet_verdict packet_again;
       gateway = by_again refused_as gateway_verdict gateway_again;
     }

@@ -1,4 +1,5 @@
 -- Alike packets have their options damaged at the same places, and the walk of either entry gives the same of them.
+use Rattle.std.specs.Prelude.{Result, Ok, Err}
 use mathlib.Core.Path.{◌≡◌, refl, sym, ◌∙◌, ap}
 use mathlib.Core.Bool.{Bool, false}
 use mathlib.Core.List.{List}
@@ -12,8 +13,8 @@ use Rattle.syn_options.specs.declared.OptionWalk.{OptionWalk}
 use Rattle.syn_options.specs.Places.{places_of}
 use Rattle.syn_options.specs.Stops.{nothing, walk_options}
 use Rattle.syn_options.proofs.Readers.{whole_walk}
-use Rattle.ip.specs.declared.IpRead.{IpRead}
-use Rattle.ip.specs.declared.IpRead.TheVariants as ip
+use Rattle.ip.specs.declared.IpFacts.{IpFacts}
+use Rattle.refusals.specs.declared.PacketRefusal.{PacketRefusal}
 use Rattle.ip.specs.Ip.{read_ip}
 use Rattle.flow.specs.declared.Mode.{Mode}
 use Rattle.flow.specs.Modes.{stop_of}
@@ -33,9 +34,9 @@ in_packets
     → read (options_in p) ≡ read (options_in q)
 in_packets read same p q a = rw (← stage_alike document01 read_ip keeps_level p q a) (after (read_ip p) refl)
   where
-    after : (x : IpRead) → read_ip p ≡ x → read (options_given x p) ≡ read (options_given x q)
-    after (ip.Refused r) e = refl
-    after (ip.Facts f) e = same _ _ (part_alike document01 read_ip keeps_level p q a f e).options
+    after : (x : Result IpFacts PacketRefusal) → read_ip p ≡ x → read (options_given x p) ≡ read (options_given x q)
+    after (Err r) e = refl
+    after (Ok f) e = same _ _ (part_alike document01 read_ip keeps_level p q a f e).options
 
 places_same : (s t : List ℕ) → AlikeOptions s t → places_of (take 40 s) ≡ places_of (take 40 t)
 places_same s t a =

@@ -1,4 +1,5 @@
 -- The refusals of option strings, lists and searches, and all of them together with those of packets and bundles.
+use Rattle.std.specs.Prelude.{Result, Ok, Err}
 use mathlib.Core.Path.{◌≡◌, refl, ap}
 use mathlib.Core.Bool.{Bool, true, false, cond, ◌&&◌, false≢true}
 use mathlib.Core.List.{List, [], ◌∷◌}
@@ -8,20 +9,17 @@ use native.Mathlib.Omega.{arith}
 use lib.Dec.{leb, ltb}
 use lib.ListN.{length}
 use borrow.Author.Tests.{ltb-true, ltb-false, leb-false, lt-leb}
-use Rattle.quirks.specs.Named.{empty}
 use Rattle.observable.specs.declared.TcpObservation.{TcpObservation}
-use Rattle.syn_options.specs.declared.OptionsAnswer.TheVariants as options_answer
-use Rattle.syn_options.specs.declared.OptionsRead.{OptionsRead}
-use Rattle.syn_options.specs.Walk.{start_walk, walk_of, parsed_of, parse_options_raw, options_refusal}
+use Rattle.refusals.specs.declared.OptionsTooLong.{OptionsTooLong}
+use Rattle.syn_options.specs.Walk.{too_long, parse_options_raw, options_refusal}
 use Rattle.syn_options.proofs.Entries.{refused_over_forty}
 use Rattle.refusals.specs.declared.ListRefusal.{ListRefusal}
 use Rattle.refusals.specs.declared.ListRefusal.TheVariants as why
-use Rattle.siglist.specs.declared.ListAnswer.{ListAnswer}
-use Rattle.siglist.specs.declared.ListAnswer.TheVariants as list_answer
 use Rattle.siglist.specs.List.{record_count, records_offset, layout_count, layout_offset, list_fits, check_list, list_refusal}
 use Rattle.siglist.proofs.FirstBad.{does_not_fit, Checked, first_bad_named}
-use Rattle.search.specs.declared.SearchAnswer.{SearchAnswer}
-use Rattle.search.specs.declared.SearchAnswer.TheVariants as search_answer
+use Rattle.found.specs.declared.Searched.{Searched}
+use Rattle.search.specs.declared.SearchRefusal.{SearchRefusal}
+use Rattle.search.specs.declared.SearchRefusal.TheVariants as search_answer
 use Rattle.search.specs.Search.{after_list_check, search_list, search_refusal}
 use Rattle.search.proofs.SearchOrder.{search_order}
 use Rattle.acceptance.specs.Refusals.{First, OptionsRow, FirstBad, ListRow, SearchRow, Refusals}
@@ -35,7 +33,7 @@ use Rattle.acceptance.proofs.PacketRefusals.{packet_first, plain_first}
 
 -- ---- option strings
 
-options_first : (s : List ℕ) (n : ℕ) → (options_refusal (parse_options_raw s).answer ≡ n) ↔ First (OptionsRow s) (8 ∷ []) n
+options_first : (s : List ℕ) (n : ℕ) → (options_refusal (parse_options_raw s) ≡ n) ↔ First (OptionsRow s) (8 ∷ []) n
 options_first s =
     exactly
     (rw (refused_over_forty s)
@@ -44,26 +42,8 @@ options_first s =
     short : ltb 40 (length s) ≡ false → OptionsRow s 8 → ⊥
     short e (OptionsRow.over_40 h) = let few = ltb-false 40 (length s) e in omega arith
 
-options_give
-    : (s : List ℕ)
-    → (parse_options_raw s).answer ≡ options_answer.Refused
-    → parse_options_raw s ≡ record { answer = options_answer.Refused; options = parsed_of (start_walk empty) }
-unfolding parse_options_raw
-options_give s = by_length (ltb 40 (length s))
-  where
-    by_length
-        : (t : Bool)
-        → (cond {A = OptionsRead} t
-        (record { answer = options_answer.Refused; options = parsed_of (start_walk empty) })
-        (record { answer = options_answer.Parsed; options = parsed_of (walk_of true false empty s) })).answer
-        ≡ options_answer.Refused
-        → ◌≡◌ {A = OptionsRead}
-        (cond t
-        (record { answer = options_answer.Refused; options = parsed_of (start_walk empty) })
-        (record { answer = options_answer.Parsed; options = parsed_of (walk_of true false empty s) }))
-        (record { answer = options_answer.Refused; options = parsed_of (start_walk empty) })
-    by_length true e = refl
-    by_length false e = let z : ◌≡◌ {A = ℕ} 0 1 = cc in absurd (omega arith)
+options_give : (s : List ℕ) (e : OptionsTooLong) → parse_options_raw s ≡ Err e → parse_options_raw s ≡ Err too_long
+options_give s _ e = e
 
 -- ---- lists
 
@@ -90,7 +70,7 @@ module _ (l : List ℕ) where
   fits e (ListRow.entries h) = false≢true (rw (lt-leb (layout_offset l + 2 * layout_count l) (length l) h, and_false) at e)
 
   -- A list that fits: all records are good, or the first bad one is named.
-  records_first : {a : ListAnswer} → Checked l 0 (record_count l) a → First (ListRow l) (10 ∷ []) (list_refusal a)
+  records_first : {a : Result (Unit {0}) ListRefusal} → Checked l 0 (record_count l) a → First (ListRow l) (10 ∷ []) (list_refusal a)
   unfolding list_refusal
   records_first (Checked.all_good good) = First.later no_bad First.none
     where
@@ -107,14 +87,14 @@ module _ (l : List ℕ) where
       by_fit false e = rw (does_not_fit l e) (First.here (fits_not e))
 
   -- The index of refusal 10.
-  named_bad : {a : ListAnswer} (i : ℕ) → Checked l 0 (record_count l) a → a ≡ list_answer.Refused (why.BadRecord i) → FirstBad l i
+  named_bad : {a : Result (Unit {0}) ListRefusal} (i : ℕ) → Checked l 0 (record_count l) a → a ≡ Err (why.BadRecord i) → FirstBad l i
   named_bad i (Checked.all_good good) e = let z : ◌≡◌ {A = ℕ} 0 1 = cc in absurd (omega arith)
   named_bad i (Checked.first_bad_lem k h j bad before) e =
       let same : k ≡ i = cc in
       rw (← same)
       (record { within = omega arith; bad = bad_of l k bad; before = λ m b. good_not_bad l m (before m (omega arith) b) })
 
-  list_gives : (i : ℕ) → check_list l ≡ list_answer.Refused (why.BadRecord i) → FirstBad l i
+  list_gives : (i : ℕ) → check_list l ≡ Err (why.BadRecord i) → FirstBad l i
   list_gives i e = by_fit (list_fits l) refl
     where
       by_fit : (t : Bool) → list_fits l ≡ t → FirstBad l i
@@ -149,18 +129,18 @@ module _ (o : TcpObservation) (l : List ℕ) where
       (by_test (ltb 40 o.olayout.count) (λ e. SearchRow.layout_over_40 (ltb-true 40 o.olayout.count e)) few (λ e.
       as_list (list_row l)))
 
-  after_refused : (a : ListAnswer) (r : ListRefusal) → after_list_check a o l ≡ search_answer.List r → a ≡ list_answer.Refused r
-  after_refused list_answer.Good r e = let z : ◌≡◌ {A = ℕ} 0 1 = cc in absurd (omega arith)
-  after_refused (list_answer.Refused s) r e = let same : s ≡ r = cc in ap list_answer.Refused same
+  after_refused : (a : Result (Unit {0}) ListRefusal) (r : ListRefusal) → after_list_check a o l ≡ Err (search_answer.List r) → a ≡ Err r
+  after_refused (Ok tt) r e = let z : ◌≡◌ {A = ℕ} 0 1 = cc in absurd (omega arith)
+  after_refused (Err s) r e = let same : s ≡ r = cc in ap Err same
 
-  search_gives : (i : ℕ) → search_list o l ≡ search_answer.List (why.BadRecord i) → FirstBad l i
+  search_gives : (i : ℕ) → search_list o l ≡ Err (search_answer.List (why.BadRecord i)) → FirstBad l i
   unfolding search_list
   search_gives i = by_count (ltb 40 o.olayout.count)
     where
       by_count
           : (t : Bool)
-          → cond {A = SearchAnswer} t search_answer.LayoutTooLong (after_list_check (check_list l) o l) ≡ search_answer.List
-          (why.BadRecord i)
+          → cond {A = (Result Searched SearchRefusal)} t (Err search_answer.LayoutTooLong) (after_list_check (check_list l) o l)
+          ≡ Err (search_answer.List (why.BadRecord i))
           → FirstBad l i
       by_count true e = let z : ◌≡◌ {A = ℕ} 0 1 = cc in absurd (omega arith)
       by_count false e = list_gives l i (after_refused (check_list l) (why.BadRecord i) e)

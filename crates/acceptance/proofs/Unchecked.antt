@@ -1,4 +1,5 @@
 -- What the functions that do not refuse answer.
+use Rattle.std.specs.Prelude.{Result, Ok, Err}
 use mathlib.Core.Path.{◌≡◌, refl, sym, ◌∙◌, ap}
 use mathlib.Core.Bool.{Bool, true, false, cond, ◌&&◌}
 use mathlib.Core.List.{List, [], ◌∷◌}
@@ -17,11 +18,11 @@ use Rattle.matching.specs.declared.SignatureFit.TheVariants as fit
 use Rattle.matching.specs.Fit.{features_of, fit_of}
 use Rattle.sigrecord.specs.Record.{entry_count}
 use Rattle.sigrecord.specs.WellFormed.{scalars_good}
-use Rattle.siglist.specs.declared.ListAnswer.{ListAnswer}
+use Rattle.refusals.specs.declared.ListRefusal.{ListRefusal}
 use Rattle.refusals.specs.declared.ListRefusal.TheVariants as why
-use Rattle.siglist.specs.declared.ListAnswer.TheVariants as list
 use Rattle.siglist.specs.List.{record_count, size_of, record_at, list_fits, layout_lies, record_good, check_list}
 use Rattle.siglist.proofs.FirstBad.{Checked, first_bad_named}
+use Rattle.found.specs.declared.Searched.{Searched}
 use Rattle.found.specs.Examined.{searched_in}
 use Rattle.found.specs.Least.{numbers_from}
 use Rattle.found.proofs.Least.{Without, end, stays_in, left_out}
@@ -29,8 +30,9 @@ use Rattle.search.specs.Search.{fit_at, rank_at, search_over, search_all, search
 use Rattle.search.proofs.Examined.{none_examined}
 use Rattle.search.proofs.Rows.{no_rank, none_fits, without}
 use Rattle.flow.specs.Modes.{read_in}
+use Rattle.flow.specs.declared.Kind.TheVariants as kind
+use Rattle.flow.specs.Reading.{observation_read}
 use Rattle.packet_answer.specs.declared.PacketAnswer.TheVariants as packet
-use Rattle.bundle.specs.declared.BundleCheck.TheVariants as check
 use Rattle.bundle.specs.Bundle.{packet_count, check_bundle}
 use Rattle.bundle.specs.Answers.{answer_at, packet_lies, packet_at_in, start_of}
 use Rattle.bundle.proofs.Packets.{good_fits, fits_lies, packets_within, start_first}
@@ -89,21 +91,21 @@ module _ (f : Features) (kinds bytes l : List ℕ) (long : 40 < f.count) where
 
 -- ---- a list that does not fit
 
-never_unfit : {l : List ℕ} {a : ListAnswer} → Checked l 0 (record_count l) a → a ≡ list.Refused why.DoesNotFit → ⊥
+never_unfit : {l : List ℕ} {a : Result (Unit {0}) ListRefusal} → Checked l 0 (record_count l) a → a ≡ Err why.DoesNotFit → ⊥
 never_unfit (Checked.all_good all) e = let z : ◌≡◌ {A = ℕ} 0 1 = cc in omega arith
 never_unfit (Checked.first_bad_lem k b u bad before) e = let z : ◌≡◌ {A = ℕ} 0 1 = cc in omega arith
 
-unfit : (l : List ℕ) → check_list l ≡ list.Refused why.DoesNotFit → list_fits l ≡ false
+unfit : (l : List ℕ) → check_list l ≡ Err why.DoesNotFit → list_fits l ≡ false
 unfit l e = by_test (list_fits l) refl
   where
     by_test : (t : Bool) → list_fits l ≡ t → t ≡ false
     by_test true fits = absurd (never_unfit (first_bad_named l fits) e)
     by_test false fits = refl
 
-good_outcome : (a : ListAnswer) → (list_parts a).outcome ≡ 0 → a ≡ list.Good
+good_outcome : (a : Result (Unit {0}) ListRefusal) → (list_parts a).outcome ≡ 0 → a ≡ (Ok tt)
 unfolding list_parts refused_list
-good_outcome list.Good e = refl
-good_outcome (list.Refused r) e = absurd (omega arith)
+good_outcome (Ok tt) e = refl
+good_outcome (Err r) e = absurd (omega arith)
 
 -- ---- the statements
 
@@ -133,17 +135,21 @@ packet_unchecked =
       checked = λ l. (good_outcome (check_list l), λ good. rw good);
       checked_good = λ l good. rw good;
       syn = λ mode p peer l e.
-          honesty.syn_answer mode p peer l e ∙ ap packet.Syn (search_unchecked.bad_record_lem (read_in mode p peer).observation l);
+          honesty.syn_answer mode p peer l e ∙ ap (λ (s : Searched). Ok (packet.Opening kind.Syn s))
+          (search_unchecked.bad_record_lem (observation_read (read_in mode p peer)) l);
       syn_ack = λ mode p peer l e.
-          honesty.syn_ack_answer mode p peer l e ∙ ap packet.SynAck (search_unchecked.bad_record_lem (read_in mode p peer).observation l);
+          honesty.syn_ack_answer mode p peer l e ∙ ap (λ (s : Searched). Ok (packet.Opening kind.SynAck s))
+          (search_unchecked.bad_record_lem (observation_read (read_in mode p peer)) l);
       syn_unfit = λ mode p peer l e unfits.
-          honesty.syn_answer mode p peer l e ∙ ap packet.Syn (search_unchecked.does_not_fit (read_in mode p peer).observation l unfits);
+          honesty.syn_answer mode p peer l e ∙ ap (λ (s : Searched). Ok (packet.Opening kind.Syn s))
+          (search_unchecked.does_not_fit (observation_read (read_in mode p peer)) l unfits);
       syn_ack_unfit = λ mode p peer l e unfits.
           honesty.syn_ack_answer mode p peer l e
-          ∙ ap packet.SynAck (search_unchecked.does_not_fit (read_in mode p peer).observation l unfits);
+          ∙ ap (λ (s : Searched). Ok (packet.Opening kind.SynAck s))
+          (search_unchecked.does_not_fit (observation_read (read_in mode p peer)) l unfits);
     }
 
-good_lies : (b : List ℕ) (i : ℕ) → check_bundle b ≡ check.Good → i < packet_count b → packet_lies b (start_of b i) ≡ true
+good_lies : (b : List ℕ) (i : ℕ) → check_bundle b ≡ (Ok tt) → i < packet_count b → packet_lies b (start_of b i) ≡ true
 unfolding packet_lies
 good_lies b i good inside =
     let fits = good_fits b good in

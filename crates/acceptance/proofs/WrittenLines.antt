@@ -1,4 +1,5 @@
 -- The text form written: each theorem in its place.
+use Rattle.std.specs.Prelude.{Result, Err}
 use mathlib.Core.Path.{◌≡◌, refl, ap, ◌∙◌}
 use mathlib.Core.List.{List}
 use Prim.Native.Nat.{ℕ, ◌+◌, ◌≤◌}
@@ -12,8 +13,7 @@ use Rattle.text.specs.Written.{written, Lined}
 use Rattle.text.proofs.Writing.{nothing_written}
 use Rattle.observable.specs.declared.TcpObservation.{TcpObservation}
 use Rattle.siglist.proofs.FirstBad.{each_good, good_fits}
-use Rattle.written_line.specs.declared.Wrote.{Wrote}
-use Rattle.written_line.specs.declared.Wrote.TheVariants as wrote
+use Rattle.refusals.specs.declared.Refusal.{Refusal}
 use Rattle.written_line.specs.Answers.{ObservationAnswer, RecordAnswer}
 use Rattle.written_line.specs.Numbers.{ObservationHeld}
 use Rattle.written_line.specs.Writing.{refusing, observation_line, record_line}
@@ -28,11 +28,11 @@ use Rattle.acceptance.proofs.OwnLine.{own_line}
 -- ---- 15 in a buffer that is long enough
 
 record_room
-    : (l : List ℕ) (i room : ℕ) → AllBytes l → 434 ≤ room → (record_line l i room).answer ≡ wrote.Refused refusal.BufferTooShort → ⊥
+    : (l : List ℕ) (i room : ℕ) → AllBytes l → 434 ≤ room → (record_line l i room).answer ≡ Err refusal.BufferTooShort → ⊥
 unfolding refusing
 record_room l i room all h = by (record_line l i room) (record_answer l i room)
   where
-    by : (x : Lined Wrote) → RecordAnswer l i room x → x.answer ≡ wrote.Refused refusal.BufferTooShort → ⊥
+    by : (x : Lined (Result ℕ Refusal)) → RecordAnswer l i room x → x.answer ≡ Err refusal.BufferTooShort → ⊥
     by x (RecordAnswer.list_refused_lem r refused) e = let z : ◌≡◌ {A = ℕ} 0 1 = cc in omega arith
     by x (RecordAnswer.not_in_it good past) e = let z : ◌≡◌ {A = ℕ} 0 1 = cc in omega arith
     by x (RecordAnswer.no_room good there short) e =
@@ -41,12 +41,12 @@ record_room l i room all h = by (record_line l i room) (record_answer l i room)
 
 observation_room
     : (o : TcpObservation) (room : ℕ) → ObservationHeld o → 432 ≤ room
-    → (observation_line o room).answer ≡ wrote.Refused refusal.BufferTooShort
+    → (observation_line o room).answer ≡ Err refusal.BufferTooShort
     → ⊥
 unfolding refusing
 observation_room o room held h = by (observation_line o room) (observation_answer o room)
   where
-    by : (x : Lined Wrote) → ObservationAnswer o room x → x.answer ≡ wrote.Refused refusal.BufferTooShort → ⊥
+    by : (x : Lined (Result ℕ Refusal)) → ObservationAnswer o room x → x.answer ≡ Err refusal.BufferTooShort → ⊥
     by x (ObservationAnswer.over_forty many) e = let z : ◌≡◌ {A = ℕ} 0 1 = cc in omega arith
     by x (ObservationAnswer.no_room few short) e = omega (arith, observation_length_lem o held few)
     by x (ObservationAnswer.written few enough) e = let z : ◌≡◌ {A = ℕ} 0 1 = cc in omega arith

@@ -5,10 +5,9 @@
 -- over demand 2's definitions": `read_packet` and `search_list`, of which Demand2.antt says that they are none. It holds in every mode
 -- ("demand 3 holds for both", document 02, Wish 2), by the same relation; in the plain mode `read_in` is `read_packet` (Modes.antt).
 -- `Demand3` is the statement.
-use Rattle.std.specs.Prelude.{◌≡◌, Bool, List, ◌↔◌, ℕ, suc, ◌<◌, ◌≤◌, length, set}
+use Rattle.std.specs.Prelude.{◌≡◌, Bool, List, ◌↔◌, ℕ, suc, ◌<◌, ◌≤◌, length, set, Option, Result}
 use contract.Lifetimes.{Lfts}
 use Rattle.std.specs.Borrow.{Bor}
-use Rattle.tcp.specs.declared.Mss.{Mss}
 use Rattle.quirks.specs.declared.QuirkSet.{QuirkSet}
 use Rattle.syn_options.specs.declared.StopBefore.{StopBefore}
 use Rattle.syn_options.specs.Walk.{walk_of, parse_options_raw}
@@ -20,7 +19,10 @@ use Rattle.flow.specs.declared.Reading.{Reading}
 use Rattle.flow.specs.Modes.{plain_mode, stop_of, tcp_stage, read_in}
 use Rattle.flow.proofs.read_packet.Reads as read_packet'
 use Rattle.flow.proofs.read_packet_in.Reads as read_packet_in'
-use Rattle.search.specs.declared.SearchAnswer.{SearchAnswer}
+use Rattle.flow.specs.Reading.{observation_read}
+use Rattle.refusals.specs.declared.PacketRefusal.{PacketRefusal}
+use Rattle.found.specs.declared.Searched.{Searched}
+use Rattle.search.specs.declared.SearchRefusal.{SearchRefusal}
 use Rattle.search.specs.Search.{search_list}
 use Rattle.search.proofs.search.Reads as search'
 use Rattle.bundle.specs.Bundle.{packet_count, packets_offset, list_length, list_offset, list_of, packet_bytes, packet_peer, packet_end}
@@ -73,7 +75,7 @@ pub record TheRelation : Type 0 where
 -- ---- alike packets get the same answer
 
 -- What `read_packet` returns, and what `read_packet_in` does in any mode.
-pub data Read (κs : Lfts 1) (packet : Bor (List ℕ)) (peer : Mss) (reading : Reading) : Mode → Type 0 where
+pub data Read (κs : Lfts 1) (packet : Bor (List ℕ)) (peer : Option ℕ) (reading : Result Reading PacketRefusal) : Mode → Type 0 where
   plainly : read_packet'.Post κs (packet, (peer, tt)) reading (packet, (peer, tt)) → Read κs packet peer reading plain_mode
   in_mode
       : {mode : Mode}
@@ -81,12 +83,14 @@ pub data Read (κs : Lfts 1) (packet : Bor (List ℕ)) (peer : Mss) (reading : R
       → Read κs packet peer reading mode
 
 -- What two functions return in a row: the reading of a packet, and the answer of a search for its observation.
-pub record Run (mode : Mode) (packet : Bor (List ℕ)) (peer : Mss) (list : Bor (List ℕ)) (reading : Reading) (answer : SearchAnswer)
+pub record Run
+    (mode : Mode) (packet : Bor (List ℕ)) (peer : Option ℕ) (list : Bor (List ℕ)) (reading : Result Reading PacketRefusal)
+    (answer : Result Searched SearchRefusal)
     : Type 0
   where
     pub κs : Lfts 1
     pub reads : Read κs packet peer reading mode
-    pub searches : search'.Post κs (reading.observation, (list, tt)) answer (reading.observation, (list, tt))
+    pub searches : search'.Post κs (observation_read reading, (list, tt)) answer (observation_read reading, (list, tt))
 
 pub record SameAnswer : Type 0 where
   -- the IP stage, refusals 1 to 6 included
@@ -110,15 +114,15 @@ pub record SameAnswer : Type 0 where
       → Alike p q
       → walk_options (stop_of mode) syn quirks (options_in p) ≡ walk_options (stop_of mode) syn quirks (options_in q)
   -- the packet reader
-  pub reader : (mode : Mode) (p q : List ℕ) (peer : Mss) → Alike p q → read_in mode p peer ≡ read_in mode q peer
+  pub reader : (mode : Mode) (p q : List ℕ) (peer : Option ℕ) → Alike p q → read_in mode p peer ≡ read_in mode q peer
   -- the search, with its reason, its count and its refusals
   pub search
-      : (mode : Mode) (p q : List ℕ) (peer : Mss) (l : List ℕ)
+      : (mode : Mode) (p q : List ℕ) (peer : Option ℕ) (l : List ℕ)
       → Alike p q
-      → search_list (read_in mode p peer).observation l ≡ search_list (read_in mode q peer).observation l
+      → search_list (observation_read (read_in mode p peer)) l ≡ search_list (observation_read (read_in mode q peer)) l
   -- what the functions return
   pub returned
-      : (mode : Mode) (p q list : Bor (List ℕ)) (peer : Mss) (r s : Reading) (a b : SearchAnswer)
+      : (mode : Mode) (p q list : Bor (List ℕ)) (peer : Option ℕ) (r s : Result Reading PacketRefusal) (a b : Result Searched SearchRefusal)
       → Alike p.now q.now
       → Run mode p peer list r a
       → Run mode q peer list s b
@@ -175,9 +179,9 @@ pub record AlikeBundles (b c : List ℕ) : Type 0 where
 -- Bundles, packet by packet: with the same list and the same peer's MSS, packets that are alike have the same answer and the same line.
 pub record BundleSame : Type 0 where
   pub answer
-      : (mode : Mode) (p q : List ℕ) (peer : Mss) (l : List ℕ) → Alike p q → answer_in mode p peer l ≡ answer_in mode q peer l
+      : (mode : Mode) (p q : List ℕ) (peer : Option ℕ) (l : List ℕ) → Alike p q → answer_in mode p peer l ≡ answer_in mode q peer l
   pub line
-      : (mode : Mode) (p q : List ℕ) (peer : Mss) (l : List ℕ)
+      : (mode : Mode) (p q : List ℕ) (peer : Option ℕ) (l : List ℕ)
       → Alike p q
       → line_of (answer_in mode p peer l) ≡ line_of (answer_in mode q peer l)
   pub in_bundles
@@ -196,10 +200,10 @@ pub record BundleSame : Type 0 where
 pub record Demand3 : Type 0 where
   -- the sentence itself: the answer is that of `answer_of`, a refusal or an observation and what the search answers for it
   pub free_bytes
-      : (p q : List ℕ) (peer : Mss) (l : List ℕ) → DifferOnly (Free p q) p q → answer_of p peer l ≡ answer_of q peer l
+      : (p q : List ℕ) (peer : Option ℕ) (l : List ℕ) → DifferOnly (Free p q) p q → answer_of p peer l ≡ answer_of q peer l
   -- and in any mode
   pub free_bytes_in
-      : (mode : Mode) (p q : List ℕ) (peer : Mss) (l : List ℕ)
+      : (mode : Mode) (p q : List ℕ) (peer : Option ℕ) (l : List ℕ)
       → DifferOnly (Free p q) p q
       → answer_in mode p peer l ≡ answer_in mode q peer l
   pub relation : TheRelation

@@ -1,20 +1,19 @@
 -- Generic lines come last (document 02, Wish 3): a list whose byte 21 are all 0 answers as document 01 says, and cases of lists where they
 -- are not. What is found is in Outcome.antt; `GenericLast` is the statement.
-use Rattle.std.specs.Prelude.{◌≡◌, true, false, List, [], ◌∷◌, ◌++◌, ◌↔◌, ◌⊎◌, ℕ, ◌<◌}
+use Rattle.std.specs.Prelude.{◌≡◌, true, false, List, [], ◌∷◌, ◌++◌, ◌↔◌, ◌⊎◌, ℕ, ◌<◌, Some, None, Result, Err}
 use Rattle.basis.specs.Bytes.{byte_at}
 use Rattle.observable.specs.declared.TcpObservation.{TcpObservation}
-use Rattle.tcp.specs.declared.Mss.TheVariants as mss
 use Rattle.quirks.specs.Quirks.{set_of}
 use Rattle.matching.specs.declared.FuzzyReason.{FuzzyReason}
-use Rattle.matching.specs.declared.Hops.TheVariants as hops
 use Rattle.matching.specs.declared.SignatureFit.TheVariants as fit
 use Rattle.refusals.specs.declared.ListRefusal.TheVariants as refusal
-use Rattle.flow.specs.Reading.{read_packet}
+use Rattle.flow.specs.Reading.{read_packet, observation_read}
 use Rattle.siglist.specs.List.{record_count, record_at}
 use Rattle.found.specs.declared.Hit.{Hit}
 use Rattle.found.specs.declared.Found.TheVariants as found
-use Rattle.search.specs.declared.SearchAnswer.{SearchAnswer}
-use Rattle.search.specs.declared.SearchAnswer.TheVariants as answer
+use Rattle.found.specs.declared.Searched.{Searched}
+use Rattle.search.specs.declared.SearchRefusal.{SearchRefusal}
+use Rattle.search.specs.declared.SearchRefusal.TheVariants as answer
 use Rattle.search.specs.Search.{searched, search_list}
 use Rattle.acceptance.specs.Outcome.{fit_of_record, Named, FirstFuzzy, NoneFits}
 use Rattle.acceptance.specs.Refusals.{BadRecord}
@@ -59,11 +58,11 @@ two_records r s = 0 ∷ 2 ∷ 0 ∷ 8 ∷ 0 ∷ 1 ∷ 0 ∷ 56 ∷ r ++ s ++ (2 
 
 -- Packet A against two records, and against none: "first specific exact, else first generic exact, else first fuzzy of either kind.
 -- [..] 10 now covers byte 21 above 1"; and how many were examined. A record of TTL 128 fits it fuzzily.
-abbrev pub search_a : List ℕ → List ℕ → SearchAnswer
-search_a r s = search_list (read_packet packet_a mss.Absent).observation (two_records r s)
+abbrev pub search_a : List ℕ → List ℕ → Result Searched SearchRefusal
+search_a r s = search_list (observation_read (read_packet packet_a None)) (two_records r s)
 
 abbrev pub far_reason : FuzzyReason
-far_reason = record { hops = hops.OutOfRange 64; added = set_of 0; missing = set_of 0 }
+far_reason = record { hops = Some 64; added = set_of 0; missing = set_of 0 }
 
 pub record KindValues : Type 0 where
   pub first_specific
@@ -77,8 +76,8 @@ pub record KindValues : Type 0 where
   pub first_fuzzy_generic
       : search_a (record_with 128 1 7) (record_with 128 0 8)
       ≡ after 2 (found.Fuzzy (record { label = 7; number = 0; generic = true }) far_reason)
-  pub no_records : search_list (read_packet packet_a mss.Absent).observation (0 ∷ 0 ∷ 0 ∷ 8 ∷ 0 ∷ 0 ∷ 0 ∷ 8 ∷ []) ≡ after 0 found.None
-  pub byte_21_of_2 : search_a (record_with 64 0 7) (record_with 64 2 8) ≡ answer.List (refusal.BadRecord 1)
+  pub no_records : search_list (observation_read (read_packet packet_a None)) (0 ∷ 0 ∷ 0 ∷ 8 ∷ 0 ∷ 0 ∷ 0 ∷ 8 ∷ []) ≡ after 0 found.None
+  pub byte_21_of_2 : search_a (record_with 64 0 7) (record_with 64 2 8) ≡ Err (answer.List (refusal.BadRecord 1))
 
 pub record GenericLast : Type 0 where
   pub as_before : (l : List ℕ) → AllSpecific l → AsBefore l

@@ -1,23 +1,20 @@
 -- "Exact, fuzzy and none stay three answers": what each of the three means, for a record, for a search and for a packet (document 01,
 -- module 7 and "The signature list"), and that they stay three in the struct that a gateway gets, in every mode. `Honesty` is the
 -- statement.
-use Rattle.std.specs.Prelude.{◌≡◌, true, false, List, ◌++◌, ◌↔◌, ◌⊎◌, ℕ, ◌<◌}
+use Rattle.std.specs.Prelude.{◌≡◌, true, false, List, ◌++◌, ◌↔◌, ◌⊎◌, ℕ, ◌<◌, Option, Some, None, Ok, Result, Err}
 use Rattle.basis.specs.Bytes.{AllBytes}
-use Rattle.tcp.specs.declared.Mss.{Mss}
 use Rattle.quirks.specs.Quirks.{is_empty}
 use Rattle.observable.specs.declared.TcpObservation.{TcpObservation}
 use Rattle.refusals.specs.declared.PacketRefusal.{PacketRefusal}
-use Rattle.flow.specs.declared.Answer.TheVariants as reading
+use Rattle.flow.specs.declared.Kind.TheVariants as kind
 use Rattle.flow.specs.declared.Mode.{Mode}
 use Rattle.flow.specs.Modes.{read_in}
+use Rattle.flow.specs.Reading.{kind_read, observation_read}
 use Rattle.distances.specs.declared.TtlFit.{TtlFit}
 use Rattle.distances.specs.declared.TtlFit.TheVariants as ttlfit
 use Rattle.distances.specs.Distances.{ttl_fit}
 use Rattle.matching.specs.declared.Features.{Features}
 use Rattle.matching.specs.declared.FuzzyReason.{FuzzyReason}
-use Rattle.matching.specs.declared.Hops.TheVariants as hops
-use Rattle.matching.specs.declared.QuirksFit.{QuirksFit}
-use Rattle.matching.specs.declared.QuirksFit.TheVariants as quirksfit
 use Rattle.sigrecord.specs.declared.Signature.{Signature}
 use Rattle.matching.specs.declared.SignatureFit.TheVariants as fit
 use Rattle.matching.specs.declared.Tolerated.{Tolerated}
@@ -30,7 +27,6 @@ use Rattle.found.specs.declared.Found.{Found}
 use Rattle.found.specs.declared.Found.TheVariants as found
 use Rattle.found.specs.declared.Searched.{Searched}
 use Rattle.found.specs.Rank.{rank_of}
-use Rattle.search.specs.declared.SearchAnswer.TheVariants as answer
 use Rattle.search.specs.Search.{search_over, searched, search_list}
 use Rattle.packet_answer.specs.declared.PacketAnswer.{PacketAnswer}
 use Rattle.packet_answer.specs.declared.PacketAnswer.TheVariants as packet
@@ -42,12 +38,12 @@ use Rattle.gateway.specs.Zeros.{Zeros}
 use Rattle.acceptance.specs.Outcome.{Outcome, FourOutcomes}
 
 -- "Nothing tolerated": the TTL is in range, and no quirk is added or missing.
-pub data NothingTolerated : TtlFit → QuirksFit → Type 0 where
+pub data NothingTolerated : Option TtlFit → Option Tolerated → Type 0 where
   nothing_tolerated
       : {d : ℕ} {q : Tolerated}
       → is_empty q.added ≡ true
       → is_empty q.missing ≡ true
-      → NothingTolerated (ttlfit.InRange d) (quirksfit.Tolerated q)
+      → NothingTolerated (Some (ttlfit.InRange d)) (Some q)
 
 -- "Seven gates must all hold", and nothing is tolerated.
 pub record FitsExactly (f : Features) (kinds bytes : List ℕ) (s : Signature) (count : ℕ) (entries : List ℕ) : Type 0 where
@@ -58,21 +54,21 @@ pub record FitsExactly (f : Features) (kinds bytes : List ℕ) (s : Signature) (
 
 -- "else fuzzy with a reason: the hop distance if out of range, the added and the missing quirks": neither is rejected, and the TTL is
 -- out of range, or a quirk is added, or one is missing.
-pub data ToleratedWith : TtlFit → QuirksFit → FuzzyReason → Type 0 where
+pub data ToleratedWith : Option TtlFit → Option Tolerated → FuzzyReason → Type 0 where
   out_of_range
       : {d : ℕ} {q : Tolerated}
-      → ToleratedWith (ttlfit.OutOfRange d) (quirksfit.Tolerated q)
-      (record { hops = hops.OutOfRange d; added = q.added; missing = q.missing })
+      → ToleratedWith (Some (ttlfit.OutOfRange d)) (Some q)
+      (record { hops = Some d; added = q.added; missing = q.missing })
   an_added
       : {d : ℕ} {q : Tolerated}
       → is_empty q.added ≡ false
-      → ToleratedWith (ttlfit.InRange d) (quirksfit.Tolerated q)
-      (record { hops = hops.InRange; added = q.added; missing = q.missing })
+      → ToleratedWith (Some (ttlfit.InRange d)) (Some q)
+      (record { hops = None; added = q.added; missing = q.missing })
   a_missing
       : {d : ℕ} {q : Tolerated}
       → is_empty q.missing ≡ false
-      → ToleratedWith (ttlfit.InRange d) (quirksfit.Tolerated q)
-      (record { hops = hops.InRange; added = q.added; missing = q.missing })
+      → ToleratedWith (Some (ttlfit.InRange d)) (Some q)
+      (record { hops = None; added = q.added; missing = q.missing })
 
 -- The seven gates hold, and something is tolerated, for this reason.
 pub record FitsFuzzily (f : Features) (kinds bytes : List ℕ) (s : Signature) (count : ℕ) (entries : List ℕ) (reason : FuzzyReason)
@@ -91,10 +87,10 @@ which_of found.None = 3
 
 -- Of a gateway's answer: one of the three, or 4 (neither SYN nor SYN+ACK), or 5 (refused).
 abbrev pub outcome_of : GatewayAnswer → ℕ
-outcome_of (GatewayAnswer.answered (packet.Syn s)) = which_of s.found
-outcome_of (GatewayAnswer.answered (packet.SynAck s)) = which_of s.found
-outcome_of (GatewayAnswer.answered packet.Nothing) = 4
-outcome_of (GatewayAnswer.answered (packet.Refused r)) = 5
+outcome_of (GatewayAnswer.answered (Ok (packet.Opening kind.Syn s))) = which_of s.found
+outcome_of (GatewayAnswer.answered (Ok (packet.Opening kind.SynAck s))) = which_of s.found
+outcome_of (GatewayAnswer.answered (Ok packet.Nothing)) = 4
+outcome_of (GatewayAnswer.answered (Err r)) = 5
 outcome_of (GatewayAnswer.list_refused_lem r) = 5
 
 -- The struct that a gateway gets for a packet, the peer's MSS and a list (`termread_answer_in`; in the plain mode `termread_answer`).
@@ -103,7 +99,7 @@ struct_at mode p peer l = parts_of (gateway_in mode p peer l)
 
 -- The answer that a gateway gets which checked its list once, and its struct (`termread_answer_checked_in`; in the plain mode
 -- `termread_answer_checked`).
-abbrev pub checked_answer : Mode → List ℕ → ℕ → List ℕ → PacketAnswer
+abbrev pub checked_answer : Mode → List ℕ → ℕ → List ℕ → Result PacketAnswer PacketRefusal
 checked_answer mode p peer l = answer_in mode p (peer_of peer) l
 
 abbrev pub checked_struct : Mode → List ℕ → ℕ → List ℕ → TermreadResult
@@ -125,7 +121,7 @@ pub record Honesty : Type 0 where
       → (fit_of f kinds bytes s count entries ≡ fit.Fuzzy reason) ↔ FitsFuzzily f kinds bytes s count entries reason
   -- What a search finds: the first specific exact record of its list, else the first generic exact one, else the first fuzzy one of
   -- either kind with its reason, else none. How many records it examined is in HowLong.antt.
-  pub search : (o : TcpObservation) (l : List ℕ) (s : Searched) → search_list o l ≡ answer.Searched s → Outcome o l s.found
+  pub search : (o : TcpObservation) (l : List ℕ) (s : Searched) → search_list o l ≡ Ok s → Outcome o l s.found
   -- Over a longer row of record numbers a search finds the same, or what has strictly less rank: specific exact, generic exact, fuzzy,
   -- none.
   pub longer_row
@@ -137,22 +133,22 @@ pub record Honesty : Type 0 where
   -- record fits.
   pub answered : (o : TcpObservation) (l : List ℕ) → FourOutcomes o l
   pub syn_answer
-      : (mode : Mode) (p : List ℕ) (peer : Mss) (l : List ℕ)
-      → (read_in mode p peer).answer ≡ reading.Syn
-      → answer_in mode p peer l ≡ packet.Syn (searched (read_in mode p peer).observation l)
+      : (mode : Mode) (p : List ℕ) (peer : Option ℕ) (l : List ℕ)
+      → kind_read (read_in mode p peer) ≡ Ok (Some kind.Syn)
+      → answer_in mode p peer l ≡ Ok (packet.Opening kind.Syn (searched (observation_read (read_in mode p peer)) l))
   pub syn_ack_answer
-      : (mode : Mode) (p : List ℕ) (peer : Mss) (l : List ℕ)
-      → (read_in mode p peer).answer ≡ reading.SynAck
-      → answer_in mode p peer l ≡ packet.SynAck (searched (read_in mode p peer).observation l)
+      : (mode : Mode) (p : List ℕ) (peer : Option ℕ) (l : List ℕ)
+      → kind_read (read_in mode p peer) ≡ Ok (Some kind.SynAck)
+      → answer_in mode p peer l ≡ Ok (packet.Opening kind.SynAck (searched (observation_read (read_in mode p peer)) l))
   -- "nothing" and a refusal stay what they are.
   pub nothing_answer
-      : (mode : Mode) (p : List ℕ) (peer : Mss) (l : List ℕ)
-      → (read_in mode p peer).answer ≡ reading.Nothing
-      → answer_in mode p peer l ≡ packet.Nothing
+      : (mode : Mode) (p : List ℕ) (peer : Option ℕ) (l : List ℕ)
+      → kind_read (read_in mode p peer) ≡ Ok None
+      → answer_in mode p peer l ≡ Ok packet.Nothing
   pub refused_answer
-      : (mode : Mode) (p : List ℕ) (peer : Mss) (l : List ℕ) (r : PacketRefusal)
-      → (read_in mode p peer).answer ≡ reading.Refused r
-      → answer_in mode p peer l ≡ packet.Refused r
+      : (mode : Mode) (p : List ℕ) (peer : Option ℕ) (l : List ℕ) (r : PacketRefusal)
+      → kind_read (read_in mode p peer) ≡ Err r
+      → answer_in mode p peer l ≡ Err r
   -- No two of the three answers are one.
   pub exact_not_fuzzy : (a b : Hit) (r : FuzzyReason) → found.Exact a ≡ found.Fuzzy b r → ⊥
   pub exact_not_none : (a : Hit) → found.Exact a ≡ found.None → ⊥

@@ -1,9 +1,8 @@
 -- "Exact, fuzzy and none stay three answers", for who reads the output: what a line prints of an answer, that lines which print different
 -- things differ, and every word of the output. `Lines` is the statement.
-use Rattle.std.specs.Prelude.{◌≡◌, Bool, List, ◌↔◌, ℕ, ◌<◌}
+use Rattle.std.specs.Prelude.{◌≡◌, Bool, List, ◌↔◌, ℕ, ◌<◌, Option, Result, Ok, Err}
 use Rattle.basis.specs.Bytes.{AllBytes}
 use Rattle.basis.specs.Ascii.{ascii}
-use Rattle.tcp.specs.declared.Mss.{Mss}
 use Rattle.refusals.specs.declared.PacketRefusal.TheVariants as refusal
 use Rattle.refusals.specs.Refusals.{packet_number}
 use Rattle.matching.specs.declared.FuzzyReason.{FuzzyReason}
@@ -11,10 +10,12 @@ use Rattle.found.specs.declared.Found.{Found}
 use Rattle.found.specs.declared.Found.TheVariants as found
 use Rattle.found.specs.declared.Searched.{Searched}
 use Rattle.flow.specs.declared.Mode.{Mode}
+use Rattle.flow.specs.declared.Kind.TheVariants as kind
+use Rattle.refusals.specs.declared.PacketRefusal.{PacketRefusal}
 use Rattle.packet_answer.specs.declared.PacketAnswer.{PacketAnswer}
 use Rattle.packet_answer.specs.declared.PacketAnswer.TheVariants as packet
 use Rattle.packet_answer.specs.Packet.{answer_in}
-use Rattle.bundle.specs.declared.BundleCheck.{BundleCheck}
+use Rattle.bundle.specs.declared.BundleRefusal.{BundleRefusal}
 use Rattle.bundle.specs.Bundle.{bundle_refusal}
 use Rattle.report.specs.Text.{line_of, head_line, refused_line}
 
@@ -41,11 +42,11 @@ printed_found (found.Fuzzy hit reason) = PrintedFound.fuzzy hit.label
 printed_found found.None = PrintedFound.none
 
 -- SYN or SYN+ACK with what was found, nothing, or a refusal by its number; the flags byte of refusal 7 is not printed.
-abbrev pub printed : PacketAnswer → Printed
-printed (packet.Syn s) = Printed.syn (printed_found s.found)
-printed (packet.SynAck s) = Printed.synack (printed_found s.found)
-printed packet.Nothing = Printed.nothing
-printed (packet.Refused r) = Printed.refused (packet_number r)
+abbrev pub printed : Result PacketAnswer PacketRefusal → Printed
+printed (Ok (packet.Opening kind.Syn s)) = Printed.syn (printed_found s.found)
+printed (Ok (packet.Opening kind.SynAck s)) = Printed.synack (printed_found s.found)
+printed (Ok packet.Nothing) = Printed.nothing
+printed (Err r) = Printed.refused (packet_number r)
 
 -- "22 label (two)": a label is a number of two bytes.
 abbrev pub TwoBytes : Found → Type 0
@@ -53,11 +54,11 @@ TwoBytes (found.Exact hit) = hit.label < 65536
 TwoBytes (found.Fuzzy hit reason) = hit.label < 65536
 TwoBytes found.None = Unit {0}
 
-abbrev pub LabelFits : PacketAnswer → Type 0
-LabelFits (packet.Syn s) = TwoBytes s.found
-LabelFits (packet.SynAck s) = TwoBytes s.found
-LabelFits packet.Nothing = Unit {0}
-LabelFits (packet.Refused r) = Unit {0}
+abbrev pub LabelFits : Result PacketAnswer PacketRefusal → Type 0
+LabelFits (Ok (packet.Opening kind.Syn s)) = TwoBytes s.found
+LabelFits (Ok (packet.Opening kind.SynAck s)) = TwoBytes s.found
+LabelFits (Ok packet.Nothing) = Unit {0}
+LabelFits (Err r) = Unit {0}
 
 -- ---- the words
 
@@ -77,23 +78,25 @@ none_after k = record { found = found.None; examined = k }
 pub record Words : Type 0 where
   pub packets_0 : head_line 0 ≡ ascii "packets 0\n"
   pub packets_16383 : head_line 16383 ≡ ascii "packets 16383\n"
-  pub syn_exact : (n k : ℕ) (g : Bool) → line_of (packet.Syn (exactly 7 n g k)) ≡ ascii "syn exact 7\n"
+  pub syn_exact : (n k : ℕ) (g : Bool) → line_of (Ok (packet.Opening kind.Syn (exactly 7 n g k))) ≡ ascii "syn exact 7\n"
   pub syn_fuzzy
-      : (n k : ℕ) (g : Bool) (reason : FuzzyReason) → line_of (packet.Syn (fuzzily 10254 n g reason k)) ≡ ascii "syn fuzzy 10254\n"
-  pub syn_none_lem : (k : ℕ) → line_of (packet.Syn (none_after k)) ≡ ascii "syn none\n"
-  pub synack_exact : (n k : ℕ) (g : Bool) → line_of (packet.SynAck (exactly 0 n g k)) ≡ ascii "synack exact 0\n"
+      : (n k : ℕ) (g : Bool) (reason : FuzzyReason)
+      → line_of (Ok (packet.Opening kind.Syn (fuzzily 10254 n g reason k))) ≡ ascii "syn fuzzy 10254\n"
+  pub syn_none_lem : (k : ℕ) → line_of (Ok (packet.Opening kind.Syn (none_after k))) ≡ ascii "syn none\n"
+  pub synack_exact : (n k : ℕ) (g : Bool) → line_of (Ok (packet.Opening kind.SynAck (exactly 0 n g k))) ≡ ascii "synack exact 0\n"
   pub synack_fuzzy
-      : (n k : ℕ) (g : Bool) (reason : FuzzyReason) → line_of (packet.SynAck (fuzzily 65535 n g reason k)) ≡ ascii "synack fuzzy 65535\n"
-  pub synack_none : (k : ℕ) → line_of (packet.SynAck (none_after k)) ≡ ascii "synack none\n"
-  pub nothing : line_of packet.Nothing ≡ ascii "nothing\n"
-  pub refused_1 : line_of (packet.Refused refusal.Version) ≡ ascii "refused 1\n"
-  pub refused_2 : line_of (packet.Refused refusal.TooShort) ≡ ascii "refused 2\n"
-  pub refused_3 : line_of (packet.Refused refusal.HeaderLength) ≡ ascii "refused 3\n"
-  pub refused_4 : line_of (packet.Refused refusal.UnsupportedProtocol) ≡ ascii "refused 4\n"
-  pub refused_5 : line_of (packet.Refused refusal.Fragment) ≡ ascii "refused 5\n"
-  pub refused_6 : line_of (packet.Refused refusal.TcpTooShort) ≡ ascii "refused 6\n"
-  pub refused_7 : (flags : ℕ) → line_of (packet.Refused (refusal.InvalidTcpFlags flags)) ≡ ascii "refused 7\n"
-  pub refused_14 : line_of (packet.Refused refusal.DataOffset) ≡ ascii "refused 14\n"
+      : (n k : ℕ) (g : Bool) (reason : FuzzyReason)
+      → line_of (Ok (packet.Opening kind.SynAck (fuzzily 65535 n g reason k))) ≡ ascii "synack fuzzy 65535\n"
+  pub synack_none : (k : ℕ) → line_of (Ok (packet.Opening kind.SynAck (none_after k))) ≡ ascii "synack none\n"
+  pub nothing : line_of (Ok packet.Nothing) ≡ ascii "nothing\n"
+  pub refused_1 : line_of (Err refusal.Version) ≡ ascii "refused 1\n"
+  pub refused_2 : line_of (Err refusal.TooShort) ≡ ascii "refused 2\n"
+  pub refused_3 : line_of (Err refusal.HeaderLength) ≡ ascii "refused 3\n"
+  pub refused_4 : line_of (Err refusal.UnsupportedProtocol) ≡ ascii "refused 4\n"
+  pub refused_5 : line_of (Err refusal.Fragment) ≡ ascii "refused 5\n"
+  pub refused_6 : line_of (Err refusal.TcpTooShort) ≡ ascii "refused 6\n"
+  pub refused_7 : (flags : ℕ) → line_of (Err (refusal.InvalidTcpFlags flags)) ≡ ascii "refused 7\n"
+  pub refused_14 : line_of (Err refusal.DataOffset) ≡ ascii "refused 14\n"
   pub refused_9 : refused_line 9 ≡ ascii "refused 9\n"
   pub refused_10 : refused_line 10 ≡ ascii "refused 10\n"
   pub refused_12 : refused_line 12 ≡ ascii "refused 12\n"
@@ -102,10 +105,10 @@ pub record Words : Type 0 where
 
 pub record Lines : Type 0 where
   -- Two packets have the same line exactly when the same is printed of both.
-  pub lines : (a b : PacketAnswer) → LabelFits a → LabelFits b → (line_of a ≡ line_of b) ↔ (printed a ≡ printed b)
+  pub lines : (a b : Result PacketAnswer PacketRefusal) → LabelFits a → LabelFits b → (line_of a ≡ line_of b) ↔ (printed a ≡ printed b)
   -- So of any two packets, each with its mode, peer and list: the answers of byte strings have labels of two bytes.
   pub answers
-      : (a b : Mode) (p q : List ℕ) (m n : Mss) (l k : List ℕ)
+      : (a b : Mode) (p q : List ℕ) (m n : Option ℕ) (l k : List ℕ)
       → AllBytes p
       → AllBytes q
       → AllBytes l
@@ -113,10 +116,14 @@ pub record Lines : Type 0 where
       → (line_of (answer_in a p m l) ≡ line_of (answer_in b q n k)) ↔ (printed (answer_in a p m l) ≡ printed (answer_in b q n k))
   -- The first line tells the count; it is no packet's line, and no refusal of a bundle or a list.
   pub counts : (m n : ℕ) → m < 65536 → n < 65536 → head_line m ≡ head_line n → m ≡ n
-  pub no_packets_line : (a : PacketAnswer) (n : ℕ) → line_of a ≡ head_line n → ⊥
+  pub no_packets_line : (a : Result PacketAnswer PacketRefusal) (n : ℕ) → line_of a ≡ head_line n → ⊥
   pub no_count : (m n : ℕ) → head_line m ≡ refused_line n → ⊥
   -- The line of a bundle that is refused tells its number, and is no packet's line: 9, 10 and 12 are no packet's refusals.
-  pub bundles : (c d : BundleCheck) → refused_line (bundle_refusal c) ≡ refused_line (bundle_refusal d)
+  pub bundles : (c d : Result (Unit {0}) BundleRefusal) → refused_line (bundle_refusal c) ≡ refused_line (bundle_refusal d)
       → bundle_refusal c ≡ bundle_refusal d
-  pub packet_or_bundle : (a : PacketAnswer) (c : BundleCheck) → 0 < bundle_refusal c → line_of a ≡ refused_line (bundle_refusal c) → ⊥
+  pub packet_or_bundle
+      : (a : Result PacketAnswer PacketRefusal) (c : Result (Unit {0}) BundleRefusal)
+      → 0 < bundle_refusal c
+      → line_of a ≡ refused_line (bundle_refusal c)
+      → ⊥
   pub words : Words

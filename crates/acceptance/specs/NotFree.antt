@@ -1,20 +1,19 @@
 -- "All else agrees" (document 01, "Free bytes of demand 3"): for what is not free, packets that differ in one byte and get different
 -- answers; so the list could not take them in. `NotFree` is the statement.
-use Rattle.std.specs.Prelude.{◌≡◌, List, [], ◌∷◌, ℕ, set}
-use Rattle.tcp.specs.declared.Mss.TheVariants as mss
-use Rattle.flow.specs.Reading.{read_packet}
+use Rattle.std.specs.Prelude.{◌≡◌, List, [], ◌∷◌, ℕ, set, None}
+use Rattle.flow.specs.Reading.{read_packet, observation_read}
 use Rattle.search.specs.Search.{search_list}
 use Rattle.alike.specs.Packets.{Alike}
 use Rattle.acceptance.specs.Values.{packet_a, example_list}
 
 -- Two packets are read differently; and they get different answers of the whole example's list.
 abbrev pub ReadApart : List ℕ → List ℕ → Type 0
-ReadApart p q = read_packet p mss.Absent ≡ read_packet q mss.Absent → ⊥
+ReadApart p q = read_packet p None ≡ read_packet q None → ⊥
 
 abbrev pub AnsweredApart : List ℕ → List ℕ → Type 0
 AnsweredApart p q =
-    search_list (read_packet p mss.Absent).observation example_list
-    ≡ search_list (read_packet q mss.Absent).observation example_list
+    search_list (observation_read (read_packet p None)) example_list
+    ≡ search_list (observation_read (read_packet q None)) example_list
     → ⊥
 
 -- A SYN over IPv4 with two NOPs and a timestamps option: own timestamp 1 (bytes 44 to 47), peer's 0 (48 to 51).

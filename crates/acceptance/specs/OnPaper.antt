@@ -2,34 +2,36 @@
 -- last paragraph): of each answer type that refuses one definition, read off the table of the crate `refusals`, and what ties it to the
 -- functions' answers.
 -- `OnPaper` is the statement.
-use Rattle.std.specs.Prelude.{◌≡◌, List, [], ◌∷◌, ℕ, ◌<◌}
+use Rattle.std.specs.Prelude.{◌≡◌, List, [], ◌∷◌, ℕ, ◌<◌, Option, Result}
 use Rattle.basis.specs.Bytes.{AllBytes}
-use Rattle.tcp.specs.declared.Mss.{Mss}
 use Rattle.observable.specs.declared.TcpObservation.{TcpObservation}
 use Rattle.refusals.specs.declared.Refusal.{Refusal}
 use Rattle.refusals.specs.Refusals.{Returned, value_of, every_refusal, Verdict, number_of, returned_by}
-use Rattle.ip.specs.declared.IpRead.{IpRead}
+use Rattle.ip.specs.declared.IpFacts.{IpFacts}
+use Rattle.refusals.specs.declared.PacketRefusal.{PacketRefusal}
 use Rattle.ip.specs.Ip.{read_ip, ip_verdict}
-use Rattle.flow.specs.declared.Answer.{Answer}
+use Rattle.flow.specs.declared.Reading.{Reading}
 use Rattle.flow.specs.declared.Mode.{Mode}
 use Rattle.flow.specs.Modes.{plain_mode, read_in}
 use Rattle.flow.specs.Reading.{answer_verdict}
-use Rattle.syn_options.specs.declared.OptionsAnswer.{OptionsAnswer}
+use Rattle.syn_options.specs.declared.ParsedTcpOptions.{ParsedTcpOptions}
+use Rattle.refusals.specs.declared.OptionsTooLong.{OptionsTooLong}
 use Rattle.syn_options.specs.Walk.{parse_options_raw, options_verdict}
-use Rattle.siglist.specs.declared.Header.{Header}
-use Rattle.siglist.specs.declared.ListAnswer.{ListAnswer}
+use Rattle.siglist.specs.declared.Areas.{Areas}
+use Rattle.refusals.specs.declared.ListRefusal.{ListRefusal}
 use Rattle.siglist.specs.List.{header_of, check_list, header_verdict, list_verdict}
-use Rattle.signature_line.specs.declared.LineAnswer.{LineAnswer}
+use Rattle.signature_line.specs.declared.BadLine.{BadLine}
+use Rattle.signature_line.specs.declared.SignatureRead.{SignatureRead}
 use Rattle.signature_line.specs.Line.{LineRefused}
 use Rattle.signature_line.specs.Answer.{line_verdict}
 use Rattle.signature_line.specs.LineReader.{read_line}
-use Rattle.written_line.specs.declared.Wrote.{Wrote}
 use Rattle.written_line.specs.Writing.{wrote_verdict}
-use Rattle.search.specs.declared.SearchAnswer.{SearchAnswer}
+use Rattle.found.specs.declared.Searched.{Searched}
+use Rattle.search.specs.declared.SearchRefusal.{SearchRefusal}
 use Rattle.search.specs.Search.{search_list, search_verdict}
 use Rattle.packet_answer.specs.declared.PacketAnswer.{PacketAnswer}
 use Rattle.packet_answer.specs.Packet.{answer_in, packet_verdict}
-use Rattle.bundle.specs.declared.BundleCheck.{BundleCheck}
+use Rattle.bundle.specs.declared.BundleRefusal.{BundleRefusal}
 use Rattle.bundle.specs.Bundle.{list_of, check_bundle, bundle_verdict}
 use Rattle.gateway.specs.declared.TermreadResult.{TermreadResult}
 use Rattle.gateway.specs.Parts.{GatewayAnswer, refused, gateway_in, gateway_verdict}
@@ -54,39 +56,39 @@ abbrev pub refusal_paper : Refusal → Paper
 refusal_paper r = paper_of (Verdict.refused r)
 
 -- `read_ip`'s answer.
-abbrev pub ip_paper : IpRead → Paper
+abbrev pub ip_paper : Result IpFacts PacketRefusal → Paper
 ip_paper a = paper_of (ip_verdict a)
 
 -- `read_packet`'s answer, and `read_packet_in`'s.
-abbrev pub answer_paper : Answer → Paper
+abbrev pub answer_paper : Result Reading PacketRefusal → Paper
 answer_paper a = paper_of (answer_verdict a)
 
 -- A packet's line in a bundle.
-abbrev pub packet_paper : PacketAnswer → Paper
+abbrev pub packet_paper : Result PacketAnswer PacketRefusal → Paper
 packet_paper a = paper_of (packet_verdict a)
 
-abbrev pub options_paper : OptionsAnswer → Paper
+abbrev pub options_paper : Result ParsedTcpOptions OptionsTooLong → Paper
 options_paper a = paper_of (options_verdict a)
 
 -- `read_header`'s answer, and `check_list`'s.
-abbrev pub header_paper : Header → Paper
+abbrev pub header_paper : Option Areas → Paper
 header_paper a = paper_of (header_verdict a)
 
-abbrev pub list_paper : ListAnswer → Paper
+abbrev pub list_paper : Result (Unit {0}) ListRefusal → Paper
 list_paper a = paper_of (list_verdict a)
 
 -- `parse_tcp_signature`'s answer.
-abbrev pub line_paper : LineAnswer → Paper
+abbrev pub line_paper : Result SignatureRead BadLine → Paper
 line_paper a = paper_of (line_verdict a)
 
 -- `write_observation`'s and `write_record`'s answer.
-abbrev pub wrote_paper : Wrote → Paper
+abbrev pub wrote_paper : Result ℕ Refusal → Paper
 wrote_paper a = paper_of (wrote_verdict a)
 
-abbrev pub search_paper : SearchAnswer → Paper
+abbrev pub search_paper : Result Searched SearchRefusal → Paper
 search_paper a = paper_of (search_verdict a)
 
-abbrev pub bundle_paper : BundleCheck → Paper
+abbrev pub bundle_paper : Result (Unit {0}) BundleRefusal → Paper
 bundle_paper a = paper_of (bundle_verdict a)
 
 abbrev pub gateway_paper : GatewayAnswer → Paper
@@ -129,17 +131,17 @@ pub record Rows : Type 0 where
   -- the IP stage: 1 to 6
   pub ip : (p : List ℕ) → IsRow (PacketRow plain_mode p) (1 ∷ 2 ∷ 3 ∷ 4 ∷ 5 ∷ 6 ∷ []) p [] (ip_paper (read_ip p))
   pub packet
-      : (mode : Mode) (p : List ℕ) (peer : Mss)
-      → IsRow (PacketRow mode p) packet_order p [] (answer_paper (read_in mode p peer).answer)
-  pub options : (s : List ℕ) → IsRow (OptionsRow s) (8 ∷ []) [] [] (options_paper (parse_options_raw s).answer)
+      : (mode : Mode) (p : List ℕ) (peer : Option ℕ)
+      → IsRow (PacketRow mode p) packet_order p [] (answer_paper (read_in mode p peer))
+  pub options : (s : List ℕ) → IsRow (OptionsRow s) (8 ∷ []) [] [] (options_paper (parse_options_raw s))
   -- a list's header: 9 alone
   pub header : (l : List ℕ) → IsRow (ListRow l) (9 ∷ []) [] l (header_paper (header_of l))
   pub list : (l : List ℕ) → IsRow (ListRow l) (9 ∷ 10 ∷ []) [] l (list_paper (check_list l))
   pub search : (o : TcpObservation) (l : List ℕ) → IsRow (SearchRow o l) (11 ∷ 9 ∷ 10 ∷ []) [] l (search_paper (search_list o l))
-  pub line : (s : List ℕ) → LinePaper s (line_paper (read_line s).answer)
+  pub line : (s : List ℕ) → LinePaper s (line_paper (read_line s))
   pub bundle : (b : List ℕ) → IsRow (BundleRow b) (12 ∷ 9 ∷ 10 ∷ []) [] (list_of b) (bundle_paper (check_bundle b))
   pub packet_answer
-      : (mode : Mode) (p : List ℕ) (peer : Mss) (l : List ℕ)
+      : (mode : Mode) (p : List ℕ) (peer : Option ℕ) (l : List ℕ)
       → IsRow (PacketRow mode p) packet_order p l (packet_paper (answer_in mode p peer l))
   pub gateway
       : (mode : Mode) (p : List ℕ) (peer : ℕ) (l : List ℕ)

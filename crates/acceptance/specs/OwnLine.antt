@@ -1,12 +1,11 @@
 -- An observation written as a line and read as a record (document 02, Wish 7): it is fitted exactly by it. `OwnLine` is the statement.
-use Rattle.std.specs.Prelude.{◌≡◌, false, List, ℕ}
+use Rattle.std.specs.Prelude.{◌≡◌, false, List, ℕ, Option, Ok}
 use Rattle.basis.specs.Bytes.{AllBytes}
-use Rattle.tcp.specs.declared.Mss.{Mss}
 use Rattle.observable.specs.declared.TcpObservation.{TcpObservation}
 use Rattle.flow.specs.declared.Mode.{Mode}
 use Rattle.flow.specs.Modes.{read_in}
+use Rattle.flow.specs.Reading.{observation_read}
 use Rattle.found.specs.declared.Found.TheVariants as found
-use Rattle.search.specs.declared.SearchAnswer.TheVariants as answer
 use Rattle.search.specs.Search.{search_list}
 use Rattle.signature_line.specs.Answer.{read_of}
 use Rattle.signature_line.specs.LineReader.{read_line}
@@ -21,10 +20,10 @@ pub record FitsItself (o : TcpObservation) : Type 0 where
   pub reads : read_line (observation_text o) ≡ read_of meaning
   pub exact
       : search_list o (list_of_one meaning)
-      ≡ answer.Searched (record { found = found.Exact (record { label = 0; number = 0; generic = false }); examined = 1 })
+      ≡ Ok (record { found = found.Exact (record { label = 0; number = 0; generic = false }); examined = 1 })
 
 -- In every mode, for every packet of bytes, whatever the peer's MSS. Beside a refusal and "nothing" stands the empty observation, of which
 -- it holds too.
 pub record OwnLine : Type 0 where
-  pub observed : (mode : Mode) (p : List ℕ) (peer : Mss) → AllBytes p → Observed (read_in mode p peer).observation
-  pub fits : (mode : Mode) (p : List ℕ) (peer : Mss) → AllBytes p → FitsItself (read_in mode p peer).observation
+  pub observed : (mode : Mode) (p : List ℕ) (peer : Option ℕ) → AllBytes p → Observed (observation_read (read_in mode p peer))
+  pub fits : (mode : Mode) (p : List ℕ) (peer : Option ℕ) → AllBytes p → FitsItself (observation_read (read_in mode p peer))

@@ -1,35 +1,33 @@
 -- Document 01, "Refusal numbers, in order of test": each number with what its row says, the order in which a packet, an option
 -- string, a list, a search and a bundle are tested, and what a refusal gives; and document 02's row of a packet in the strict mode.
 -- `Refusals` is the statement.
-use Rattle.std.specs.Prelude.{◌≡◌, true, false, List, [], ◌∷◌, ◌↔◌, ℕ, ◌+◌, ◌*◌, ◌<◌, length}
+use Rattle.std.specs.Prelude.{◌≡◌, true, false, List, [], ◌∷◌, ◌↔◌, ℕ, ◌+◌, ◌*◌, ◌<◌, length, Option, Ok, Err, Result}
 use Rattle.basis.specs.Bytes.{byte_at, be16, be32, part}
 use Rattle.rfc.specs.Rfc791 as v4
 use Rattle.rfc.specs.Rfc8200 as v6
 use Rattle.rfc.specs.Rfc9293 as tcp
-use Rattle.tcp.specs.declared.Mss.{Mss}
 use Rattle.quirks.specs.Quirks.{set_of, holds}
-use Rattle.quirks.specs.Named.{empty, seventeen}
+use Rattle.quirks.specs.Named.{seventeen}
 use Rattle.observable.specs.declared.TcpObservation.{TcpObservation}
-use Rattle.observable.specs.Observation.{empty_observation}
-use Rattle.syn_options.specs.declared.OptionsAnswer.TheVariants as options_answer
-use Rattle.syn_options.specs.Walk.{start_walk, parsed_of, parse_options_raw, options_refusal}
+use Rattle.refusals.specs.declared.OptionsTooLong.{OptionsTooLong}
+use Rattle.syn_options.specs.Walk.{too_long, parse_options_raw, options_refusal}
 use Rattle.refusals.specs.declared.PacketRefusal.{PacketRefusal}
 use Rattle.refusals.specs.declared.PacketRefusal.TheVariants as refusal
 use Rattle.refusals.specs.declared.ListRefusal.TheVariants as why
 use Rattle.refusals.specs.Refusals.{packet_number}
-use Rattle.flow.specs.declared.Answer.TheVariants as answer
+use Rattle.flow.specs.declared.Kind.TheVariants as kind
 use Rattle.flow.specs.declared.Mode.{Mode}
 use Rattle.flow.specs.declared.Reading.{Reading}
 use Rattle.tcp_header.specs.Flags.{masked_type}
 use Rattle.flow.specs.Modes.{plain_mode, read_in}
 use Rattle.flow.specs.Reading.{read_packet, refusal_of}
-use Rattle.siglist.specs.declared.ListAnswer.TheVariants as list_answer
+use Rattle.flow.specs.declared.Reading.TheVariants as reading
 use Rattle.sigrecord.specs.Record.{first_entry, entry_count}
 use Rattle.siglist.specs.List.{record_count, records_offset, layout_count, layout_offset, record_at, entries_of, record_good, check_list}
 use Rattle.siglist.specs.List.{list_refusal}
-use Rattle.search.specs.declared.SearchAnswer.TheVariants as search_answer
+use Rattle.search.specs.declared.SearchRefusal.TheVariants as search_answer
 use Rattle.search.specs.Search.{search_list, search_refusal}
-use Rattle.bundle.specs.declared.BundleCheck.TheVariants as bundle_check
+use Rattle.bundle.specs.declared.BundleRefusal.TheVariants as bundle_check
 use Rattle.bundle.specs.Bundle.{packet_count, packets_offset, list_length, list_offset, list_of, packet_end, check_bundle, bundle_refusal}
 use Rattle.bundle.specs.Answers.{start_of, bundle_answer}
 
@@ -103,25 +101,25 @@ pub data Refused (p : List ℕ) : PacketRefusal → Type 0 where
   nothing_more : {r : PacketRefusal} → (packet_number r ≡ 7 → ⊥) → Refused p r
   flags_byte : {f : ℕ} → FlagsByte p f → Refused p (refusal.InvalidTcpFlags f)
 
-pub record Gives (mode : Mode) (p : List ℕ) (peer : Mss) : Type 0 where
+pub record Gives (mode : Mode) (p : List ℕ) (peer : Option ℕ) : Type 0 where
   pub why : PacketRefusal
-  pub reading : read_in mode p peer ≡ record { answer = answer.Refused why; observation = empty_observation }
+  pub reading : read_in mode p peer ≡ Err why
   pub also : Refused p why
 
 -- "Valid flags whose masked type is neither SYN nor SYN+ACK answer 'nothing', which is not a refusal"; nothing stands beside it either.
-pub data Answered (p : List ℕ) : Reading → Type 0 where
-  syn : {f : ℕ} {o : TcpObservation} → FlagsByte p f → masked_type f ≡ 2 → Answered p (record { answer = answer.Syn; observation = o })
+pub data Answered (p : List ℕ) : Result Reading PacketRefusal → Type 0 where
+  syn : {f : ℕ} {o : TcpObservation} → FlagsByte p f → masked_type f ≡ 2 → Answered p (Ok (reading.Opening kind.Syn o))
   syn_ack
       : {f : ℕ} {o : TcpObservation}
       → FlagsByte p f
       → masked_type f ≡ 18
-      → Answered p (record { answer = answer.SynAck; observation = o })
+      → Answered p (Ok (reading.Opening kind.SynAck o))
   neither
       : {f : ℕ}
       → FlagsByte p f
       → (masked_type f ≡ 2 → ⊥)
       → (masked_type f ≡ 18 → ⊥)
-      → Answered p (record { answer = answer.Nothing; observation = empty_observation })
+      → Answered p (Ok reading.Nothing)
 
 -- ---- an option string
 
@@ -204,34 +202,32 @@ pub record Refusals : Type 0 where
   -- "Given exactly when", "in order of test": a number is given exactly when its row holds and no row before it does, and 0, which
   -- is no refusal, exactly when no row holds.
   pub packet
-      : (mode : Mode) (p : List ℕ) (peer : Mss) (n : ℕ)
-      → (refusal_of (read_in mode p peer).answer ≡ n) ↔ First (PacketRow mode p) packet_order n
-  pub packet_gives : (mode : Mode) (p : List ℕ) (peer : Mss) → 0 < refusal_of (read_in mode p peer).answer → Gives mode p peer
+      : (mode : Mode) (p : List ℕ) (peer : Option ℕ) (n : ℕ)
+      → (refusal_of (read_in mode p peer) ≡ n) ↔ First (PacketRow mode p) packet_order n
+  pub packet_gives : (mode : Mode) (p : List ℕ) (peer : Option ℕ) → 0 < refusal_of (read_in mode p peer) → Gives mode p peer
   pub packet_answers
-      : (mode : Mode) (p : List ℕ) (peer : Mss) → refusal_of (read_in mode p peer).answer ≡ 0 → Answered p (read_in mode p peer)
+      : (mode : Mode) (p : List ℕ) (peer : Option ℕ) → refusal_of (read_in mode p peer) ≡ 0 → Answered p (read_in mode p peer)
   -- document 01's reader, by document 01's rows
   pub plain_packet_lem
-      : (p : List ℕ) (peer : Mss) (n : ℕ) → (refusal_of (read_packet p peer).answer ≡ n) ↔ First (PacketRow plain_mode p) plain_order n
+      : (p : List ℕ) (peer : Option ℕ) (n : ℕ) → (refusal_of (read_packet p peer) ≡ n) ↔ First (PacketRow plain_mode p) plain_order n
   -- "an option string 8"
-  pub options : (s : List ℕ) (n : ℕ) → (options_refusal (parse_options_raw s).answer ≡ n) ↔ First (OptionsRow s) (8 ∷ []) n
+  pub options : (s : List ℕ) (n : ℕ) → (options_refusal (parse_options_raw s) ≡ n) ↔ First (OptionsRow s) (8 ∷ []) n
   pub options_give
-      : (s : List ℕ)
-      → (parse_options_raw s).answer ≡ options_answer.Refused
-      → parse_options_raw s ≡ record { answer = options_answer.Refused; options = parsed_of (start_walk empty) }
+      : (s : List ℕ) (e : OptionsTooLong) → parse_options_raw s ≡ Err e → parse_options_raw s ≡ Err too_long
   -- the test of a record that the check and the fit use
   pub record_bad : (l : List ℕ) (i : ℕ) → (record_good l i ≡ false) ↔ BadRecord l i
   -- a list 9, then 10, with the index of the first bad record
   pub list : (l : List ℕ) (n : ℕ) → (list_refusal (check_list l) ≡ n) ↔ First (ListRow l) (9 ∷ 10 ∷ []) n
-  pub list_gives : (l : List ℕ) (i : ℕ) → check_list l ≡ list_answer.Refused (why.BadRecord i) → FirstBad l i
+  pub list_gives : (l : List ℕ) (i : ℕ) → check_list l ≡ Err (why.BadRecord i) → FirstBad l i
   -- "a search 11, then 9, then 10", with the same index
   pub search
       : (o : TcpObservation) (l : List ℕ) (n : ℕ)
       → (search_refusal (search_list o l) ≡ n) ↔ First (SearchRow o l) (11 ∷ 9 ∷ 10 ∷ []) n
-  pub search_gives : (o : TcpObservation) (l : List ℕ) (i : ℕ) → search_list o l ≡ search_answer.List (why.BadRecord i) → FirstBad l i
+  pub search_gives : (o : TcpObservation) (l : List ℕ) (i : ℕ) → search_list o l ≡ Err (search_answer.List (why.BadRecord i)) → FirstBad l i
   -- "A bundle meets 12, then 9, then 10, before any packet", with the same index; beside a refusal no packet is answered, and in a
   -- bundle that is not refused every packet is.
   pub bundle : (b : List ℕ) (n : ℕ) → (bundle_refusal (check_bundle b) ≡ n) ↔ First (BundleRow b) (12 ∷ 9 ∷ 10 ∷ []) n
-  pub bundle_gives : (b : List ℕ) (i : ℕ) → check_bundle b ≡ bundle_check.List (why.BadRecord i) → FirstBad (list_of b) i
+  pub bundle_gives : (b : List ℕ) (i : ℕ) → check_bundle b ≡ Err (bundle_check.List (why.BadRecord i)) → FirstBad (list_of b) i
   pub bundle_refused : (mode : Mode) (b : List ℕ) → 0 < bundle_refusal (check_bundle b) → (bundle_answer mode b).answers ≡ []
   pub bundle_answered
-      : (mode : Mode) (b : List ℕ) → check_bundle b ≡ bundle_check.Good → length (bundle_answer mode b).answers ≡ packet_count b
+      : (mode : Mode) (b : List ℕ) → check_bundle b ≡ (Ok tt) → length (bundle_answer mode b).answers ≡ packet_count b

@@ -1,8 +1,6 @@
 -- A reader has two stages, chosen apart: the IP stage gives facts and the TCP part, the TCP stage sees nothing else. What is proved of
 -- each stage by itself holds of the reader of both, whichever they are. `Stages` is the statement.
-use Rattle.std.specs.Prelude.{◌≡◌, List, ◌↔◌, ℕ}
-use Rattle.tcp.specs.declared.Mss.{Mss}
-use Rattle.tcp.specs.declared.Mss.TheVariants as mss
+use Rattle.std.specs.Prelude.{◌≡◌, List, ◌↔◌, ℕ, Option, None}
 use Rattle.ip.specs.Ip.{IpStage, read_ip}
 use Rattle.flow.specs.declared.Mode.{Mode}
 use Rattle.flow.specs.Tcp.{read_tcp}
@@ -23,7 +21,7 @@ pub record AlikeByStages : Type 1 where
       : (level : IpLevel) (stage : IpStage) (tcp : TcpStage)
       → KeepsLevel level stage
       → KeepsTcp tcp
-      → (p q : List ℕ) (peer : Mss)
+      → (p q : List ℕ) (peer : Option ℕ)
       → AlikeBy level p q
       → read_by stage tcp p peer ≡ read_by stage tcp q peer
 
@@ -32,15 +30,15 @@ pub record PeerPutIn : Type 0 where
   pub any
       : (stage : IpStage) (tcp : TcpStage)
       → TakesPeer tcp
-      → (p : List ℕ) (peer : Mss)
-      → read_by stage tcp p peer ≡ with_peer peer (read_by stage tcp p mss.Absent)
+      → (p : List ℕ) (peer : Option ℕ)
+      → read_by stage tcp p peer ≡ with_peer peer (read_by stage tcp p None)
   pub tcp_stage_lem : (mode : Mode) → TakesPeer (tcp_stage mode)
-  pub reader : (mode : Mode) (p : List ℕ) (peer : Mss) → read_in mode p peer ≡ with_peer peer (read_in mode p mss.Absent)
+  pub reader : (mode : Mode) (p : List ℕ) (peer : Option ℕ) → read_in mode p peer ≡ with_peer peer (read_in mode p None)
 
 pub record Stages : Type 1 where
   pub alike : AlikeByStages
   pub peer : PeerPutIn
   -- document 01's reader is that of its two stages, and its level's headers are exactly its list; a mode's reader is that of its stages
-  pub reader : (p : List ℕ) (peer : Mss) → read_packet p peer ≡ read_by read_ip read_tcp p peer
-  pub mode_reader : (mode : Mode) (p : List ℕ) (peer : Mss) → read_in mode p peer ≡ read_by read_ip (tcp_stage mode) p peer
+  pub reader : (p : List ℕ) (peer : Option ℕ) → read_packet p peer ≡ read_by read_ip read_tcp p peer
+  pub mode_reader : (mode : Mode) (p : List ℕ) (peer : Option ℕ) → read_in mode p peer ≡ read_by read_ip (tcp_stage mode) p peer
   pub headers : ExactHeader document01

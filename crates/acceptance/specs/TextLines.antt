@@ -3,10 +3,11 @@
 -- `Meaning.antt`; what is read is `parse_tcp::parse_tcp_signature`'s promise, `read_line`. `TextLines` is the statement.
 use Rattle.std.specs.Prelude.{◌≡◌, true, List, ◌↔◌, ℕ, ◌≤◌, length}
 use Rattle.basis.specs.Bytes.{AllBytes}
+use Rattle.refusals.specs.declared.Refusal.TheVariants as refusal
+use Rattle.refusals.specs.Refusals.{Verdict}
 use Rattle.siglist.specs.List.{list_fits, record_good}
-use Rattle.signature_line.specs.declared.LineAnswer.TheVariants as answer
 use Rattle.signature_line.specs.Line.{SignatureLine, longest, LineRefused}
-use Rattle.signature_line.specs.Answer.{read_of, refused_at}
+use Rattle.signature_line.specs.Answer.{read_of, refused_at, line_verdict}
 use Rattle.signature_line.specs.LineReader.{read_line}
 use Rattle.signature_line.specs.Meaning.{LineMeaning}
 use Rattle.signature_line.specs.OneRecord.{WellFormedLine, HasLine}
@@ -24,8 +25,9 @@ pub record TextLines : Type 0 where
   pub every_record : (l : List ℕ) (i : ℕ) → AllBytes l → list_fits l ≡ true → record_good l i ≡ true → HasLine l i
   -- "13 with the offset of the first byte at which no acceptable line of any length can go on (the line's length if it only ends too
   -- soon); a line over 512 bytes first, with 512": given exactly when this is so,
-  pub refused : (s : List ℕ) (at : ℕ) → ((read_line s).answer ≡ answer.Refused at) ↔ LineRefused s at
-  -- and nothing is given beside it: one empty record and one empty layout, whatever the line.
-  pub refusal_gives : (s : List ℕ) (at : ℕ) → (read_line s).answer ≡ answer.Refused at → read_line s ≡ refused_at at
+  pub refused : (s : List ℕ) (at : ℕ) → (read_line s ≡ refused_at at) ↔ LineRefused s at
+  -- and nothing is given beside it.
+  pub refusal_gives
+      : (s : List ℕ) (at : ℕ) → line_verdict (read_line s) ≡ Verdict.refused (refusal.BadLine at) → read_line s ≡ refused_at at
   -- The readings that were decided, by their lines.
   pub values : LineValues

@@ -1,18 +1,16 @@
 -- Document 01, "Values to reproduce": each line marked P, as a case of the definitions; and the union of module 1. One record a subject;
 -- `Values` is the table.
-use Rattle.std.specs.Prelude.{◌≡◌, true, false, List, [], ◌∷◌, ◌++◌, ℕ, length, replicate, set}
+use Rattle.std.specs.Prelude.{◌≡◌, true, false, List, [], ◌∷◌, ◌++◌, ℕ, length, replicate, set, Some, None, Result, Ok, is_ok, IsOkAnd}
 use Rattle.basis.specs.Bytes.{byte_at}
 use Rattle.quirks.specs.declared.Quirk.TheVariants as quirk
 use Rattle.quirks.specs.Quirks.{set_of, bits_of, contains}
 use Rattle.quirks.specs.Named.{display_order, empty, seventeen}
 use Rattle.tcp.specs.declared.PayloadSize.TheVariants as payload
-use Rattle.tcp.specs.declared.Wscale.TheVariants as wscale
-use Rattle.syn_options.specs.declared.OptionsAnswer.TheVariants as options
 use Rattle.syn_options.specs.Walk.{walk_of, parse_options_raw}
 use Rattle.observable.specs.declared.TcpObservation.{TcpObservation}
-use Rattle.flow.specs.declared.Answer.TheVariants as answer
-use Rattle.flow.specs.Reading.{read_packet, refusal_of}
-use Rattle.matching.specs.declared.Hops.TheVariants as hops
+use Rattle.flow.specs.declared.Kind.TheVariants as kind
+use Rattle.flow.specs.declared.Reading.TheVariants as reading
+use Rattle.flow.specs.Reading.{read_packet, refusal_of, observation_read}
 use Rattle.distances.specs.declared.TtlFit.TheVariants as ttlfit
 use Rattle.sigrecord.specs.declared.WindowSize.TheVariants as wsize
 use Rattle.distances.specs.DistanceGates.{window_matches}
@@ -20,16 +18,13 @@ use Rattle.distances.specs.Distances.{initial_ttl, ttl_fit}
 use Rattle.found.specs.declared.Hit.{Hit}
 use Rattle.found.specs.declared.Found.{Found}
 use Rattle.found.specs.declared.Found.TheVariants as found
-use Rattle.siglist.specs.declared.ListAnswer.TheVariants as list
-use Rattle.search.specs.declared.SearchAnswer.{SearchAnswer}
-use Rattle.search.specs.declared.SearchAnswer.TheVariants as search
+use Rattle.found.specs.declared.Searched.{Searched}
+use Rattle.search.specs.declared.SearchRefusal.{SearchRefusal}
 use Rattle.siglist.specs.List.{check_list}
 use Rattle.search.specs.Search.{search_list}
-use Rattle.tcp.specs.declared.Mss.TheVariants as mss
 use Rattle.tcp.specs.declared.IpVersion.TheVariants as version
 use Rattle.ttl.specs.declared.Ttl.TheVariants as ttl
 use Rattle.ttl.specs.Ttl.{reading_of}
-use Rattle.window_size.specs.declared.Multiplier.TheVariants as multiplier
 use Rattle.window_size.specs.Multiplier.{multiplier_of}
 use Rattle.report.specs.Pages.{output_of}
 
@@ -56,16 +51,16 @@ pub record TtlValues : Type 0 where
 -- Where a line names no header size, timestamp or peer: 40 bytes, none and none.
 pub record WindowValues : Type 0 where
   pub four_of_mss
-      : multiplier_of 5840 (mss.Present 1460) 40 false version.V4 mss.Absent
-      ≡ multiplier.Present (record { multiple = 4; of_mtu = false })
+      : multiplier_of 5840 (Some 1460) 40 false version.V4 None
+      ≡ Some (record { multiple = 4; of_mtu = false })
   pub one_of_mtu
-      : multiplier_of 1500 (mss.Present 1460) 40 false version.V4 mss.Absent
-      ≡ multiplier.Present (record { multiple = 1; of_mtu = true })
-  pub mss_under_100 : multiplier_of 5840 (mss.Present 99) 40 false version.V4 mss.Absent ≡ multiplier.Absent
+      : multiplier_of 1500 (Some 1460) 40 false version.V4 None
+      ≡ Some (record { multiple = 1; of_mtu = true })
+  pub mss_under_100 : multiplier_of 5840 (Some 99) 40 false version.V4 None ≡ None
   pub two_of_peer
-      : multiplier_of 24 (mss.Present 1460) 44 false version.V4 (mss.Present 12)
-      ≡ multiplier.Present (record { multiple = 2; of_mtu = false })
-  pub zero_passed_over : multiplier_of 25 (mss.Present 1460) 44 false version.V4 (mss.Present 12) ≡ multiplier.Absent
+      : multiplier_of 24 (Some 1460) 44 false version.V4 (Some 12)
+      ≡ Some (record { multiple = 2; of_mtu = false })
+  pub zero_passed_over : multiplier_of 25 (Some 1460) 44 false version.V4 (Some 12) ≡ None
 
 -- "scale 15 shows ExcessiveWindowScaling, 14 not."
 -- "options 00 00 01 00: Eol(3) with trailing nonzero."
@@ -80,10 +75,10 @@ pub record OptionValues : Type 0 where
       : contains (walk_of false true empty (0 ∷ 0 ∷ 1 ∷ 0 ∷ [])).seen.quirks quirk.TrailinigNonZero ≡ true
   pub cut_mss_count : (walk_of false true empty (2 ∷ 4 ∷ 5 ∷ [])).olayout.count ≡ 1
   pub cut_mss_kind : byte_at (walk_of false true empty (2 ∷ 4 ∷ 5 ∷ [])).olayout.kinds 0 ≡ 2
-  pub cut_mss_number : (walk_of false true empty (2 ∷ 4 ∷ 5 ∷ [])).seen.mss ≡ mss.Absent
-  pub raw_cut_mss_answer : (parse_options_raw (2 ∷ 4 ∷ 5 ∷ [])).answer ≡ options.Parsed
-  pub raw_cut_mss_count : (parse_options_raw (2 ∷ 4 ∷ 5 ∷ [])).options.olayout.count ≡ 0
-  pub raw_cut_mss_malformed : (parse_options_raw (2 ∷ 4 ∷ 5 ∷ [])).options.malformed ≡ true
+  pub cut_mss_number : (walk_of false true empty (2 ∷ 4 ∷ 5 ∷ [])).seen.mss ≡ None
+  pub raw_cut_mss_answer : is_ok (parse_options_raw (2 ∷ 4 ∷ 5 ∷ [])) ≡ true
+  pub raw_cut_mss_count : IsOkAnd (parse_options_raw (2 ∷ 4 ∷ 5 ∷ [])) (λ told. told.olayout.count ≡ 0)
+  pub raw_cut_mss_malformed : IsOkAnd (parse_options_raw (2 ∷ 4 ∷ 5 ∷ [])) (λ told. told.malformed ≡ true)
 
 -- Packet A of the whole example: 20 bytes of IPv4, 20 of TCP, one MSS option of 1460.
 abbrev pub packet_a : List ℕ
@@ -100,34 +95,34 @@ observation_a =
       version = version.V4;
       ittl = ttl.Distance 64 0;
       olen = 0;
-      mss = mss.Present 1460;
+      mss = Some 1460;
       wsize = 5840;
       tot_hdr = 44;
-      wscale = wscale.Absent;
+      wscale = None;
       olayout = record { kinds = 2 ∷ replicate 39 0; bytes = replicate 40 0; count = 1 };
       quirks = set_of 0x2;
       pclass = payload.Zero;
-      peer_mss = mss.Absent;
+      peer_mss = None;
       tos = 0;
     }
 
 pub record PacketValues : Type 0 where
-  pub packet_a_lem : read_packet packet_a mss.Absent ≡ record { answer = answer.Syn; observation = observation_a }
+  pub packet_a_lem : read_packet packet_a None ≡ Ok (reading.Opening kind.Syn observation_a)
   -- "C is 45 00 00": "refused 2"
-  pub packet_c : refusal_of (read_packet (0x45 ∷ 0 ∷ 0 ∷ []) mss.Absent).answer ≡ 2
+  pub packet_c : refusal_of (read_packet (0x45 ∷ 0 ∷ 0 ∷ []) None) ≡ 2
 
 -- "signature 64: observed 29 in range (35), 28 out (36), 65 out with hop distance 0. Bad(64): 65 rejects, 0 gives 64."
 -- "Distance(200,100) starts at 255."
 -- "window 0 fits modulus 8, not modulus 0."
 pub record FitValues : Type 0 where
-  pub ttl_29 : ttl_fit 29 (ttl.Value 64) ≡ ttlfit.InRange 35
-  pub ttl_28 : ttl_fit 28 (ttl.Value 64) ≡ ttlfit.OutOfRange 36
-  pub ttl_65 : ttl_fit 65 (ttl.Value 64) ≡ ttlfit.OutOfRange 0
-  pub bad_65 : ttl_fit 65 (ttl.Bad 64) ≡ ttlfit.Rejected
-  pub bad_0 : ttl_fit 0 (ttl.Bad 64) ≡ ttlfit.InRange 64
+  pub ttl_29 : ttl_fit 29 (ttl.Value 64) ≡ Some (ttlfit.InRange 35)
+  pub ttl_28 : ttl_fit 28 (ttl.Value 64) ≡ Some (ttlfit.OutOfRange 36)
+  pub ttl_65 : ttl_fit 65 (ttl.Value 64) ≡ Some (ttlfit.OutOfRange 0)
+  pub bad_65 : ttl_fit 65 (ttl.Bad 64) ≡ None
+  pub bad_0 : ttl_fit 0 (ttl.Bad 64) ≡ Some (ttlfit.InRange 64)
   pub starts_at_255 : initial_ttl (ttl.Distance 200 100) ≡ 255
-  pub modulus_8 : window_matches 0 (wsize.Mod 8) multiplier.Absent ≡ true
-  pub modulus_0 : window_matches 0 (wsize.Mod 0) multiplier.Absent ≡ false
+  pub modulus_8 : window_matches 0 (wsize.Mod 8) None ≡ true
+  pub modulus_0 : window_matches 0 (wsize.Mod 0) None ≡ false
 
 -- The list of the whole example: one record, any version, Value 64, window MSS x 4, layout MSS, quirks 0x2, payload empty, label 7.
 abbrev pub example_list : List ℕ
@@ -141,17 +136,17 @@ abbrev pub the_record : Hit
 the_record = record { label = 7; number = 0; generic = false }
 
 -- What a search answers that examined so many records.
-abbrev pub after : ℕ → Found → SearchAnswer
-after n x = search.Searched (record { found = x; examined = n })
+abbrev pub after : ℕ → Found → Result Searched SearchRefusal
+after n x = Ok (record { found = x; examined = n })
 
 -- Packet A, packet B (A with TTL byte 1c) and an observation of another window: the three answers.
 pub record ThreeAnswers : Type 0 where
-  pub list_good : check_list example_list ≡ list.Good
-  pub exact : search_list (read_packet packet_a mss.Absent).observation example_list ≡ after 1 (found.Exact the_record)
+  pub list_good : check_list example_list ≡ (Ok tt)
+  pub exact : search_list (observation_read (read_packet packet_a None)) example_list ≡ after 1 (found.Exact the_record)
   pub fuzzy
-      : search_list (read_packet (set packet_a 8 0x1c) mss.Absent).observation example_list
-      ≡ after 1 (found.Fuzzy the_record (record { hops = hops.OutOfRange 36; added = set_of 0; missing = set_of 0 }))
-  pub none : search_list (read_packet (set packet_a 34 0x17) mss.Absent).observation example_list ≡ after 1 found.None
+      : search_list (observation_read (read_packet (set packet_a 8 0x1c) None)) example_list
+      ≡ after 1 (found.Fuzzy the_record (record { hops = Some 36; added = set_of 0; missing = set_of 0 }))
+  pub none : search_list (observation_read (read_packet (set packet_a 34 0x17) None)) example_list ≡ after 1 found.None
 
 -- "The whole example", as a bundle: its header, the list behind it, then A, B (A with TTL byte 1c) and C, peer absent; and its four lines.
 abbrev pub example_bundle : List ℕ

@@ -1,7 +1,7 @@
 -- The text form written (document 02, Wish 7; D1): a record as its signature line, an observation as p0f's raw line. The text is
 -- `written_line/specs/` `Signature.antt` and `LineText.antt`; what is answered is the promise of `line_writer`, `record_line` and
 -- `observation_line` (`Writing.antt`). `WrittenLines` is the statement.
-use Rattle.std.specs.Prelude.{◌≡◌, true, List, [], ℕ, ◌≤◌, length, take, drop}
+use Rattle.std.specs.Prelude.{◌≡◌, true, List, [], ℕ, ◌≤◌, length, take, drop, Err}
 use Rattle.basis.specs.Bytes.{AllBytes}
 use Rattle.refusals.specs.declared.ListRefusal.{ListRefusal}
 use Rattle.refusals.specs.declared.Refusal.TheVariants as refusal
@@ -9,7 +9,6 @@ use Rattle.refusals.specs.Refusals.{list_number, number_of}
 use Rattle.text.specs.Written.{written}
 use Rattle.observable.specs.declared.TcpObservation.{TcpObservation}
 use Rattle.siglist.specs.List.{list_fits, record_good}
-use Rattle.written_line.specs.declared.Wrote.TheVariants as wrote
 use Rattle.written_line.specs.Answers.{ObservationAnswer, RecordAnswer}
 use Rattle.written_line.specs.LineText.{record_text, observation_text}
 use Rattle.written_line.specs.Longest.{LongestLines}
@@ -47,19 +46,19 @@ pub record WrittenLines : Type 0 where
   pub longest : LongestLines
   -- so that a buffer of so many bytes never meets 15.
   pub record_room
-      : (l : List ℕ) (i room : ℕ) → AllBytes l → 434 ≤ room → (record_line l i room).answer ≡ wrote.Refused refusal.BufferTooShort → ⊥
+      : (l : List ℕ) (i room : ℕ) → AllBytes l → 434 ≤ room → (record_line l i room).answer ≡ Err refusal.BufferTooShort → ⊥
   pub observation_room
       : (o : TcpObservation) (room : ℕ) → ObservationHeld o → 432 ≤ room
-      → (observation_line o room).answer ≡ wrote.Refused refusal.BufferTooShort
+      → (observation_line o room).answer ≡ Err refusal.BufferTooShort
       → ⊥
   -- What is answered and written, and when, on every input.
   pub observation : (o : TcpObservation) (room : ℕ) → ObservationAnswer o room (observation_line o room)
   pub record_line_lem : (l : List ℕ) (i room : ℕ) → RecordAnswer l i room (record_line l i room)
   -- These refusals by their numbers; those of a list are 9 and 10, as everywhere.
-  pub eleven : number_of (wrote_verdict (wrote.Refused refusal.LayoutTooLong)) ≡ 11
-  pub fifteen : number_of (wrote_verdict (wrote.Refused refusal.BufferTooShort)) ≡ 15
-  pub twenty_three : number_of (wrote_verdict (wrote.Refused refusal.NoSuchRecord)) ≡ 23
-  pub of_list_lem : (r : ListRefusal) → number_of (wrote_verdict (wrote.Refused (refusal.List r))) ≡ list_number r
+  pub eleven : number_of (wrote_verdict (Err refusal.LayoutTooLong)) ≡ 11
+  pub fifteen : number_of (wrote_verdict (Err refusal.BufferTooShort)) ≡ 15
+  pub twenty_three : number_of (wrote_verdict (Err refusal.NoSuchRecord)) ≡ 23
+  pub of_list_lem : (r : ListRefusal) → number_of (wrote_verdict (Err (refusal.List r))) ≡ list_number r
   -- A line that finds room stands in the buffer, and the bytes past it are as they were; beside a refusal, which has no line, all are.
   pub in_buffer : (buffer s : List ℕ) → length s ≤ length buffer → InBuffer buffer s
   pub nothing_written : (buffer : List ℕ) → written buffer 0 [] ≡ buffer

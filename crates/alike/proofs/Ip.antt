@@ -1,4 +1,5 @@
 -- Alike IP headers are read alike: the same refusal, or the same facts.
+use Rattle.std.specs.Prelude.{Result, Ok, Err}
 use mathlib.Core.Path.{◌≡◌, refl, ◌∙◌, ap}
 use mathlib.Core.Bool.{Bool, true, false, cond, not}
 use mathlib.Core.List.{List}
@@ -13,8 +14,7 @@ use Rattle.rfc.specs.Rfc8200 as v6
 use Rattle.ip_options.specs.IpOptions.{ipv4_option_length}
 use Rattle.ip_options.proofs.Laws.{v6_tcp}
 use Rattle.ip.specs.declared.IpFacts.{IpFacts}
-use Rattle.ip.specs.declared.IpRead.{IpRead}
-use Rattle.ip.specs.declared.IpRead.TheVariants as ip
+use Rattle.refusals.specs.declared.PacketRefusal.{PacketRefusal}
 use Rattle.refusals.specs.declared.PacketRefusal.TheVariants as refusal
 use Rattle.ip.specs.Ip.{ipv4_quirks, ipv4_facts, read_ipv4, ipv6_quirks, ipv6_facts, read_ipv6, IpStage, by_version, read_ip}
 use Rattle.ip.proofs.Ip.{Given, given4, given6}
@@ -82,17 +82,17 @@ module _ (p q : List ℕ) (a : AlikeIpv6 p q) where
         a.same_length,
         a.third 6 (omega arith) (omega arith),
       )
-      (ap (λ (r : IpRead). cond (ltb (length q) 40) (ip.Refused refusal.TooShort) r)
+      (ap (λ (r : Result IpFacts PacketRefusal). cond (ltb (length q) 40) (Err refusal.TooShort) r)
       (by_next (eqb (v6.next_header q) 6) refl (ltb (length (v6.payload q)) 20)))
     where
       by_next
           : (t : Bool)
           → eqb (v6.next_header q) 6 ≡ t
           → (short : Bool)
-          → cond (not t) (ip.Refused refusal.UnsupportedProtocol)
-          (cond short (ip.Refused refusal.TcpTooShort) (ip.Facts (ipv6_facts p (v6.payload_end q))))
-          ≡ cond (not t) (ip.Refused refusal.UnsupportedProtocol)
-          (cond short (ip.Refused refusal.TcpTooShort) (ip.Facts (ipv6_facts q (v6.payload_end q))))
+          → cond (not t) (Err refusal.UnsupportedProtocol)
+          (cond short (Err refusal.TcpTooShort) (Ok (ipv6_facts p (v6.payload_end q))))
+          ≡ cond (not t) (Err refusal.UnsupportedProtocol)
+          (cond short (Err refusal.TcpTooShort) (Ok (ipv6_facts q (v6.payload_end q))))
       by_next true e short = rw (facts6_alike (eqb-true (v6.next_header q) 6 e) (v6.payload_end q))
       by_next false e short = refl
 
@@ -102,11 +102,11 @@ module _ (p q : List ℕ) (a : AlikeIpv6 p q) where
 abbrev At : List ℕ → IpFacts → ℕ → ℕ → Type 0
 At p f header_end length_end = (f.start ≡ header_end) × (f.end ≡ min length_end (length p))
 
-at4 : (p : List ℕ) {f : IpFacts} → Given p 4 (ip.Facts f) → At p f (header_end4 p) (length_end4 p)
+at4 : (p : List ℕ) {f : IpFacts} → Given p 4 (Ok f) → At p f (header_end4 p) (length_end4 p)
 unfolding ipv4_facts
 at4 p (Given.four long words) = (omega arith, refl)
 
-at6 : (p : List ℕ) {f : IpFacts} → Given p 6 (ip.Facts f) → At p f (header_end6 p) (length_end6 p)
+at6 : (p : List ℕ) {f : IpFacts} → Given p 6 (Ok f) → At p f (header_end6 p) (length_end6 p)
 unfolding ipv6_facts
 at6 p (Given.six long) = (refl, refl)
 
@@ -132,14 +132,14 @@ module _ (level4 level6 : IpLevel) (stage4 stage6 : IpStage) (keep4 : KeepsLevel
 
   chosen_part
       : (p : List ℕ) (f : IpFacts)
-      → by_version stage4 stage6 p ≡ ip.Facts f
+      → by_version stage4 stage6 p ≡ Ok f
       → At p f ((level_by level4 level6).header_end p) ((level_by level4 level6).length_end p)
   unfolding end_by
   chosen_part p f e = by_tests (eqb (length p) 0) (eqb (v4.version p) 4) (eqb (v4.version p) 6) e
     where
       by_tests
           : (none is4 is6 : Bool)
-          → cond none (ip.Refused refusal.Version) (cond is4 (stage4 p) (cond is6 (stage6 p) (ip.Refused refusal.Version))) ≡ ip.Facts f
+          → cond none (Err refusal.Version) (cond is4 (stage4 p) (cond is6 (stage6 p) (Err refusal.Version))) ≡ Ok f
           → At p f (cond is4 (level4.header_end p) (cond is6 (level6.header_end p) (length p)))
           (cond is4 (level4.length_end p) (cond is6 (level6.length_end p) (length p)))
       by_tests true is4 is6 h = let clash : ◌≡◌ {A = ℕ} 0 1 = cc in absurd (omega arith)

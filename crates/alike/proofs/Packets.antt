@@ -1,14 +1,13 @@
 -- Demand 3, stage by stage: if each stage answers alike what is alike for it, the reader of both answers alike packets alike.
+use Rattle.std.specs.Prelude.{Option, Result, Ok, Err}
 use mathlib.Core.Path.{◌≡◌, refl}
 use mathlib.Core.List.{List}
 use Prim.Native.Nat.{ℕ, min}
 use native.Mathlib.Omega.{arith}
 use lib.ListN.{length}
 use Rattle.basis.specs.Bytes.{part}
-use Rattle.tcp.specs.declared.Mss.{Mss}
 use Rattle.ip.specs.declared.IpFacts.{IpFacts}
-use Rattle.ip.specs.declared.IpRead.{IpRead}
-use Rattle.ip.specs.declared.IpRead.TheVariants as ip
+use Rattle.refusals.specs.declared.PacketRefusal.{PacketRefusal}
 use Rattle.ip.specs.Ip.{IpStage, read_ip}
 use Rattle.flow.specs.declared.Mode.{Mode}
 use Rattle.flow.specs.Modes.{tcp_stage, read_in}
@@ -47,7 +46,7 @@ pub part_alike
     → (p q : List ℕ)
     → AlikeBy level p q
     → (f : IpFacts)
-    → stage p ≡ ip.Facts f
+    → stage p ≡ Ok f
     → AlikeTcp (tcp_part f p) (tcp_part f q)
 part_alike level stage keeps p q a f e =
     let lies = keeps.part p f e in
@@ -58,17 +57,17 @@ pub by_stages
     : (level : IpLevel) (stage : IpStage) (tcp : TcpStage)
     → KeepsLevel level stage
     → KeepsTcp tcp
-    → (p q : List ℕ) (peer : Mss)
+    → (p q : List ℕ) (peer : Option ℕ)
     → AlikeBy level p q
     → read_by stage tcp p peer ≡ read_by stage tcp q peer
 by_stages level stage tcp keeps keeps-tcp p q peer a =
     rw (← stage_alike level stage keeps p q a) (after (stage p) refl)
   where
-    after : (x : IpRead) → stage p ≡ x → after_ip tcp x p peer ≡ after_ip tcp x q peer
-    after (ip.Refused r) e = refl
-    after (ip.Facts f) e = keeps-tcp f (tcp_part f p) (tcp_part f q) peer (part_alike level stage keeps p q a f e)
+    after : (x : Result IpFacts PacketRefusal) → stage p ≡ x → after_ip tcp x p peer ≡ after_ip tcp x q peer
+    after (Err r) e = refl
+    after (Ok f) e = keeps-tcp f (tcp_part f p) (tcp_part f q) peer (part_alike level stage keeps p q a f e)
 
 -- Two packets of equal length that differ only in the free bytes get the same answer, in every mode.
-pub read_alike : (mode : Mode) (p q : List ℕ) (peer : Mss) → Alike p q → read_in mode p peer ≡ read_in mode q peer
+pub read_alike : (mode : Mode) (p q : List ℕ) (peer : Option ℕ) → Alike p q → read_in mode p peer ≡ read_in mode q peer
 unfolding read_in
 read_alike mode = by_stages document01 read_ip (tcp_stage mode) keeps_level (tcp_alike mode)

@@ -1,4 +1,5 @@
 -- Alike TCP parts are read alike.
+use Rattle.std.specs.Prelude.{Option, None}
 use mathlib.Core.Path.{◌≡◌}
 use mathlib.Core.Bool.{Bool, true, false}
 use mathlib.Core.List.{List}
@@ -6,8 +7,6 @@ use Prim.Native.Nat.{ℕ}
 use native.Mathlib.Omega.{arith}
 use Rattle.quirks.specs.declared.QuirkSet.{QuirkSet}
 use Rattle.rfc.specs.Rfc9293 as tcp
-use Rattle.tcp.specs.declared.Mss.{Mss}
-use Rattle.tcp.specs.declared.Mss.TheVariants as mss
 use Rattle.syn_options.specs.Walk.{Walked}
 use Rattle.syn_options.specs.Stops.{walked_of, walk_options}
 use Rattle.ip.specs.declared.IpFacts.{IpFacts}
@@ -23,19 +22,19 @@ use Rattle.alike.specs.Stages.{KeepsTcp}
 use Rattle.alike.proofs.Places.{be16_agree}
 use Rattle.alike.proofs.Walks.{one_walk_alike}
 
-module _ (f : IpFacts) (t u : List ℕ) (peer : Mss) (a : AlikeTcp t u) where
+module _ (f : IpFacts) (t u : List ℕ) (peer : Option ℕ) (a : AlikeTcp t u) where
   -- Both headers show the same quirks.
   quirks_alike : (q : QuirkSet) → quirks_of_headers t q ≡ quirks_of_headers u q
   unfolding quirks_of_headers header_quirks
   quirks_alike q = rw (a.control 13 (omega arith) (omega arith), a.sequence, a.acknowledgment, a.urgent_pointer)
 
   -- Window, header size and payload class are the same.
-  rest_alike : (w : Walked) (peer : Mss) → observation_of f t w peer ≡ observation_of f u w peer
+  rest_alike : (w : Walked) (peer : Option ℕ) → observation_of f t w peer ≡ observation_of f u w peer
   unfolding observation_of payload_class
   rest_alike w peer = rw (be16_agree 14 t u a.window, a.data_offset, a.same_length)
 
   -- In every mode the same is observed.
-  observed_alike : (mode : Mode) (syn : Bool) (peer : Mss) → observation_in mode f t syn peer ≡ observation_in mode f u syn peer
+  observed_alike : (mode : Mode) (syn : Bool) (peer : Option ℕ) → observation_in mode f t syn peer ≡ observation_in mode f u syn peer
   observed_alike mode syn peer =
       rw (
         ← observed_walk mode f t syn peer,
@@ -53,7 +52,7 @@ module _ (f : IpFacts) (t u : List ℕ) (peer : Mss) (a : AlikeTcp t u) where
   stage_alike : (mode : Mode) → read_tcp_by (observation_in mode f t) t peer ≡ read_tcp_by (observation_in mode f u) u peer
   unfolding read_tcp_by
   stage_alike mode =
-      rw (a.control 13 (omega arith) (omega arith), observed_alike mode true mss.Absent, observed_alike mode false (known_peer peer))
+      rw (a.control 13 (omega arith) (omega arith), observed_alike mode true None, observed_alike mode false (known_peer peer))
 
 -- Two alike TCP parts give one reading, for every byte string, whatever its bytes, in every mode.
 pub tcp_alike : (mode : Mode) → KeepsTcp (tcp_stage mode)

@@ -1,4 +1,5 @@
 -- Alike option strings are walked alike, wherever the walk stops, and parsed alike.
+use Rattle.std.specs.Prelude.{Option, Some, None}
 use mathlib.Core.Path.{◌≡◌}
 use mathlib.Core.Bool.{Bool, true, false}
 use mathlib.Core.List.{List}
@@ -7,8 +8,6 @@ use lib.ListN.{take}
 use Rattle.quirks.specs.declared.QuirkSet.{QuirkSet}
 use Rattle.quirks.specs.Named.{empty}
 use Rattle.one_option.specs.Options.{options_of}
-use Rattle.syn_options.specs.declared.Place.{Place}
-use Rattle.syn_options.specs.declared.Place.TheVariants as place
 use Rattle.syn_options.specs.declared.StopBefore.{StopBefore}
 use Rattle.syn_options.specs.Walk.{start_walk, walk_of, parse_options_raw}
 use Rattle.syn_options.specs.Places.{first_of, places_of}
@@ -28,11 +27,11 @@ module _ (s t : List ℕ) (r : LikeRow (options_of s) (options_of t)) (syn : Boo
 like_up_to
     : (s t : List ℕ)
     → LikeRow (options_of s) (options_of t)
-    → (k : Place) (syn : Bool) (q : QuirkSet)
+    → (k : Option ℕ) (syn : Bool) (q : QuirkSet)
     → walk_up_to k syn q s ≡ walk_up_to k syn q t
 unfolding walk_up_to
-like_up_to s t r place.None syn q = like_walked s t r syn q false
-like_up_to s t r (place.At k) syn q = rw (like_walked (take k s) (take k t) (first_like k s t r) syn q false)
+like_up_to s t r None syn q = like_walked s t r syn q false
+like_up_to s t r (Some k) syn q = rw (like_walked (take k s) (take k t) (first_like k s t r) syn q false)
 
 like_walk_to
     : (s t : List ℕ)

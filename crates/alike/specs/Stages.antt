@@ -1,8 +1,6 @@
 -- What demand 3 asks of each stage of a reader by itself.
-use Rattle.std.specs.Prelude.{◌≡◌, List, ℕ, min, length}
-use Rattle.tcp.specs.declared.Mss.{Mss}
+use Rattle.std.specs.Prelude.{◌≡◌, List, ℕ, min, length, Option, Ok}
 use Rattle.ip.specs.declared.IpFacts.{IpFacts}
-use Rattle.ip.specs.declared.IpRead.TheVariants as ip
 use Rattle.ip.specs.Ip.{IpStage}
 use Rattle.flow.specs.Reading.{TcpStage}
 use Rattle.alike.specs.Tcp.{AlikeTcp}
@@ -13,9 +11,9 @@ pub record KeepsLevel (level : IpLevel) (stage : IpStage) : Type 0 where
   pub alike : (p q : List ℕ) → length p ≡ length q → level.Header p q → stage p ≡ stage q
   pub part
       : (p : List ℕ) (f : IpFacts)
-      → stage p ≡ ip.Facts f
+      → stage p ≡ Ok f
       → (f.start ≡ level.header_end p) × (f.end ≡ min (level.length_end p) (length p))
 
 -- A TCP stage answers alike TCP parts alike, refusals included, after any facts of an IP header.
 abbrev pub KeepsTcp : TcpStage → Type 0
-KeepsTcp stage = (f : IpFacts) (t u : List ℕ) (peer : Mss) → AlikeTcp t u → stage f t peer ≡ stage f u peer
+KeepsTcp stage = (f : IpFacts) (t u : List ℕ) (peer : Option ℕ) → AlikeTcp t u → stage f t peer ≡ stage f u peer

@@ -1,5 +1,6 @@
 -- Laws of refusal 12: a bundle does not fit by one of four reasons, and one that fits has none of them; all packets of one that passes
 -- its check are answered.
+use Rattle.std.specs.Prelude.{Result, Ok, Err}
 use mathlib.Core.Path.{◌≡◌, refl, sym, ◌∙◌, ap}
 use mathlib.Core.Bool.{Bool, true, false, cond, ◌&&◌, false≢true}
 use mathlib.Core.List.{List, ◌∷◌}
@@ -13,9 +14,8 @@ use Rattle.basis.proofs.Tests.{and_left, and_right}
 use Rattle.refusals.specs.declared.Refusal.TheVariants as refusal
 use Rattle.refusals.specs.Refusals.{number}
 use Rattle.siglist.specs.List.{check_list, list_refusal}
-use Rattle.siglist.specs.declared.ListAnswer.{ListAnswer}
-use Rattle.siglist.specs.declared.ListAnswer.TheVariants as list
-use Rattle.bundle.specs.declared.BundleCheck.TheVariants as check
+use Rattle.refusals.specs.declared.ListRefusal.{ListRefusal}
+use Rattle.bundle.specs.declared.BundleRefusal.TheVariants as check
 use Rattle.bundle.specs.Bundle.{packet_count, packets_offset, list_length, list_offset, list_of, packet_end, packet_fits, packets_fit}
 use Rattle.bundle.specs.Bundle.{list_lies, bundle_fits, of_list, check_bundle, bundle_refusal}
 use Rattle.flow.specs.declared.Mode.{Mode}
@@ -134,10 +134,10 @@ fit_not_unfit b fits (Unfit.a_packet p) =
     let this = each_within b (packet_count b) 0 p.packet all (omega arith) (omega (arith, p.counted)) in
     omega (arith, p.past, end_within b (start_of b p.packet) this)
 
-refusal_of_list : (a : ListAnswer) → bundle_refusal (of_list a) ≡ list_refusal a
+refusal_of_list : (a : Result (Unit {0}) ListRefusal) → bundle_refusal (of_list a) ≡ list_refusal a
 unfolding bundle_refusal list_refusal
-refusal_of_list list.Good = refl
-refusal_of_list (list.Refused r) = refl
+refusal_of_list (Ok tt) = refl
+refusal_of_list (Err r) = refl
 
 -- "A bundle meets 12, then 9, then 10".
 pub bundle_order
@@ -148,7 +148,7 @@ bundle_order b = by_fit (bundle_fits b)
   where
     by_fit
         : (t : Bool)
-        → bundle_refusal (cond t (of_list (check_list (list_of b))) check.DoesNotFit)
+        → bundle_refusal (cond t (of_list (check_list (list_of b))) (Err check.DoesNotFit))
         ≡ cond t (list_refusal (check_list (list_of b))) (number refusal.BundleDoesNotFit)
     by_fit true = refusal_of_list (check_list (list_of b))
     by_fit false = refl

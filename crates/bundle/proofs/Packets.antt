@@ -1,5 +1,7 @@
 -- Laws of a bundle's packets: where one lies that fits, and one turn of the loop over them.
-use mathlib.Core.Path.{◌≡◌, refl, sym, ◌∙◌, ap}
+use Rattle.std.specs.Prelude.{Result, Ok, Err, Some, None}
+use Rattle.std.proofs.lemmas.Option.{cond_some, none-some}
+use mathlib.Core.Path.{◌≡◌, refl, sym}
 use mathlib.Core.Bool.{Bool, true, false, cond, ◌&&◌}
 use mathlib.Core.List.{List}
 use Prim.Native.Nat.{ℕ, suc, ◌+◌, ◌-◌, ◌<◌, ◌≤◌}
@@ -8,16 +10,14 @@ use lib.Dec.{leb}
 use lib.ListN.{length}
 use borrow.Author.Tests.{leb-true}
 use Rattle.basis.proofs.Tests.{and_left, and_right}
-use Rattle.siglist.specs.List.{check_list}
-use Rattle.bundle.specs.declared.BundleCheck.{BundleCheck}
-use Rattle.bundle.specs.declared.BundleCheck.TheVariants as check
-use Rattle.packet_answer.specs.declared.PacketAnswer.{PacketAnswer}
+use Rattle.bundle.specs.declared.BundleRefusal.{BundleRefusal}
+use Rattle.bundle.specs.declared.BundleRefusal.TheVariants as check
 use Rattle.bundle.specs.declared.PacketAt.{PacketAt}
-use Rattle.bundle.specs.declared.PacketAt.TheVariants as there
 use Rattle.flow.specs.declared.Mode.{Mode}
 use Rattle.bundle.specs.Answers.{answer_at, packet_lies, packet_at_in, start_of}
-use Rattle.bundle.specs.Bundle.{list_length, list_offset, list_of, packets_offset, packet_count, packet_end, packet_fits, packets_fit}
-use Rattle.bundle.specs.Bundle.{ListWithin, list_lies, bundle_fits, check_bundle, of_list}
+use Rattle.packet_answer.specs.Packet.{answer_in}
+use Rattle.bundle.specs.Bundle.{packet_bytes, packet_peer, list_length, list_offset, list_of, packets_offset, packet_count, packet_end}
+use Rattle.bundle.specs.Bundle.{packet_fits, packets_fit, ListWithin, list_lies, bundle_fits, check_bundle}
 
 module _ (b : List ℕ) (at : ℕ) (fits : packet_fits b at ≡ true) where
   pub head_within : at + 4 ≤ length b
@@ -50,6 +50,8 @@ pub packets_end : (b : List ℕ) (at i n : ℕ) → n ≤ i → packets_fit b at
 unfolding packets_fit
 packets_end b at i n h = let none : n - i ≡ 0 = omega arith in rw none
 
+pub ruleset turns = (head_within, packet_fits_turn, packet_fails_turn, packets_end)
+
 -- ---- a bundle that fits
 
 -- Its header and its list's area do.
@@ -59,6 +61,13 @@ lies_within b e = (
   leb-true 8 (length b) (and_left (leb 8 (length b)) _ e),
   leb-true (list_offset b + list_length b) (length b) (and_right (leb 8 (length b)) _ e),
 )
+
+pub answer_said
+    : (mode : Mode) (b : List ℕ) (at : ℕ) → answer_at mode b at ≡ answer_in mode (packet_bytes b at) (packet_peer b at) (list_of b)
+unfolding answer_at
+answer_said mode b at = refl
+
+pub ruleset within = (head_within, end_within, head_before_end, lies_within, answer_said)
 
 module _ (b : List ℕ) (fits : bundle_fits b ≡ true) where
   small_and_lies : leb (length b) 65535 && list_lies b ≡ true
@@ -79,13 +88,13 @@ module _ (b : List ℕ) (fits : bundle_fits b ≡ true) where
   list_within = lies_within b fits_lies
 
 -- A bundle that passes its check fits.
-pub good_fits : (b : List ℕ) → check_bundle b ≡ check.Good → bundle_fits b ≡ true
+pub good_fits : (b : List ℕ) → check_bundle b ≡ (Ok tt) → bundle_fits b ≡ true
 unfolding check_bundle
-good_fits b = by_fit (bundle_fits b)
+good_fits b = by_fit (bundle_fits b) _
   where
-    by_fit : (t : Bool) → cond {A = BundleCheck} t (of_list (check_list (list_of b))) check.DoesNotFit ≡ check.Good → t ≡ true
-    by_fit true e = refl
-    by_fit false e = let z : ◌≡◌ {A = ℕ} 0 1 = cc in absurd (omega arith)
+    by_fit : (t : Bool) (r : Result (Unit {0}) BundleRefusal) → cond t r (Err check.DoesNotFit) ≡ Ok tt → t ≡ true
+    by_fit true r e = refl
+    by_fit false r e = absurd (cc)
 
 pub start_first : (b : List ℕ) → start_of b 0 ≡ packets_offset b
 unfolding start_of
@@ -93,48 +102,23 @@ start_first b = refl
 
 -- ---- what is at a place
 
-abbrev answer_there : PacketAnswer → PacketAt → PacketAnswer
-answer_there a there.NoPacket = a
-answer_there a (there.Packet found end) = found
-
-abbrev end_there : PacketAt → ℕ
-end_there there.NoPacket = 0
-end_there (there.Packet found end) = end
-
-abbrev is_there : PacketAt → ℕ
-is_there there.NoPacket = 0
-is_there (there.Packet found end) = 1
-
 -- A packet that is there lies within the bundle, and is the one that starts there.
-pub record There (mode : Mode) (b : List ℕ) (at : ℕ) (a : PacketAnswer) (end : ℕ) : Type 0 where
+pub record There (mode : Mode) (b : List ℕ) (at : ℕ) (p : PacketAt) : Type 0 where
   pub lies : packet_lies b at ≡ true
-  pub answer : a ≡ answer_at mode b at
-  pub ends : end ≡ packet_end b at
+  pub answer : p.answer ≡ answer_at mode b at
+  pub ends : p.end ≡ packet_end b at
 
 module _ (mode : Mode) (b : List ℕ) (at : ℕ) where
-  there_if : packet_lies b at ≡ true → packet_at_in mode b at ≡ there.Packet (answer_at mode b at) (packet_end b at)
+  pub packet_there : (p : PacketAt) → packet_at_in mode b at ≡ Some p → There mode b at p
   unfolding packet_at_in
-  there_if e = rw e
+  packet_there p e =
+      let found = cond_some (packet_lies b at) (record { answer = answer_at mode b at; end = packet_end b at }) p e in
+      record { lies = found.0; answer = rw (← found.1) refl; ends = rw (← found.1) refl }
 
-  none_if : packet_lies b at ≡ false → packet_at_in mode b at ≡ there.NoPacket
+  pub none_there : packet_at_in mode b at ≡ None → packet_lies b at ≡ false
   unfolding packet_at_in
-  none_if e = rw e
-
-  pub packet_there : (a : PacketAnswer) (end : ℕ) → packet_at_in mode b at ≡ there.Packet a end → There mode b at a end
-  packet_there a end e = by_lies (packet_lies b at) refl
+  none_there = by_lies (packet_lies b at) _
     where
-      by_lies : (t : Bool) → packet_lies b at ≡ t → There mode b at a end
-      by_lies true lies =
-          record {
-            lies = lies;
-            answer = ap (answer_there a) (sym e ∙ there_if lies);
-            ends = ap end_there (sym e ∙ there_if lies);
-          }
-      by_lies false lies = absurd (let z : ◌≡◌ {A = ℕ} 1 0 = ap is_there (sym e ∙ none_if lies) in omega arith)
-
-  pub none_there : packet_at_in mode b at ≡ there.NoPacket → packet_lies b at ≡ false
-  none_there e = by_lies (packet_lies b at) refl
-    where
-      by_lies : (t : Bool) → packet_lies b at ≡ t → t ≡ false
-      by_lies true lies = absurd (let z : ◌≡◌ {A = ℕ} 0 1 = ap is_there (sym e ∙ there_if lies) in omega arith)
-      by_lies false lies = refl
+      by_lies : (t : Bool) → (p : PacketAt) → cond t (Some p) None ≡ None → t ≡ false
+      by_lies true p e = absurd (none-some p (sym e))
+      by_lies false p e = refl

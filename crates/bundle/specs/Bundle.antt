@@ -1,15 +1,14 @@
 -- The bundle (document 01, "The bundle program"): its header, its list and its packets, and when it is refused.
-use Rattle.std.specs.Prelude.{ℕ, zero, suc, ◌+◌, ◌≤◌, Bool, cond, ◌&&◌, List, leb, length}
+use Rattle.std.specs.Prelude.{ℕ, zero, suc, ◌+◌, ◌≤◌, Bool, cond, ◌&&◌, List, leb, length, Option, Result, Ok, Err}
 use Rattle.basis.specs.Bytes.{be16, part}
-use Rattle.tcp.specs.declared.Mss.{Mss}
 use Rattle.packet_answer.specs.Packet.{peer_of}
+use Rattle.refusals.specs.declared.Refusal.{Refusal}
 use Rattle.refusals.specs.declared.Refusal.TheVariants as refusal
-use Rattle.refusals.specs.Refusals.{Verdict, list_refused, number_of}
-use Rattle.siglist.specs.declared.ListAnswer.{ListAnswer}
-use Rattle.siglist.specs.declared.ListAnswer.TheVariants as list
+use Rattle.refusals.specs.Refusals.{Verdict, number_of}
+use Rattle.refusals.specs.declared.ListRefusal.{ListRefusal}
 use Rattle.siglist.specs.List.{area_fits, check_list}
-use Rattle.bundle.specs.declared.BundleCheck.{BundleCheck}
-use Rattle.bundle.specs.declared.BundleCheck.TheVariants as check
+use Rattle.bundle.specs.declared.BundleRefusal.{BundleRefusal}
+use Rattle.bundle.specs.declared.BundleRefusal.TheVariants as check
 
 -- ---- the header
 
@@ -39,7 +38,7 @@ packet_end b at = at + 4 + be16 b (at + 2)
 abbrev pub packet_bytes : List ℕ → ℕ → List ℕ
 packet_bytes b at = part (at + 4) (packet_end b at) b
 
-abbrev pub packet_peer : List ℕ → ℕ → Mss
+abbrev pub packet_peer : List ℕ → ℕ → Option ℕ
 packet_peer b at = peer_of (be16 b at)
 
 -- A packet fits if its four bytes and then its own lie within the bundle.
@@ -65,19 +64,23 @@ ListWithin b = (8 ≤ length b) × (list_offset b + list_length b ≤ length b)
 unfoldable pub bundle_fits : List ℕ → Bool
 bundle_fits b = leb (length b) 65535 && list_lies b && packets_fit b (packets_offset b) (packet_count b)
 
-abbrev pub of_list : ListAnswer → BundleCheck
-of_list list.Good = check.Good
-of_list (list.Refused r) = check.List r
+abbrev pub of_list : Result (Unit {0}) ListRefusal → Result (Unit {0}) BundleRefusal
+of_list (Ok tt) = Ok tt
+of_list (Err r) = Err (check.List r)
 
 -- "A bundle meets 12, then 9, then 10, before any packet."
-unfoldable pub check_bundle : List ℕ → BundleCheck
-check_bundle b = cond (bundle_fits b) (of_list (check_list (list_of b))) check.DoesNotFit
+unfoldable pub check_bundle : List ℕ → Result (Unit {0}) BundleRefusal
+check_bundle b = cond (bundle_fits b) (of_list (check_list (list_of b))) (Err check.DoesNotFit)
 
--- Which refusal of the table the answer is, if any, and its number; 0 if it is none.
-abbrev pub bundle_verdict : BundleCheck → Verdict
-bundle_verdict check.Good = Verdict.accepted
-bundle_verdict check.DoesNotFit = Verdict.refused refusal.BundleDoesNotFit
-bundle_verdict (check.List r) = list_refused r
+-- Which refusal of the table it is.
+abbrev pub as_refusal : BundleRefusal → Refusal
+as_refusal check.DoesNotFit = refusal.BundleDoesNotFit
+as_refusal (check.List r) = refusal.List r
 
-unfoldable pub bundle_refusal : BundleCheck → ℕ
+-- Which one an answer is, if any, and its number; 0 if it is none.
+abbrev pub bundle_verdict : Result (Unit {0}) BundleRefusal → Verdict
+bundle_verdict (Ok tt) = Verdict.accepted
+bundle_verdict (Err r) = Verdict.refused (as_refusal r)
+
+unfoldable pub bundle_refusal : Result (Unit {0}) BundleRefusal → ℕ
 bundle_refusal c = number_of (bundle_verdict c)

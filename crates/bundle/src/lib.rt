@@ -2,30 +2,49 @@
 #![tactic(auto)]
 
 ghost use Rattle.std.specs.Prelude.{◌≡◌, ◌+◌, ◌≤◌, length};
-ghost use Rattle.basis.specs.Bytes.{be16};
 ghost use Rattle.bundle.specs.Bundle.{ListWithin, list_of, packet_end, packet_fits, packets_fit, list_lies};
-ghost use Rattle.bundle.specs.Bundle.{bundle_fits, check_bundle};
+ghost use Rattle.bundle.specs.Bundle.{bundle_fits, as_refusal, check_bundle};
 ghost use Rattle.bundle.specs.Answers.{packet_at, packet_at_in};
 
 use flow::Mode;
-use numbers::be16;
+use numbers::be16_at;
 use packet_answer::{PacketAnswer, answer_packet_in, peer_of};
-use refusals::ListRefusal;
-use siglist::{ListAnswer, check_list};
+use refusals::{ListRefusal, PacketRefusal, Refusal};
+use siglist::check_list;
 
-// A bundle is well formed, or it or its list is refused.
+// Why a bundle, or its list, is refused.
 #[derive(Clone, Copy)]
-pub enum BundleCheck {
-    Good,
+pub enum BundleRefusal {
     DoesNotFit,
     List(ListRefusal),
 }
 
-// What is at a place of a bundle: no packet, or the answer of the one that starts there, and where it ends.
+impl From<ListRefusal> for BundleRefusal {
+    ghost use Rattle.bundle.specs.declared.BundleRefusal.{BundleRefusal};
+
+    ghost from_gives = { λ r e. e ≡ BundleRefusal.List r };
+
+    fn from(refusal: ListRefusal) -> BundleRefusal {
+        BundleRefusal::List(refusal)
+    }
+}
+
+impl From<BundleRefusal> for Refusal {
+    ghost from_gives = { λ r e. e ≡ as_refusal r };
+
+    fn from(refusal: BundleRefusal) -> Refusal {
+        match refusal {
+            BundleRefusal::DoesNotFit => Refusal::BundleDoesNotFit,
+            BundleRefusal::List(why) => Refusal::List(why),
+        }
+    }
+}
+
+// What is at a place of a bundle: the answer of the packet that starts there, and where it ends.
 #[derive(Clone, Copy)]
-pub enum PacketAt {
-    NoPacket,
-    Packet(PacketAnswer, usize),
+pub struct PacketAt {
+    pub answer: Result<PacketAnswer, PacketRefusal>,
+    pub end: usize,
 }
 
 const MOST: usize = 65535;
@@ -37,22 +56,16 @@ const BEFORE: usize = 4;
 
 // ---- the check
 
-// A number of two bytes.
-fn number_at(bundle: &[u8], at: usize) -> u16
-    requires { at + 2 ≤ length bundle.now }
-    ensures { result ≡ be16 bundle.now at }
-{
-    be16(bundle[at], bundle[at + 1])
-}
-
 // The end of the packet that starts at a place.
+#[tactic(auto, unfolding(crate::specs::Bundle::packet_end))]
 fn packet_end(bundle: &[u8], at: usize) -> usize
     requires { at + 4 ≤ length bundle.now }
     ensures { result ≡ packet_end bundle.now at }
 {
-    at + BEFORE + number_at(bundle, at + 2) as usize
+    at + BEFORE + be16_at(bundle, at + 2) as usize
 }
 
+#[tactic(auto, unfolding(crate::specs::Bundle::packet_fits))]
 fn packet_fits(bundle: &[u8], at: usize) -> bool
     ensures { result ≡ packet_fits bundle.now at }
 {
@@ -66,31 +79,32 @@ fn packet_fits(bundle: &[u8], at: usize) -> bool
 }
 
 // Whether so many packets fit, each where the one before it ends.
+#[tactic(auto, using(crate::proofs::Packets::turns))]
 fn packets_fit(bundle: &[u8], offset: usize, count: usize) -> bool
     ensures { result ≡ packets_fit bundle.now offset count }
 {
     let mut at = offset;
-    let mut i = 0;
-    while i < count {
+    for _ in 0..count {
         if !packet_fits(bundle, at) {
             return false;
         }
         at = packet_end(bundle, at);
-        i += 1;
     }
     at <= bundle.len()
 }
 
 // Whether the header and the list's area fit.
+#[tactic(auto, unfolding(crate::specs::Bundle::list_lies))]
 fn list_lies(bundle: &[u8]) -> bool
     ensures { result ≡ list_lies bundle.now }
 {
     if bundle.len() < HEADER {
         return false;
     }
-    number_at(bundle, 6) as usize + number_at(bundle, 4) as usize <= bundle.len()
+    be16_at(bundle, 6) as usize + be16_at(bundle, 4) as usize <= bundle.len()
 }
 
+#[tactic(auto, unfolding(crate::specs::Bundle::bundle_fits))]
 fn bundle_fits(bundle: &[u8]) -> bool
     ensures { result ≡ bundle_fits bundle.now }
 {
@@ -102,8 +116,8 @@ fn bundle_fits(bundle: &[u8]) -> bool
     }
     packets_fit(
         bundle,
-        number_at(bundle, 2) as usize,
-        number_at(bundle, 0) as usize,
+        be16_at(bundle, 2) as usize,
+        be16_at(bundle, 0) as usize,
     )
 }
 
@@ -112,47 +126,45 @@ fn list_of<'a>(bundle: &'a [u8]) -> &'a [u8]
     requires { ListWithin bundle.now }
     ensures { result.now ≡ list_of bundle.now }
 {
-    let start = number_at(bundle, 6) as usize;
-    let end = start + number_at(bundle, 4) as usize;
+    let start = be16_at(bundle, 6) as usize;
+    let end = start + be16_at(bundle, 4) as usize;
     &bundle[start..end]
 }
 
 // A bundle is well formed, or refused: 12, then 9, then 10.
-pub fn check_bundle(bundle: &[u8]) -> BundleCheck
+#[tactic(auto, using(crate::proofs::Packets::list_within), unfolding(crate::specs::Bundle::check_bundle))]
+pub fn check_bundle(bundle: &[u8]) -> Result<(), BundleRefusal>
     ensures { result ≡ check_bundle bundle.now }
 {
     if !bundle_fits(bundle) {
-        return BundleCheck::DoesNotFit;
+        return Err(BundleRefusal::DoesNotFit);
     }
-    match check_list(list_of(bundle)) {
-        ListAnswer::Good => BundleCheck::Good,
-        ListAnswer::Refused(refusal) => BundleCheck::List(refusal),
-    }
+    check_list(list_of(bundle))?;
+    Ok(())
 }
 
 // ---- the answers
 
 // What is at a place of a bundle, which need not have passed its check, in any mode.
-pub fn packet_at_in(bundle: &[u8], at: usize, mode: Mode) -> PacketAt
+#[tactic(auto, using(crate::proofs::Packets::within), unfolding(crate::specs::Answers::packet_at_in, crate::specs::Answers::packet_lies))]
+pub fn packet_at_in(bundle: &[u8], at: usize, mode: Mode) -> Option<PacketAt>
     ensures { result ≡ packet_at_in mode bundle.now at }
 {
     if !list_lies(bundle) {
-        return PacketAt::NoPacket;
+        return None;
     }
     if !packet_fits(bundle, at) {
-        return PacketAt::NoPacket;
+        return None;
     }
-    let peer = peer_of(number_at(bundle, at));
+    let peer = peer_of(be16_at(bundle, at));
     let start = at + BEFORE;
     let end = packet_end(bundle, at);
-    PacketAt::Packet(
-        answer_packet_in(&bundle[start..end], peer, list_of(bundle), mode),
-        end,
-    )
+    let answer = answer_packet_in(&bundle[start..end], peer, list_of(bundle), mode);
+    Some(PacketAt { answer, end })
 }
 
-// The same in the plain mode.
-pub fn packet_at(bundle: &[u8], at: usize) -> PacketAt
+// The same in the plain mode: a public function, which docs/ANSWERS.md names.
+pub fn packet_at(bundle: &[u8], at: usize) -> Option<PacketAt>
     ensures { result ≡ packet_at bundle.now at }
 {
     packet_at_in(bundle, at, Mode::PLAIN)

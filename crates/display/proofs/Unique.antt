@@ -1,13 +1,11 @@
 -- Exactly one result meets each public function's own contract.
 -- tools/promises makes this file from the contracts, and the gate holds it to them.
 use Rattle.std.specs.Borrow.{MutBor}
-use Rattle.std.specs.Prelude.{ℕ, List, length}
+use Rattle.std.specs.Prelude.{ℕ, List, Option, length}
 use contract.Lifetimes.{Lfts}
 use Rattle.basis.specs.Unique.{ExactlyOne}
 use Rattle.basis.proofs.Unique.{both, equation}
 use Rattle.text.specs.Written.{left_with}
-use Rattle.tcp.specs.declared.Mss.{Mss}
-use Rattle.tcp.specs.declared.Wscale.{Wscale}
 use Rattle.quirks.specs.declared.Quirk.{Quirk}
 use Rattle.quirks.specs.Quirks.{bit_of}
 use Rattle.ttl.specs.declared.Ttl.{Ttl}
@@ -38,10 +36,10 @@ use Rattle.display.proofs.put_wscale.Reads as put_wscale'
 pub ttl_length_one : (ttl : Ttl) → ExactlyOne ℕ (λ (r : ℕ). ttl_length'.Post tt (ttl, tt) r (ttl, tt))
 ttl_length_one ttl = equation (length (ttl_text (said 0 (byte_of ttl)) (form_said ttl)))
 
-pub mss_length_one : (mss : Mss) → ExactlyOne ℕ (λ (r : ℕ). mss_length'.Post tt (mss, tt) r (mss, tt))
+pub mss_length_one : (mss : Option ℕ) → ExactlyOne ℕ (λ (r : ℕ). mss_length'.Post tt (mss, tt) r (mss, tt))
 mss_length_one mss = equation (length (spelt words.mss (mss_said mss)))
 
-pub wscale_length_one : (wscale : Wscale) → ExactlyOne ℕ (λ (r : ℕ). wscale_length'.Post tt (wscale, tt) r (wscale, tt))
+pub wscale_length_one : (wscale : Option ℕ) → ExactlyOne ℕ (λ (r : ℕ). wscale_length'.Post tt (wscale, tt) r (wscale, tt))
 wscale_length_one wscale = equation (length (spelt words.scale (scale_said wscale)))
 
 pub window_length_one : (wsize : WindowSize) → ExactlyOne ℕ (λ (r : ℕ). window_length'.Post tt (wsize, tt) r (wsize, tt))
@@ -65,12 +63,12 @@ pub put_ttl_one
 put_ttl_one κs buffer at ttl = both _ _
 
 pub put_mss_one
-    : (κs : Lfts 1) (buffer : MutBor (List ℕ)) (at : ℕ) (mss : Mss)
+    : (κs : Lfts 1) (buffer : MutBor (List ℕ)) (at : ℕ) (mss : Option ℕ)
     → ExactlyOne (ℕ × List ℕ) (λ (r : ℕ × List ℕ). put_mss'.Post κs (buffer, (at, (mss, tt))) r.0 (left_with buffer r.1, (at, (mss, tt))))
 put_mss_one κs buffer at mss = both _ _
 
 pub put_wscale_one
-    : (κs : Lfts 1) (buffer : MutBor (List ℕ)) (at : ℕ) (wscale : Wscale)
+    : (κs : Lfts 1) (buffer : MutBor (List ℕ)) (at : ℕ) (wscale : Option ℕ)
     → ExactlyOne (ℕ × List ℕ)
     (λ (r : ℕ × List ℕ). put_wscale'.Post κs (buffer, (at, (wscale, tt))) r.0 (left_with buffer r.1, (at, (wscale, tt))))
 put_wscale_one κs buffer at wscale = both _ _

@@ -1,4 +1,5 @@
 -- The hops to report are those of a TTL in range, and a guess otherwise.
+use Rattle.std.specs.Prelude.{Option, Some, None}
 use mathlib.Core.Path.{◌≡◌, refl}
 use mathlib.Core.Bool.{Bool, true, false, cond, not, ◌&&◌, ◌||◌}
 use Prim.Native.Nat.{ℕ, ◌-◌}
@@ -9,16 +10,17 @@ use Rattle.distances.specs.declared.TtlFit.{TtlFit}
 use Rattle.distances.specs.declared.TtlFit.TheVariants as ttlfit
 use Rattle.distances.specs.Distances.{initial_ttl, is_bad, ttl_fit, reported_hops}
 
-abbrev pub hops_of : TtlFit → ℕ → ℕ
-hops_of ttlfit.Rejected guess = guess
-hops_of (ttlfit.InRange hops) guess = hops
-hops_of (ttlfit.OutOfRange hops) guess = guess
+abbrev pub hops_of : Option TtlFit → ℕ → ℕ
+hops_of None guess = guess
+hops_of (Some (ttlfit.InRange hops)) guess = hops
+hops_of (Some (ttlfit.OutOfRange hops)) guess = guess
 
 by_tests
     : (bad above far : Bool) (hops guess : ℕ)
     → cond (above || (not bad && far)) guess hops
     ≡ hops_of
-    (cond bad (cond above ttlfit.Rejected (ttlfit.InRange hops)) (cond (above || far) (ttlfit.OutOfRange hops) (ttlfit.InRange hops)))
+    (cond bad (cond above None (Some (ttlfit.InRange hops)))
+    (cond (above || far) (Some (ttlfit.OutOfRange hops)) (Some (ttlfit.InRange hops))))
     guess
 by_tests true true far hops guess = refl
 by_tests true false far hops guess = refl

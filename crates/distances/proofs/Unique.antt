@@ -1,12 +1,12 @@
 -- Exactly one result meets each public function's own contract.
 -- tools/promises makes this file from the contracts, and the gate holds it to them.
-use Rattle.std.specs.Prelude.{ℕ, Bool}
+use Rattle.std.specs.Prelude.{ℕ, Bool, Option}
 use Rattle.basis.specs.Unique.{ExactlyOne}
 use Rattle.basis.proofs.Unique.{equation}
 use Rattle.tcp.specs.declared.IpVersion.{IpVersion}
 use Rattle.tcp.specs.declared.PayloadSize.{PayloadSize}
 use Rattle.ttl.specs.declared.Ttl.{Ttl}
-use Rattle.window_size.specs.declared.Multiplier.{Multiplier}
+use Rattle.window_size.specs.declared.WindowMultiplier.{WindowMultiplier}
 use Rattle.sigrecord.specs.declared.WindowSize.{WindowSize}
 use Rattle.sigrecord.specs.Record.{payload_of, version_of}
 use Rattle.distances.specs.declared.TtlFit.{TtlFit}
@@ -25,7 +25,7 @@ ip_version_matches_one observed code = equation (version_matches observed (versi
 
 pub ttl_fit_one
     : (observed : ℕ) (signature : Ttl)
-    → ExactlyOne TtlFit (λ (r : TtlFit). ttl_fit'.Post tt (observed, (signature, tt)) r (observed, (signature, tt)))
+    → ExactlyOne (Option TtlFit) (λ (r : Option TtlFit). ttl_fit'.Post tt (observed, (signature, tt)) r (observed, (signature, tt)))
 ttl_fit_one observed signature = equation (ttl_fit observed signature)
 
 pub report_hop_distance_one
@@ -34,7 +34,7 @@ pub report_hop_distance_one
 report_hop_distance_one observed signature = equation (reported_hops observed signature)
 
 pub window_size_matches_one
-    : (observed : ℕ) (signature : WindowSize) (multiplier : Multiplier)
+    : (observed : ℕ) (signature : WindowSize) (multiplier : Option WindowMultiplier)
     → ExactlyOne Bool
     (λ (r : Bool). window_size_matches'.Post tt (observed, (signature, (multiplier, tt))) r (observed, (signature, (multiplier, tt))))
 window_size_matches_one observed signature multiplier = equation (window_matches observed signature multiplier)

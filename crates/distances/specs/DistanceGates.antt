@@ -1,11 +1,10 @@
 -- Gates of a fit (document 01, module 7): version, window, payload.
-use Rattle.std.specs.Prelude.{ℕ, ◌%◌, Bool, true, false, cond, not, ◌&&◌, eqb}
+use Rattle.std.specs.Prelude.{ℕ, ◌%◌, Bool, true, false, cond, not, ◌&&◌, eqb, Option, Some, None}
 use Rattle.tcp.specs.declared.IpVersion.{IpVersion}
 use Rattle.tcp.specs.declared.IpVersion.TheVariants as version
 use Rattle.tcp.specs.declared.PayloadSize.{PayloadSize}
 use Rattle.tcp.specs.declared.PayloadSize.TheVariants as payload
-use Rattle.window_size.specs.declared.Multiplier.{Multiplier}
-use Rattle.window_size.specs.declared.Multiplier.TheVariants as multiplier
+use Rattle.window_size.specs.declared.WindowMultiplier.{WindowMultiplier}
 use Rattle.sigrecord.specs.declared.SigVersion.{SigVersion}
 use Rattle.sigrecord.specs.declared.SigVersion.TheVariants as sigversion
 use Rattle.sigrecord.specs.declared.SigPayload.{SigPayload}
@@ -29,12 +28,12 @@ payload_matches payload.Zero sigpayload.NonZero = false
 payload_matches payload.NonZero sigpayload.NonZero = true
 
 -- The multiplier is the declared one, and of the declared kind: "MSS and MTU multiples are never taken for each other".
-abbrev pub multiple_matches : Multiplier → ℕ → Bool → Bool
-multiple_matches multiplier.Absent declared of_mtu = false
-multiple_matches (multiplier.Present m) declared of_mtu = eqb m.multiple declared && cond of_mtu m.of_mtu (not m.of_mtu)
+abbrev pub multiple_matches : Option WindowMultiplier → ℕ → Bool → Bool
+multiple_matches None declared of_mtu = false
+multiple_matches (Some m) declared of_mtu = eqb m.multiple declared && cond of_mtu m.of_mtu (not m.of_mtu)
 
 -- "A zero modulus is well formed and never fits."
-unfoldable pub window_matches : ℕ → WindowSize → Multiplier → Bool
+unfoldable pub window_matches : ℕ → WindowSize → Option WindowMultiplier → Bool
 window_matches seen wsize.Any m = true
 window_matches seen (wsize.Value value) m = eqb seen value
 window_matches seen (wsize.Mod modulus) m = not (eqb modulus 0) && eqb (seen % modulus) 0

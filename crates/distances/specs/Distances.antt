@@ -1,5 +1,5 @@
 -- The TTL of an observation against a signature's (document 01, module 7).
-use Rattle.std.specs.Prelude.{ℕ, ◌+◌, ◌-◌, min, Bool, true, false, cond, not, ◌&&◌, ◌||◌, ltb}
+use Rattle.std.specs.Prelude.{ℕ, ◌+◌, ◌-◌, min, Bool, true, false, cond, not, ◌&&◌, ◌||◌, ltb, Option, Some, None}
 use Rattle.ttl.specs.declared.Ttl.{Ttl}
 use Rattle.ttl.specs.declared.Ttl.TheVariants as ttl
 use Rattle.ttl.specs.Ttl.{byte_of, guess_of}
@@ -24,13 +24,13 @@ abbrev pub out_of_range : ℕ → ℕ → Bool
 out_of_range observed initial = ltb initial observed || ltb 35 (initial - observed)
 
 -- "for Bad, above rejects and all else is in range"; the hop distance is how far below the initial TTL, 0 if above it.
-unfoldable pub ttl_fit : ℕ → Ttl → TtlFit
+unfoldable pub ttl_fit : ℕ → Ttl → Option TtlFit
 ttl_fit observed signature =
     cond (is_bad signature)
-    (cond (ltb (initial_ttl signature) observed) ttlfit.Rejected (ttlfit.InRange (initial_ttl signature - observed)))
+    (cond (ltb (initial_ttl signature) observed) None (Some (ttlfit.InRange (initial_ttl signature - observed))))
     (cond (out_of_range observed (initial_ttl signature))
-    (ttlfit.OutOfRange (initial_ttl signature - observed))
-    (ttlfit.InRange (initial_ttl signature - observed)))
+    (Some (ttlfit.OutOfRange (initial_ttl signature - observed)))
+    (Some (ttlfit.InRange (initial_ttl signature - observed))))
 
 -- The hops to report (distances.rs; document 01 has no rule of its own for it): from the initial TTL, or a guess where the TTL is above
 -- it or, but for Bad, out of range.

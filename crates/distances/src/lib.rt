@@ -9,17 +9,18 @@ ghost use Rattle.distances.specs.Distances.{initial_ttl, is_bad, ttl_fit, report
 use sigrecord::WindowSize;
 use tcp::{IpVersion, PayloadSize};
 use ttl::{MAX_DIST, Ttl, guess_distance, observed_ttl};
-use window_size::Multiplier;
+use window_size::WindowMultiplier;
 
-// The hops against a signature's initial TTL: `Option<TtlFit>`.
+// The hops against a signature's initial TTL.
 #[derive(Clone, Copy)]
 pub enum TtlFit {
-    Rejected,
     InRange(u8),
     OutOfRange(u8),
 }
 
-// The gate of the version, read off a record's code: one that is not listed means any, as the record's meaning has it.
+// The gate of the version, read off a record's code: one that is not listed means any, as the record's meaning has it. The code is not made
+// an enum first: a search asks this of each record whose layout's count and scale fit.
+#[tactic(auto, using(crate::proofs::Codes::v4_passes, crate::proofs::Codes::v6_passes))]
 pub fn ip_version_matches(observed: IpVersion, code: u8) -> bool
     ensures { result ≡ version_matches observed (version_of code) }
 {
@@ -34,97 +35,80 @@ fn signature_initial_ttl(signature: Ttl) -> u8
     ensures { result ≡ initial_ttl signature }
 {
     match signature {
-        Ttl::Value(ttl) => ttl,
-        Ttl::Guess(ttl) => ttl,
-        Ttl::Bad(ttl) => ttl,
-        Ttl::Distance(ttl, distance) => {
-            if ttl <= 255 - distance {
-                ttl + distance
-            } else {
-                255
-            }
-        }
+        Ttl::Value(ttl) | Ttl::Guess(ttl) | Ttl::Bad(ttl) => ttl,
+        Ttl::Distance(ttl, distance) => ttl.saturating_add(distance),
     }
 }
 
 fn is_bad(signature: Ttl) -> bool
     ensures { result ≡ is_bad signature }
 {
-    match signature {
-        Ttl::Value(_) => false,
-        Ttl::Distance(_, _) => false,
-        Ttl::Guess(_) => false,
-        Ttl::Bad(_) => true,
-    }
+    matches!(signature, Ttl::Bad(_))
 }
 
 // The observed TTL byte against a signature.
-pub fn ttl_fit(observed: u8, signature: Ttl) -> TtlFit
+#[tactic(auto, unfolding(crate::specs::Distances::ttl_fit))]
+pub fn ttl_fit(observed: u8, signature: Ttl) -> Option<TtlFit>
     ensures { result ≡ ttl_fit observed signature }
 {
     let initial = signature_initial_ttl(signature);
     if initial < observed {
         if is_bad(signature) {
-            return TtlFit::Rejected;
+            return None;
         }
-        return TtlFit::OutOfRange(0);
+        return Some(TtlFit::OutOfRange(0));
     }
     let hops = initial - observed;
     if is_bad(signature) {
-        return TtlFit::InRange(hops);
+        return Some(TtlFit::InRange(hops));
     }
     if MAX_DIST < hops {
-        return TtlFit::OutOfRange(hops);
+        return Some(TtlFit::OutOfRange(hops));
     }
-    TtlFit::InRange(hops)
+    Some(TtlFit::InRange(hops))
 }
 
 // The hop count to report: that of a TTL in range, else a guess.
+#[tactic(auto, using(crate::proofs::Hops::reported))]
 pub fn report_hop_distance(observed: Ttl, signature: Ttl) -> u8
     ensures { result ≡ reported_hops observed signature }
 {
     let seen = observed_ttl(observed);
-    let fit = ttl_fit(seen, signature);
-    match fit {
-        TtlFit::Rejected => guess_distance(seen),
-        TtlFit::InRange(hops) => hops,
-        TtlFit::OutOfRange(_) => guess_distance(seen),
+    match ttl_fit(seen, signature) {
+        Some(TtlFit::InRange(hops)) => hops,
+        _ => guess_distance(seen),
     }
 }
 
 // The window is a multiple of the right kind, by the declared factor.
-fn multiple_matches(observed: Multiplier, declared: u8, of_mtu: bool) -> bool
+fn multiple_matches(observed: Option<WindowMultiplier>, declared: u8, of_mtu: bool) -> bool
     ensures { result ≡ multiple_matches observed declared of_mtu }
 {
-    match observed {
-        Multiplier::Absent => false,
-        Multiplier::Present(found) => {
-            if found.multiple != declared as u16 {
-                return false;
-            }
-            if of_mtu { found.of_mtu } else { !found.of_mtu }
-        }
-    }
+    let Some(found) = observed else {
+        return false;
+    };
+    found.multiple == u16::from(declared) && found.of_mtu == of_mtu
 }
 
-pub fn window_size_matches(observed: u16, signature: WindowSize, multiplier: Multiplier) -> bool
+#[tactic(auto, unfolding(crate::specs::DistanceGates::window_matches))]
+pub fn window_size_matches(
+    observed: u16,
+    signature: WindowSize,
+    multiplier: Option<WindowMultiplier>,
+) -> bool
     ensures { result ≡ window_matches observed signature multiplier }
 {
     match signature {
         WindowSize::Any => true,
         WindowSize::Value(value) => observed == value,
-        WindowSize::Mod(modulus) => {
-            if modulus == 0 {
-                return false;
-            }
-            observed % modulus == 0
-        }
+        WindowSize::Mod(modulus) => modulus != 0 && observed % modulus == 0,
         WindowSize::Mss(multiple) => multiple_matches(multiplier, multiple, false),
         WindowSize::Mtu(multiple) => multiple_matches(multiplier, multiple, true),
     }
 }
 
 // The gate of the payload, read off a record's code, as that of the version.
+#[tactic(auto, using(crate::proofs::Codes::empty_passes, crate::proofs::Codes::data_passes))]
 pub fn payload_size_matches(observed: PayloadSize, code: u8) -> bool
     ensures { result ≡ payload_matches observed (payload_of code) }
 {

@@ -1,15 +1,16 @@
 -- The nine fields decide the fit: it is what they give together, and it is none exactly if one of them fails.
+use Rattle.std.specs.Prelude.{Option, Some, None, Ok}
 use Prim.Native.Nat.{ℕ, ◌+◌, ◌<◌}
 use mathlib.Core.Path.{◌≡◌, refl, sym, ◌∙◌, ap}
 use mathlib.Core.Bool.{Bool, true, false, cond, not, ◌&&◌}
 use mathlib.Core.List.{List, [], ◌∷◌}
 use native.Mathlib.Omega.{arith}
 use lib.Dec.{eqb}
+use Rattle.std.proofs.lemmas.List.Sums.{sum_by-cons}
 use borrow.Author.Tests.{ne_eqb, lt-ltb}
 use Rattle.basis.proofs.Tests.{and_false}
 use Rattle.quirks.specs.Quirks.{is_empty}
 use Rattle.sigrecord.specs.declared.Signature.{Signature}
-use Rattle.siglist.specs.declared.ListAnswer.TheVariants as list
 use Rattle.siglist.specs.List.{record_count, check_list}
 use Rattle.siglist.proofs.FirstBad.{each_good, good_fits}
 use Rattle.distances.specs.declared.TtlFit.{TtlFit}
@@ -17,8 +18,7 @@ use Rattle.distances.specs.declared.TtlFit.TheVariants as ttlfit
 use Rattle.distances.specs.DistanceGates.{version_matches, window_matches, payload_matches}
 use Rattle.matching.specs.declared.Features.{Features}
 use Rattle.matching.specs.declared.FuzzyReason.{FuzzyReason}
-use Rattle.matching.specs.declared.QuirksFit.{QuirksFit}
-use Rattle.matching.specs.declared.QuirksFit.TheVariants as quirksfit
+use Rattle.matching.specs.declared.Tolerated.{Tolerated}
 use Rattle.matching.specs.declared.SignatureFit.{SignatureFit}
 use Rattle.matching.specs.declared.SignatureFit.TheVariants as answer
 use Rattle.matching.specs.Gates.{olen_matches, mss_matches, scale_matches, layout_matches}
@@ -27,7 +27,9 @@ use Rattle.matching.specs.Fit.{scalar_gates, tolerance_of, fit_of}
 use Rattle.found.specs.Rank.{is_none}
 use Rattle.search.specs.Search.{fit_at}
 use Rattle.explain.specs.declared.gates.Gates.{Gates}
-use Rattle.explain.specs.Gating.{gates_of, gates_at, fit_from, gate_code, ttl_code, quirks_code, row_of, fails}
+use Rattle.explain.specs.declared.gates.Said.{Said}
+use Rattle.explain.specs.declared.gates.Said.TheVariants as said
+use Rattle.explain.specs.Gating.{gates_of, gates_at, fit_from, gate_said, ttl_said, quirks_said, row_of, is_fails, fails}
 
 -- ---- the fit
 
@@ -55,7 +57,7 @@ fit_by_gates f kinds bytes s count entries =
 
 -- How a search takes record i of a list that passed its check.
 pub searched_by_gates
-    : (f : Features) (kinds bytes l : List ℕ) (i : ℕ) → check_list l ≡ list.Good → i < record_count l
+    : (f : Features) (kinds bytes l : List ℕ) (i : ℕ) → check_list l ≡ Ok tt → i < record_count l
     → fit_at f kinds bytes l i ≡ fit_from (gates_at f kinds bytes l i)
 unfolding fit_at
 searched_by_gates f kinds bytes l i good inside =
@@ -63,48 +65,51 @@ searched_by_gates f kinds bytes l i good inside =
 
 -- ---- none fails
 
-none_fails : List ℕ → Bool
+none_fails : List Said → Bool
 none_fails [] = true
-none_fails (c ∷ cs) = not (eqb c 2) && none_fails cs
+none_fails (c ∷ cs) = not (is_fails c) && none_fails cs
 
-none_counted : (row : List ℕ) → eqb (fails row) 0 ≡ none_fails row
-unfolding fails none_fails
+none_counted : (row : List Said) → eqb (fails row) 0 ≡ none_fails row
+unfolding none_fails
 none_counted [] = refl
-none_counted (c ∷ cs) = by (eqb c 2) (none_counted cs)
+none_counted (c ∷ cs) =
+    ap (λ (n : ℕ). eqb n 0) (sum_by-cons (λ (x : Said). cond (is_fails x) 1 0) c cs) ∙ by (is_fails c) (none_counted cs)
   where
     by : (t : Bool) → eqb (fails cs) 0 ≡ none_fails cs → eqb (cond t 1 0 + fails cs) 0 ≡ not t && none_fails cs
     by true rest = ne_eqb (1 + fails cs) 0 (λ e. omega (arith, e))
     by false rest = let same : 0 + fails cs ≡ fails cs = omega arith in ap (λ (n : ℕ). eqb n 0) same ∙ rest
 
-exact_or_fuzzy : (e : Bool) (r : FuzzyReason) → not (eqb (cond e 0 1) 2) && true ≡ not (is_none (cond e answer.Exact (answer.Fuzzy r)))
+exact_or_fuzzy
+    : (e : Bool) (r : FuzzyReason)
+    → not (is_fails (cond e said.Holds said.Tolerated)) && true ≡ not (is_none (cond e answer.Exact (answer.Fuzzy r)))
 exact_or_fuzzy true r = refl
 exact_or_fuzzy false r = refl
 
-tolerated : (e : Bool) → not (eqb (cond e 0 1) 2) && true ≡ true
+tolerated : (e : Bool) → not (is_fails (cond e said.Holds said.Tolerated)) && true ≡ true
 tolerated true = refl
 tolerated false = refl
 
 judged
-    : (t : TtlFit) (q : QuirksFit)
-    → not (eqb (ttl_code t) 2) && (not (eqb (quirks_code q) 2) && true) ≡ not (is_none (judge t q))
+    : (t : Option TtlFit) (q : Option Tolerated)
+    → not (is_fails (ttl_said t)) && (not (is_fails (quirks_said q)) && true) ≡ not (is_none (judge t q))
 unfolding judge judge_in_range
-judged ttlfit.Rejected q = refl
-judged (ttlfit.InRange d) quirksfit.Rejected = refl
-judged (ttlfit.InRange d) (quirksfit.Tolerated q) = exact_or_fuzzy (is_empty q.added && is_empty q.missing) _
-judged (ttlfit.OutOfRange d) quirksfit.Rejected = refl
-judged (ttlfit.OutOfRange d) (quirksfit.Tolerated q) = tolerated (is_empty q.added && is_empty q.missing)
+judged None q = refl
+judged (Some (ttlfit.InRange d)) None = refl
+judged (Some (ttlfit.InRange d)) (Some q) = exact_or_fuzzy (is_empty q.added && is_empty q.missing) _
+judged (Some (ttlfit.OutOfRange d)) None = refl
+judged (Some (ttlfit.OutOfRange d)) (Some q) = tolerated (is_empty q.added && is_empty q.missing)
 
-module _ (t : TtlFit) (q : QuirksFit) where
+module _ (t : Option TtlFit) (q : Option Tolerated) where
   T : Bool
-  T = not (eqb (ttl_code t) 2)
+  T = not (is_fails (ttl_said t))
 
   Q : Bool
-  Q = not (eqb (quirks_code q) 2)
+  Q = not (is_fails (quirks_said q))
 
   by_fields
       : (v o m w s l p : Bool)
       → none_fails
-      (gate_code v ∷ ttl_code t ∷ gate_code o ∷ gate_code m ∷ gate_code w ∷ gate_code s ∷ gate_code l ∷ quirks_code q ∷ gate_code p ∷ [])
+      (gate_said v ∷ ttl_said t ∷ gate_said o ∷ gate_said m ∷ gate_said w ∷ gate_said s ∷ gate_said l ∷ quirks_said q ∷ gate_said p ∷ [])
       ≡ not (is_none (cond (v && o && m && w && s && l && p) (judge t q) answer.None))
   unfolding none_fails T Q
   by_fields false o m w s l p = refl

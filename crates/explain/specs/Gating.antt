@@ -1,5 +1,5 @@
 -- How the nine fields of a record meet an observation, one by one (document 01, module 7), and the fit that they decide together.
-use Rattle.std.specs.Prelude.{ℕ, ◌+◌, Bool, true, false, cond, ◌&&◌, List, [], ◌∷◌, eqb}
+use Rattle.std.specs.Prelude.{ℕ, Bool, true, false, cond, ◌&&◌, List, [], ◌∷◌, count_by, Option, Some, None}
 use Rattle.quirks.specs.Quirks.{is_empty}
 use Rattle.sigrecord.specs.declared.Signature.{Signature}
 use Rattle.sigrecord.specs.Record.{signature_of, entry_count}
@@ -9,13 +9,14 @@ use Rattle.distances.specs.declared.TtlFit.TheVariants as ttlfit
 use Rattle.distances.specs.DistanceGates.{version_matches, window_matches, payload_matches}
 use Rattle.distances.specs.Distances.{ttl_fit}
 use Rattle.matching.specs.declared.Features.{Features}
-use Rattle.matching.specs.declared.QuirksFit.{QuirksFit}
-use Rattle.matching.specs.declared.QuirksFit.TheVariants as quirksfit
+use Rattle.matching.specs.declared.Tolerated.{Tolerated}
 use Rattle.matching.specs.declared.SignatureFit.{SignatureFit}
 use Rattle.matching.specs.declared.SignatureFit.TheVariants as answer
 use Rattle.matching.specs.Gates.{olen_matches, mss_matches, scale_matches, layout_matches}
 use Rattle.matching.specs.Tolerance.{masked_quirks, quirks_fit, judge}
 use Rattle.explain.specs.declared.gates.Gates.{Gates}
+use Rattle.explain.specs.declared.gates.Said.{Said}
+use Rattle.explain.specs.declared.gates.Said.TheVariants as said
 
 -- Each field by the definition of its gate. The signature's layout is a count and its entries.
 unfoldable pub gates_of : Features → List ℕ → List ℕ → Signature → ℕ → List ℕ → Gates
@@ -46,40 +47,44 @@ seven_hold g = g.version && g.olen && g.mss && g.wsize && g.wscale && g.olayout 
 abbrev pub fit_from : Gates → SignatureFit
 fit_from g = cond (seven_hold g) (judge g.ttl g.quirks) answer.None
 
--- ---- what is said of a field: 0 it holds, 1 it is tolerated, 2 it fails
+-- ---- what is said of a field
 
-abbrev pub gate_code : Bool → ℕ
-gate_code true = 0
-gate_code false = 2
+abbrev pub gate_said : Bool → Said
+gate_said true = said.Holds
+gate_said false = said.Fails
 
-abbrev pub ttl_code : TtlFit → ℕ
-ttl_code (ttlfit.InRange hops) = 0
-ttl_code (ttlfit.OutOfRange hops) = 1
-ttl_code ttlfit.Rejected = 2
+abbrev pub ttl_said : Option TtlFit → Said
+ttl_said (Some (ttlfit.InRange hops)) = said.Holds
+ttl_said (Some (ttlfit.OutOfRange hops)) = said.Tolerated
+ttl_said None = said.Fails
 
 -- Quirks hold if none had to be tolerated.
-abbrev pub quirks_code : QuirksFit → ℕ
-quirks_code (quirksfit.Tolerated q) = cond (is_empty q.added && is_empty q.missing) 0 1
-quirks_code quirksfit.Rejected = 2
+abbrev pub quirks_said : Option Tolerated → Said
+quirks_said (Some q) = cond (is_empty q.added && is_empty q.missing) said.Holds said.Tolerated
+quirks_said None = said.Fails
 
 -- The nine fields, in the order of a line's.
-unfoldable pub row_of : Gates → List ℕ
+unfoldable pub row_of : Gates → List Said
 row_of g =
-    gate_code g.version
-    ∷ ttl_code g.ttl
-    ∷ gate_code g.olen
-    ∷ gate_code g.mss
-    ∷ gate_code g.wsize
-    ∷ gate_code g.wscale
-    ∷ gate_code g.olayout
-    ∷ quirks_code g.quirks
-    ∷ gate_code g.pclass
+    gate_said g.version
+    ∷ ttl_said g.ttl
+    ∷ gate_said g.olen
+    ∷ gate_said g.mss
+    ∷ gate_said g.wsize
+    ∷ gate_said g.wscale
+    ∷ gate_said g.olayout
+    ∷ quirks_said g.quirks
+    ∷ gate_said g.pclass
     ∷ []
 
+abbrev pub is_fails : Said → Bool
+is_fails said.Holds = false
+is_fails said.Tolerated = false
+is_fails said.Fails = true
+
 -- How many fields of a row fail.
-unfoldable pub fails : List ℕ → ℕ
-fails [] = 0
-fails (code ∷ codes) = cond (eqb code 2) 1 0 + fails codes
+abbrev pub fails : List Said → ℕ
+fails row = count_by is_fails row
 
 -- How many fields of record i of a list fail.
 abbrev pub fails_at : Features → List ℕ → List ℕ → List ℕ → ℕ → ℕ

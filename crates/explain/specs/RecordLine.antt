@@ -1,25 +1,12 @@
 -- The line of a record below a packet's: which it is, how its fields meet the packet's observation, and its signature line.
-use Rattle.std.specs.Prelude.{ℕ, ◌<◌, ◌≡◌, true, cond, List, [], ◌∷◌, ◌++◌}
+use Rattle.std.specs.Prelude.{ℕ, cond, List, [], ◌∷◌, ◌++◌}
 use Rattle.text.specs.Decimal.{decimal, newline}
 use Rattle.sigrecord.specs.Record.{label_of, is_generic}
-use Rattle.siglist.specs.declared.Areas.{Areas}
-use Rattle.siglist.specs.declared.ListAnswer.TheVariants as list
-use Rattle.siglist.specs.List.{AreasFit, record_at, record_good, check_list}
+use Rattle.siglist.specs.List.{record_at}
 use Rattle.file_writer.specs.Shown.{listed_text}
 use Rattle.explain.specs.declared.gates.Gates.{Gates}
 use Rattle.explain.specs.Gating.{row_of}
 use Rattle.explain.specs.GateText.{gates_text}
-
--- A list that passed its check, with the numbers of its header.
-pub record CheckedList (l : List ℕ) (areas : Areas) : Type 0 where
-  pub fits : AreasFit l areas
-  pub good : check_list l ≡ list.Good
-
--- A record of such a list, which is then well formed.
-pub record GoodRecord (l : List ℕ) (areas : Areas) (i : ℕ) : Type 0 where
-  pub fits : AreasFit l areas
-  pub inside : i < areas.records
-  pub good : record_good l i ≡ true
 
 -- "  record "
 abbrev pub record_word : List ℕ

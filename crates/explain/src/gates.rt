@@ -1,166 +1,142 @@
 // How each field of a record meets an observation: the gates of `matching` and `distances`, asked one by one, each to its end.
-ghost use Rattle.std.specs.Prelude.{◌≡◌, true, cond, ◌≤◌, eqb};
+ghost use Rattle.std.specs.Prelude.{◌≡◌, true, ◌<◌};
 ghost use Rattle.sigrecord.specs.Layout.{entries_good};
 ghost use Rattle.sigrecord.specs.Record.{entry_count};
-ghost use Rattle.explain.specs.Gating.{gates_by, gates_at, gate_code, ttl_code, quirks_code, row_of, fails};
-ghost use Rattle.explain.specs.RecordLine.{GoodRecord};
+ghost use Rattle.explain.specs.Gating.{gates_by, gates_at, gate_said, ttl_said, quirks_said, row_of, fails};
 
+use bundle_lines::CheckedList;
 use distances::{TtlFit, ip_version_matches, payload_size_matches, ttl_fit, window_size_matches};
 use matching::{
-    Features, QuirksFit, mask_signature_quirks, mss_matches, olayout_matches, olen_matches,
+    Features, Tolerated, mask_signature_quirks, mss_matches, olayout_matches, olen_matches,
     quirks_fit, wscale_matches,
 };
 use numbers::byte_at;
-use siglist::{Areas, record_at};
+use siglist::record_at;
 use sigrecord::{PAYLOAD, VERSION, entry_count, first_entry, signature_of};
+use tcp::Layout;
 
 // What each field's gate answers.
 #[derive(Clone, Copy)]
 pub struct Gates {
     pub version: bool,
-    pub ttl: TtlFit,
+    pub ttl: Option<TtlFit>,
     pub olen: bool,
     pub mss: bool,
     pub wsize: bool,
     pub wscale: bool,
     pub olayout: bool,
-    pub quirks: QuirksFit,
+    pub quirks: Option<Tolerated>,
     pub pclass: bool,
 }
 
 // What is said of a field.
-pub const HOLDS: u8 = 0;
+#[derive(Clone, Copy, PartialEq, Eq)]
+pub enum Said {
+    Holds,
+    Tolerated,
+    Fails,
+}
 
-pub const TOLERATED: u8 = 1;
-
-pub const FAILS: u8 = 2;
+// What was seen of a packet, its options, and the list whose records are held against it, which passed its check.
+#[derive(Clone, Copy)]
+pub struct Compared<'a> {
+    pub seen: Features,
+    pub layout: Layout,
+    pub passed: CheckedList<'a>,
+}
 
 // ---- the gates
 
-// The gates of a record whose entries are good, as those of every list that passed its check are.
-fn gates_of(seen: Features, kinds: &[u8], bytes: &[u8], raw: &[u8], layout: &[u8]) -> Gates
-    requires { entries_good layout.now (entry_count raw.now) ≡ true }
-    ensures { result ≡ gates_by seen kinds.now bytes.now raw.now layout.now }
-{
-    let version = seen.version;
-    let mss = seen.mss;
-    let multiplier = seen.multiplier;
-    let wscale = seen.wscale;
-    let pclass = seen.pclass;
-    let quirks = seen.quirks;
-    let declared = signature_of(raw);
-    let declared_version = declared.version;
-    let declared_ttl = declared.ittl;
-    let declared_mss = declared.mss;
-    let declared_window = declared.wsize;
-    let declared_scale = declared.wscale;
-    let declared_quirks = declared.quirks;
-    let masked = mask_signature_quirks(declared_quirks, declared_version, version);
-    Gates {
-        version: ip_version_matches(version, byte_at(raw, VERSION)),
-        ttl: ttl_fit(seen.ttl, declared_ttl),
-        olen: olen_matches(seen.olen, declared.olen),
-        mss: mss_matches(mss, declared_mss),
-        wsize: window_size_matches(seen.wsize, declared_window, multiplier),
-        wscale: wscale_matches(wscale, declared_scale),
-        olayout: olayout_matches(kinds, bytes, seen.count, layout, entry_count(raw) as usize),
-        quirks: quirks_fit(quirks, masked),
-        pclass: payload_size_matches(pclass, byte_at(raw, PAYLOAD)),
+impl Compared<'_> {
+    // The gates of a record whose entries are good, as those of every list that passed its check are.
+    #[tactic(auto, using(crate::proofs::Laws::same_fit), unfolding(crate::specs::Gating::gates_of, sigrecord::specs::Record::signature_of))]
+    fn gates_of(&self, raw: &[u8], entries: &[u8]) -> Gates
+        requires { entries_good entries.now (entry_count raw.now) ≡ true }
+        ensures { result ≡ gates_by self.now.seen self.now.layout.kinds self.now.layout.bytes raw.now entries.now }
+    {
+        let seen = self.seen;
+        let declared = signature_of(raw);
+        let masked = mask_signature_quirks(declared.quirks, declared.version, seen.version);
+        let kinds = &self.layout.kinds;
+        let bytes = &self.layout.bytes;
+        Gates {
+            version: ip_version_matches(seen.version, byte_at(raw, VERSION)),
+            ttl: ttl_fit(seen.ttl, declared.ittl),
+            olen: olen_matches(seen.olen, declared.olen),
+            mss: mss_matches(seen.mss, declared.mss),
+            wsize: window_size_matches(seen.wsize, declared.wsize, seen.multiplier),
+            wscale: wscale_matches(seen.wscale, declared.wscale),
+            olayout: olayout_matches(kinds, bytes, seen.count, entries, entry_count(raw) as usize),
+            quirks: quirks_fit(seen.quirks, masked),
+            pclass: payload_size_matches(seen.pclass, byte_at(raw, PAYLOAD)),
+        }
     }
-}
 
-// The gates of record i of a list.
-pub(crate) fn gates_at(
-    seen: Features,
-    kinds: &[u8; 40],
-    bytes: &[u8; 40],
-    list: &[u8],
-    areas: Areas,
-    i: usize,
-) -> Gates
-    requires { GoodRecord list.now areas i }
-    ensures { result ≡ gates_at seen kinds.now bytes.now list.now i }
-{
-    let raw = record_at(list, areas, i);
-    let first = first_entry(raw);
-    let count = entry_count(raw);
-    let start = areas.entries_offset as usize + 2 * first as usize;
-    let end = start + 2 * count as usize;
-    gates_of(seen, kinds, bytes, raw, &list[start..end])
+    // The gates of record i of the list.
+    pub(crate) fn gates_at(&self, i: u16) -> Gates
+        requires { i < self.now.passed.list.areas.records }
+        ensures { result ≡ gates_at self.now.seen self.now.layout.kinds self.now.layout.bytes self.now.passed.list.bytes.now i }
+    {
+        let list = &self.passed.list;
+        let raw = record_at(list.bytes, list.areas, i as usize);
+        let entries_offset = list.areas.entries_offset;
+        let start = entries_offset as usize + 2 * first_entry(raw) as usize;
+        let end = start + 2 * entry_count(raw) as usize;
+        self.gates_of(raw, &list.bytes[start..end])
+    }
 }
 
 // ---- what is said of the fields
 
-fn gate_code(holds: bool) -> u8
-    ensures { result ≡ gate_code holds }
+fn gate_said(holds: bool) -> Said
+    ensures { result ≡ gate_said holds }
 {
-    if holds { HOLDS } else { FAILS }
+    if holds { Said::Holds } else { Said::Fails }
 }
 
-fn ttl_code(fit: TtlFit) -> u8
-    ensures { result ≡ ttl_code fit }
+fn ttl_said(fit: Option<TtlFit>) -> Said
+    ensures { result ≡ ttl_said fit }
 {
     match fit {
-        TtlFit::Rejected => FAILS,
-        TtlFit::InRange(_) => HOLDS,
-        TtlFit::OutOfRange(_) => TOLERATED,
+        Some(TtlFit::InRange(_)) => Said::Holds,
+        Some(TtlFit::OutOfRange(_)) => Said::Tolerated,
+        None => Said::Fails,
     }
 }
 
-fn quirks_code(fit: QuirksFit) -> u8
-    ensures { result ≡ quirks_code fit }
+fn quirks_said(fit: Option<Tolerated>) -> Said
+    ensures { result ≡ quirks_said fit }
 {
     match fit {
-        QuirksFit::Rejected => FAILS,
-        QuirksFit::Tolerated(found) => {
-            let added = found.added;
-            let missing = found.missing;
-            if !added.is_empty() {
-                return TOLERATED;
-            }
-            if !missing.is_empty() {
-                return TOLERATED;
-            }
-            HOLDS
-        }
+        Some(q) if q.added.is_empty() && q.missing.is_empty() => Said::Holds,
+        Some(_) => Said::Tolerated,
+        None => Said::Fails,
     }
 }
 
 // The nine fields, in the order of a line's.
-pub(crate) fn row_of(gates: Gates) -> [u8; 9]
+#[tactic(auto, unfolding(crate::specs::Gating::row_of))]
+pub(crate) fn row_of(gates: Gates) -> [Said; 9]
     ensures { result ≡ row_of gates }
 {
-    let ttl = gates.ttl;
-    let quirks = gates.quirks;
     [
-        gate_code(gates.version),
-        ttl_code(ttl),
-        gate_code(gates.olen),
-        gate_code(gates.mss),
-        gate_code(gates.wsize),
-        gate_code(gates.wscale),
-        gate_code(gates.olayout),
-        quirks_code(quirks),
-        gate_code(gates.pclass),
+        gate_said(gates.version),
+        ttl_said(gates.ttl),
+        gate_said(gates.olen),
+        gate_said(gates.mss),
+        gate_said(gates.wsize),
+        gate_said(gates.wscale),
+        gate_said(gates.olayout),
+        quirks_said(gates.quirks),
+        gate_said(gates.pclass),
     ]
 }
 
-// A field that fails counts one.
-fn failed(code: u8) -> usize
-    ensures { (result ≡ cond (eqb code 2) 1 0) × (result ≤ 1) }
-{
-    if code == FAILS { 1 } else { 0 }
-}
-
 // How many fields fail.
-pub(crate) fn failing(row: &[u8]) -> usize
+pub(crate) fn failing(row: &[Said; 9]) -> usize
     ensures { result ≡ fails row.now }
 {
-    let mut fields = 0;
-    let mut k = 0;
-    while k < row.len() {
-        fields += failed(row[k]);
-        k += 1;
-    }
-    fields
+    row.iter()
+        .filter(|said| matches!(said, Said::Fails))
+        .count()
 }

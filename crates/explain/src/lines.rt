@@ -1,105 +1,72 @@
 // The line of a record below a packet's, put into a lent buffer; each function hands back the place behind what it put.
-ghost use Rattle.std.specs.Prelude.{cond, ◌||◌, [], ◌≡◌};
+ghost use Rattle.std.specs.Prelude.{cond, [], ◌<◌, ◌≡◌};
 ghost use Rattle.text.specs.Written.{Put};
-ghost use Rattle.explain.specs.GateText.{dash, comma, name_at, shown_name, names_of, gates_text};
-ghost use Rattle.explain.specs.RecordLine.{GoodRecord, generic_word, which_text, explained_line};
+ghost use Rattle.explain.specs.GateText.{name_at, shown_name, names_of, gates_text};
+ghost use Rattle.explain.specs.RecordLine.{which_text, explained_line};
 
-use crate::gates::{FAILS, Gates, HOLDS, TOLERATED, row_of};
+use crate::gates::{Gates, Said, row_of};
 use file_writer::put_listed;
-use siglist::{Areas, record_at};
+use siglist::{SigList, record_at};
 use sigrecord::{is_generic, label_of};
 use text::{put_byte, put_decimal, put_word};
 
 // ---- the names of the fields
 
-fn put_name(line: &mut [u8], at: usize, k: usize) -> usize
-    ensures { Put line.old at (name_at k) result line.new }
+const NAMES: [&[u8]; 9] = [
+    b"ver", b"ttl", b"olen", b"mss", b"wsize", b"scale", b"olayout", b"quirks", b"pclass",
+];
+
+fn name_of(k: usize) -> &'static [u8]
+    requires { k < 9 }
+    ensures { result.now ≡ name_at k }
 {
-    match k {
-        0 => put_word(line, at, b"ver"),
-        1 => put_word(line, at, b"ttl"),
-        2 => put_word(line, at, b"olen"),
-        3 => put_word(line, at, b"mss"),
-        4 => put_word(line, at, b"wsize"),
-        5 => put_word(line, at, b"scale"),
-        6 => put_word(line, at, b"olayout"),
-        7 => put_word(line, at, b"quirks"),
-        _ => put_word(line, at, b"pclass"),
-    }
+    NAMES[k]
 }
 
-// The comma between two names.
-fn put_comma(line: &mut [u8], at: usize, any: bool) -> usize
-    ensures { Put line.old at (cond any comma []) result line.new }
+// A text, where it is shown.
+fn put_if(line: &mut [u8], at: usize, shown: bool, text: &[u8]) -> usize
+    ensures { Put line.old at (cond shown text.now []) result line.new }
 {
-    if any {
-        return put_byte(line, at, b',');
-    }
-    at
+    if shown { put_word(line, at, text) } else { at }
 }
 
+// A name that is shown, behind a comma if another stands before it.
 fn put_named(line: &mut [u8], at: usize, any: bool, shown: bool, k: usize) -> usize
+    requires { k < 9 }
     ensures { Put line.old at (shown_name any shown k) result line.new }
 {
-    if shown {
-        let name = put_comma(line, at, any);
-        return put_name(line, name, k);
-    }
-    at
-}
-
-fn either(one: bool, other: bool) -> bool
-    ensures { result ≡ (one || other) }
-{
-    if one { true } else { other }
-}
-
-// A row without names is a dash.
-fn close_names(line: &mut [u8], at: usize, any: bool) -> usize
-    ensures { Put line.old at (cond any [] dash) result line.new }
-{
-    if any {
+    if !shown {
         return at;
     }
-    put_byte(line, at, b'-')
+    let name = put_if(line, at, any, b",");
+    put_word(line, name, name_of(k))
 }
 
-// The names of the fields of which a code is said.
-fn put_names(line: &mut [u8], at: usize, row: &[u8], code: u8) -> usize
-    ensures { Put line.old at (names_of code row.now) result line.new }
+// The names of the fields of which this is said; a dash if there is none.
+fn put_names(line: &mut [u8], at: usize, row: &[Said; 9], what: Said) -> usize
+    ensures { Put line.old at (names_of what row.now) result line.new }
 {
     let mut next = at;
     let mut any = false;
-    let mut k = 0;
-    while k < row.len() {
-        let shown = row[k] == code;
+    for (k, said) in row.iter().enumerate() {
+        let shown = *said == what;
         next = put_named(line, next, any, shown, k);
-        any = either(any, shown);
-        k += 1;
+        any |= shown;
     }
-    close_names(line, next, any)
+    put_if(line, next, !any, b"-")
 }
 
 // ---- the parts of the line
 
-fn put_gates(line: &mut [u8], at: usize, row: &[u8]) -> usize
+fn put_gates(line: &mut [u8], at: usize, row: &[Said; 9]) -> usize
     ensures { Put line.old at (gates_text row.now) result line.new }
 {
     let held = put_word(line, at, b" holds=");
-    let behind_held = put_names(line, held, row, HOLDS);
+    let behind_held = put_names(line, held, row, Said::Holds);
     let tolerated = put_word(line, behind_held, b" tolerates=");
-    let behind_tolerated = put_names(line, tolerated, row, TOLERATED);
+    let behind_tolerated = put_names(line, tolerated, row, Said::Tolerated);
     let failed = put_word(line, behind_tolerated, b" fails=");
-    put_names(line, failed, row, FAILS)
-}
-
-fn put_kind(line: &mut [u8], at: usize, generic: bool) -> usize
-    ensures { Put line.old at (cond generic generic_word []) result line.new }
-{
-    if generic {
-        return put_word(line, at, b" generic");
-    }
-    at
+    put_names(line, failed, row, Said::Fails)
 }
 
 // Which record it is.
@@ -110,24 +77,18 @@ fn put_which(line: &mut [u8], at: usize, i: u16, raw: &[u8]) -> usize
     let behind_number = put_decimal(line, number, i);
     let label = put_word(line, behind_number, b" label ");
     let behind_label = put_decimal(line, label, label_of(raw));
-    put_kind(line, behind_label, is_generic(raw))
+    put_if(line, behind_label, is_generic(raw), b" generic")
 }
 
 // The line of record i of a list, of which these are the gates.
-pub(crate) fn put_explained(
-    line: &mut [u8],
-    gates: Gates,
-    list: &[u8],
-    areas: Areas,
-    i: usize,
-) -> usize
-    requires { GoodRecord list.now areas i }
-    ensures { Put line.old 0 (explained_line gates list.now i) result line.new }
+pub(crate) fn put_explained(line: &mut [u8], gates: Gates, list: SigList, i: u16) -> usize
+    requires { i < list.areas.records }
+    ensures { Put line.old 0 (explained_line gates list.entry.bytes.now i) result line.new }
 {
     let row = row_of(gates);
-    let behind_which = put_which(line, 0, i as u16, record_at(list, areas, i));
+    let behind_which = put_which(line, 0, i, record_at(list.bytes, list.areas, i as usize));
     let behind_gates = put_gates(line, behind_which, &row);
     let signature = put_word(line, behind_gates, b" line=");
-    let behind_signature = put_listed(line, signature, list, i);
+    let behind_signature = put_listed(line, signature, list.bytes, i as usize);
     put_byte(line, behind_signature, b'\n')
 }

@@ -1,19 +1,17 @@
 // The record that was answered, and the records of a list that are nearest to a packet, those with the fewest fields that fail, written
-// below its line. Each function that writes hands back whether all of it was taken.
-ghost use Rattle.std.specs.Prelude.{◌≡◌};
+// below its line.
+ghost use Rattle.std.specs.Prelude.{◌≡◌, ◌<◌};
 ghost use Rattle.explain.specs.Gating.{fails_at};
-ghost use Rattle.explain.specs.RecordLine.{GoodRecord, CheckedList};
 
-use crate::gates::{failing, gates_at, row_of};
+use crate::gates::{Compared, failing, row_of};
 use crate::lines::put_explained;
-use flow::{Answer, Reading};
+use bundle_lines::{Answered, CheckedList, Read};
+use flow::Reading;
 use found::Found;
-use matching::{Features, features_of};
-use observable::TcpObservation;
+use matching::features_of;
 use packet_answer::PacketAnswer;
-use siglist::Areas;
 use std::io::Stdout;
-use streams::write_all;
+use streams::{Cut, write_all};
 use text::{put_decimal, put_word};
 
 // The longest line: a number and a label of five digits each, `generic`, the nine names, and the longest signature line.
@@ -22,84 +20,19 @@ const LINE: usize = 552;
 // So many records are shown beside the one that was answered.
 const SHOWN: usize = 5;
 
-// No list has a record of this number.
-const NONE: usize = 65536;
-
-fn found_number(found: Found) -> usize {
-    match found {
-        Found::None => NONE,
-        Found::Exact(hit) => hit.number as usize,
-        Found::Fuzzy(hit, _) => hit.number as usize,
-    }
-}
-
 // The number of the record that was answered.
-pub(crate) fn answered_number(answer: PacketAnswer) -> usize {
-    match answer {
-        PacketAnswer::Syn(searched) => {
-            let found = searched.found;
-            found_number(found)
-        }
-        PacketAnswer::SynAck(searched) => {
-            let found = searched.found;
-            found_number(found)
-        }
-        PacketAnswer::Nothing => NONE,
-        PacketAnswer::Refused(_) => NONE,
+fn answered_number(answer: Answered) -> Option<u16> {
+    let Ok(PacketAnswer::Opening(_, searched)) = answer else {
+        return None;
+    };
+    match searched.found {
+        Found::Exact(hit) | Found::Fuzzy(hit, _) => Some(hit.number),
+        Found::None => None,
     }
-}
-
-// How many fields of record i fail.
-fn failing_at(
-    seen: Features,
-    kinds: &[u8; 40],
-    bytes: &[u8; 40],
-    list: &[u8],
-    areas: Areas,
-    i: usize,
-) -> usize
-    requires { GoodRecord list.now areas i }
-    ensures { result ≡ fails_at seen kinds.now bytes.now list.now i }
-{
-    let row = row_of(gates_at(seen, kinds, bytes, list, areas, i));
-    failing(&row)
-}
-
-// The fewest fields that fail.
-fn fewest(seen: Features, kinds: &[u8; 40], bytes: &[u8; 40], list: &[u8], areas: Areas) -> usize
-    requires { CheckedList list.now areas }
-{
-    let mut least = 9;
-    let mut i = 0;
-    while i < areas.records as usize {
-        let fields = failing_at(seen, kinds, bytes, list, areas, i);
-        if fields < least {
-            least = fields;
-        }
-        i += 1;
-    }
-    least
-}
-
-fn write_explained(
-    stdout: Stdout,
-    seen: Features,
-    kinds: &[u8; 40],
-    bytes: &[u8; 40],
-    list: &[u8],
-    areas: Areas,
-    i: usize,
-) -> bool
-    requires { GoodRecord list.now areas i }
-{
-    let gates = gates_at(seen, kinds, bytes, list, areas, i);
-    let mut line = [0u8; LINE];
-    let filled = put_explained(&mut line, gates, list, areas, i);
-    write_all(stdout, &line[0..filled])
 }
 
 // So many more are as near as those that are shown.
-fn write_more(stdout: Stdout, more: u16) -> bool {
+fn write_more(stdout: Stdout, more: u16) -> Result<(), Cut> {
     let mut line = [0u8; LINE];
     let number = put_word(&mut line, 0, b"  and ");
     let behind = put_decimal(&mut line, number, more);
@@ -107,96 +40,76 @@ fn write_more(stdout: Stdout, more: u16) -> bool {
     write_all(stdout, &line[0..filled])
 }
 
-// Whether so many fields of record i fail, and it is not the one that was answered, which is shown before.
-fn is_near(
-    seen: Features,
-    kinds: &[u8; 40],
-    bytes: &[u8; 40],
-    list: &[u8],
-    areas: Areas,
-    least: usize,
-    answered: usize,
-    i: usize,
-) -> bool
-    requires { GoodRecord list.now areas i }
-{
-    if i == answered {
-        return false;
+impl Compared<'_> {
+    // How many fields of record i fail.
+    fn failing_at(&self, i: u16) -> usize
+        requires { i < self.now.passed.list.areas.records }
+        ensures { result ≡ fails_at self.now.seen self.now.layout.kinds self.now.layout.bytes self.now.passed.list.bytes.now i }
+    {
+        failing(&row_of(self.gates_at(i)))
     }
-    failing_at(seen, kinds, bytes, list, areas, i) == least
-}
 
-// The records of which so many fields fail: the first five, and how many more there are.
-fn write_chosen(
-    stdout: Stdout,
-    seen: Features,
-    kinds: &[u8; 40],
-    bytes: &[u8; 40],
-    list: &[u8],
-    areas: Areas,
-    least: usize,
-    answered: usize,
-) -> bool
-    requires { CheckedList list.now areas }
-{
-    let mut found = 0;
-    let mut i = 0;
-    while i < areas.records as usize {
-        if is_near(seen, kinds, bytes, list, areas, least, answered, i) {
-            if found < SHOWN {
-                if !write_explained(stdout, seen, kinds, bytes, list, areas, i) {
-                    return false;
+    // The fewest fields that fail.
+    fn fewest(&self) -> usize {
+        (0..self.passed.list.areas.records)
+            .map(|i| self.failing_at(i))
+            .min()
+            .unwrap_or(9)
+    }
+
+    fn write_explained(&self, stdout: Stdout, i: u16) -> Result<(), Cut>
+        requires { i < self.now.passed.list.areas.records }
+    {
+        let mut line = [0u8; LINE];
+        let filled = put_explained(&mut line, self.gates_at(i), self.passed.list, i);
+        write_all(stdout, &line[0..filled])
+    }
+
+    // The records of which so many fields fail, but for the one that was answered, which is shown before: the first five, and how many more
+    // there are. (Tried as a chain of filter, take and count: that each lies within the list did not close.)
+    fn write_chosen(&self, stdout: Stdout, least: usize, answered: Option<u16>) -> Result<(), Cut> {
+        let mut found = 0;
+        for i in 0..self.passed.list.areas.records {
+            if answered != Some(i) && self.failing_at(i) == least {
+                if found < SHOWN {
+                    self.write_explained(stdout, i)?;
                 }
+                found += 1;
             }
-            found += 1;
         }
-        i += 1;
+        if found <= SHOWN {
+            return Ok(());
+        }
+        write_more(stdout, (found - SHOWN) as u16)
     }
-    if found <= SHOWN {
-        return true;
+
+    // The record that was answered, if one was, and the nearest of the others.
+    fn write_nearest(&self, stdout: Stdout, answered: Option<u16>) -> Result<(), Cut> {
+        if let Some(i) = answered
+            && i < self.passed.list.areas.records
+        {
+            self.write_explained(stdout, i)?;
+        }
+        self.write_chosen(stdout, self.fewest(), answered)
     }
-    write_more(stdout, (found - SHOWN) as u16)
 }
 
-// The record that was answered, if one was, and the nearest of the others.
-fn write_nearest(
-    stdout: Stdout,
-    observation: TcpObservation,
-    answered: usize,
-    list: &[u8],
-    areas: Areas,
-) -> bool
-    requires { CheckedList list.now areas }
-{
-    let seen = features_of(observation);
-    let layout = observation.olayout;
-    let kinds = layout.kinds;
-    let bytes = layout.bytes;
-    if answered < areas.records as usize {
-        if !write_explained(stdout, seen, &kinds, &bytes, list, areas, answered) {
-            return false;
-        }
-    }
-    let least = fewest(seen, &kinds, &bytes, list, areas);
-    write_chosen(stdout, seen, &kinds, &bytes, list, areas, least, answered)
-}
-
-// Below the line of a SYN or SYN+ACK, of which this record was answered.
+// Below the line of a SYN or SYN+ACK.
 pub(crate) fn write_below(
     stdout: Stdout,
-    answered: usize,
-    reading: Reading,
-    list: &[u8],
-    areas: Areas,
-) -> bool
-    requires { CheckedList list.now areas }
-{
-    let answer = reading.answer;
-    let observation = reading.observation;
-    match answer {
-        Answer::Syn => write_nearest(stdout, observation, answered, list, areas),
-        Answer::SynAck => write_nearest(stdout, observation, answered, list, areas),
-        Answer::Nothing => true,
-        Answer::Refused(_) => true,
+    passed: CheckedList,
+    answer: Answered,
+    reading: Read,
+) -> Result<(), Cut> {
+    let Ok(Reading::Opening(_, observation)) = reading else {
+        return Ok(());
+    };
+    let seen = features_of(observation);
+    let layout = observation.olayout;
+    Compared {
+        seen,
+        layout,
+        passed,
     }
+    .write_nearest(stdout, answered_number(answer))
 }

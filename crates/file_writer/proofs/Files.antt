@@ -1,4 +1,5 @@
 -- The lines of a file, one behind the other: counted, put, and written whole.
+use Rattle.std.specs.Prelude.{Result, Ok, Err}
 use Prim.Native.Nat.{ℕ, suc, ◌+◌, ◌-◌, ◌<◌, ◌≤◌}
 use mathlib.Core.Path.{◌≡◌, ◌∙◌, ap}
 use mathlib.Core.List.{List, [], ◌++◌}
@@ -9,10 +10,8 @@ use Rattle.text.specs.Written.{Put, Writes}
 use Rattle.text.proofs.Writing.{put_none, both}
 use Rattle.refusals.specs.declared.ListRefusal.{ListRefusal}
 use Rattle.refusals.specs.declared.Refusal.TheVariants as refusal
-use Rattle.siglist.specs.declared.ListAnswer.TheVariants as list
 use Rattle.siglist.specs.List.{check_list}
-use Rattle.written_line.specs.declared.Wrote.{Wrote}
-use Rattle.written_line.specs.declared.Wrote.TheVariants as wrote
+use Rattle.refusals.specs.declared.Refusal.{Refusal}
 use Rattle.written_line.specs.Writing.{line_into}
 use Rattle.line_writer.proofs.Writing.{refused_so}
 use Rattle.keeper_file.specs.FileText.{file_from, file_text, write_file}
@@ -71,11 +70,11 @@ put_end l count i b next h = rw (file_end l count i h) (put_none b next)
 -- ---- written
 
 module _ (l b : List ℕ) where
-  pub list_refused_lem : (r : ListRefusal) → check_list l ≡ list.Refused r → Writes b (write_file l) (wrote.Refused (refusal.List r)) b
+  pub list_refused_lem : (r : ListRefusal) → check_list l ≡ Err r → Writes b (write_file l) (Err (refusal.List r)) b
   unfolding write_file
   list_refused_lem r e = rw e (refused_so b (refusal.List r))
 
-  pub its_file : (r : Wrote) (b' : List ℕ) → check_list l ≡ list.Good → Writes b (line_into (file_text l)) r b'
+  pub its_file : (r : Result ℕ Refusal) (b' : List ℕ) → check_list l ≡ Ok tt → Writes b (line_into (file_text l)) r b'
       → Writes b (write_file l) r b'
   unfolding write_file
   its_file r b' e w = rw e w

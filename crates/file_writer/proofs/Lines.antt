@@ -1,8 +1,10 @@
 -- A record of a list as a line of a file: what is put, how long it is at most, and that it is the keeper's line in a good list.
-use Prim.Native.Nat.{ℕ, ◌-◌, ◌<◌, ◌≤◌}
+use Rattle.std.specs.Prelude.{Result, Ok, Err}
+use Prim.Native.Nat.{ℕ, ◌<◌, ◌≤◌}
 use mathlib.Core.Path.{◌≡◌, refl, sym, ◌∙◌, ap}
 use mathlib.Core.Bool.{Bool, true, false, cond}
 use mathlib.Core.List.{List, [], ◌∷◌, ◌++◌, append_assoc}
+use native.Mathlib.Nat.{sub-zero}
 use native.Mathlib.Omega.{arith}
 use lib.Dec.{ltb}
 use lib.ListN.{length, take, length-append}
@@ -16,12 +18,9 @@ use Rattle.text.proofs.Writing.{put_all, both}
 use Rattle.refusals.specs.declared.Refusal.{Refusal}
 use Rattle.sigrecord.specs.Record.{label_of, is_generic}
 use Rattle.siglist.specs.declared.Areas.{Areas}
-use Rattle.siglist.specs.declared.ListAnswer.TheVariants as list
 use Rattle.siglist.specs.List.{record_count, list_fits, size_of, AreasFit, record_at, record_of, check_list}
 use Rattle.siglist.proofs.FirstBad.{good_fits, each_good}
 use Rattle.siglist.proofs.List.{list_fits_lem, record_of_list}
-use Rattle.written_line.specs.declared.Wrote.{Wrote}
-use Rattle.written_line.specs.declared.Wrote.TheVariants as wrote
 use Rattle.written_line.specs.LineText.{record_text}
 use Rattle.written_line.specs.Writing.{line_into, listed_line}
 use Rattle.written_line.proofs.EveryRecord.{record_length_lem}
@@ -61,16 +60,17 @@ unfolding listed_text
 listed_short l i = (listed_sized l i 434).within
 
 module _
-    (l line line' : List ℕ) (i : ℕ) (r : Wrote) (whole : length line ≡ 434) (writes : Writes line (listed_line l i) r line')
+    (l line line' : List ℕ) (i : ℕ) (r : Result ℕ Refusal) (whole : length line ≡ 434) (writes : Writes line (listed_line l i) r line')
   where
-    pub listed_within : (n : ℕ) → r ≡ wrote.Line n → n ≤ length line'
+    pub listed_within : (n : ℕ) → r ≡ Ok n → n ≤ length line'
     listed_within = line_within (listed_line l i) 434 (listed_sized l i 434) line line' r whole writes
 
-    pub listed_line_lem : (n : ℕ) → r ≡ wrote.Line n → take (n - 0) line' ≡ listed_text l i
+    pub listed_line_lem : (n : ℕ) → r ≡ Ok n → take n line' ≡ listed_text l i
     unfolding listed_text
-    listed_line_lem = the_line (listed_line l i) 434 (listed_sized l i 434) line line' r whole writes
+    listed_line_lem n e =
+        rw (sub-zero n) at (the_line (listed_line l i) 434 (listed_sized l i 434) line line' r whole writes n e)
 
-    pub none_listed : (x : Refusal) → r ≡ wrote.Refused x → listed_text l i ≡ []
+    pub none_listed : (x : Refusal) → r ≡ Err x → listed_text l i ≡ []
     unfolding listed_text
     none_listed = no_line (listed_line l i) 434 (listed_sized l i 434) line line' r whole writes
 
@@ -103,12 +103,12 @@ module _ (l : List ℕ) (i : ℕ) where
       by false = omega arith
 
   -- In a good list it is the keeper's line.
-  pub shown_good : check_list l ≡ list.Good → i < record_count l → AllBytes l → shown_text l i ≡ kept_text l i ++ newline
+  pub shown_good : check_list l ≡ Ok tt → i < record_count l → AllBytes l → shown_text l i ≡ kept_text l i ++ newline
   unfolding listed_text kept_text line_into
   shown_good e h all =
       let short = record_length_lem l i all (good_fits l e) (each_good l i e h) in
       let line : listed_text l i ≡ record_text l i =
-      ap (λ (x : Lined Wrote). x.line) (listed_good l i 434 e h)
+      ap (λ (x : Lined (Result ℕ Refusal)). x.line) (listed_good l i 434 e h)
       ∙ rw (le-ltb 434 (length (record_text l i)) short) refl in
       shown_there (good_fits l e) h
       ∙ ap (λ (s : List ℕ). head_text (record_at l i) ++ (s ++ newline)) line

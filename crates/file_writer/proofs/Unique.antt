@@ -1,12 +1,12 @@
 -- Exactly one result meets each public function's own contract.
 -- tools/promises makes this file from the contracts, and the gate holds it to them.
 use Rattle.std.specs.Borrow.{Bor, MutBor}
-use Rattle.std.specs.Prelude.{ℕ, List}
+use Rattle.std.specs.Prelude.{ℕ, List, Result}
 use contract.Lifetimes.{Lfts}
 use Rattle.basis.specs.Unique.{ExactlyOne}
 use Rattle.basis.proofs.Unique.{both}
+use Rattle.refusals.specs.declared.Refusal.{Refusal}
 use Rattle.text.specs.Written.{left_with}
-use Rattle.written_line.specs.declared.Wrote.{Wrote}
 use Rattle.file_writer.proofs.put_listed.Reads as put_listed'
 use Rattle.file_writer.proofs.put_shown.Reads as put_shown'
 use Rattle.file_writer.proofs.write_file.Reads as write_file'
@@ -25,5 +25,6 @@ put_shown_one κs buffer at list index = both _ _
 
 pub write_file_one
     : (κs : Lfts 2) (buffer : MutBor (List ℕ)) (list : Bor (List ℕ))
-    → ExactlyOne (Wrote × List ℕ) (λ (r : Wrote × List ℕ). write_file'.Post κs (buffer, (list, tt)) r.0 (left_with buffer r.1, (list, tt)))
+    → ExactlyOne ((Result ℕ Refusal) × List ℕ)
+    (λ (r : (Result ℕ Refusal) × List ℕ). write_file'.Post κs (buffer, (list, tt)) r.0 (left_with buffer r.1, (list, tt)))
 write_file_one κs buffer list = both _ _

@@ -10,10 +10,9 @@ ghost use Rattle.file_writer.specs.Shown.{listed_text, shown_text, GoodList};
 use line_writer::write_listed;
 use numbers::be16_at;
 use refusals::Refusal;
-use siglist::{Header, ListAnswer, check_list, read_header, record_at};
+use siglist::{check_list, read_header, record_at};
 use sigrecord::{is_generic, label_of};
 use text::{put_byte, put_decimal, put_word};
-use written_line::Wrote;
 
 // The longest line of a record.
 const RECORD_LINE: usize = 434;
@@ -41,8 +40,8 @@ pub fn put_listed(buffer: &mut [u8], at: usize, list: &[u8], index: usize) -> us
 {
     let mut line = [0u8; RECORD_LINE];
     match write_listed(&mut line, list, index) {
-        Wrote::Line(size) => put_word(buffer, at, &line[0..size]),
-        Wrote::Refused(_) => at,
+        Ok(size) => put_word(buffer, at, &line[..size]),
+        Err(_) => at,
     }
 }
 
@@ -50,7 +49,7 @@ pub fn put_listed(buffer: &mut [u8], at: usize, list: &[u8], index: usize) -> us
 pub fn put_shown(buffer: &mut [u8], at: usize, list: &[u8], index: usize) -> usize
     ensures { Put buffer.old at (shown_text list.now index) result buffer.new }
 {
-    let Header::Fits(areas) = read_header(list) else {
+    let Some(areas) = read_header(list) else {
         return at;
     };
     if areas.records as usize <= index {
@@ -75,12 +74,9 @@ fn file_length(list: &[u8], count: u16) -> usize
     requires { GoodList list.now count }
     ensures { result ≡ length (file_text list.now) }
 {
-    let end = count as usize;
     let mut size = 0;
-    let mut i = 0;
-    while i < end {
+    for i in 0..count as usize {
         size += shown_length(list, i);
-        i += 1;
     }
     size
 }
@@ -90,30 +86,23 @@ fn put_lines(buffer: &mut [u8], list: &[u8], count: u16) -> usize
     requires { GoodList list.now count }
     ensures { Put buffer.old 0 (file_text list.now) result buffer.new }
 {
-    let end = count as usize;
     let mut next = 0;
-    let mut i = 0;
-    while i < end {
+    for i in 0..count as usize {
         next = put_shown(buffer, next, list, i);
-        i += 1;
     }
     next
 }
 
 // The file of a list, or refusal 9, 10 or 15.
-pub fn write_file(buffer: &mut [u8], list: &[u8]) -> Wrote
+pub fn write_file(buffer: &mut [u8], list: &[u8]) -> Result<usize, Refusal>
     ensures { Writes buffer.old (write_file list.now) result buffer.new }
 {
-    match check_list(list) {
-        ListAnswer::Refused(refusal) => Wrote::Refused(Refusal::List(refusal)),
-        ListAnswer::Good => {
-            let count = be16_at(list, 0);
-            let size = file_length(list, count);
-            if buffer.len() < size {
-                return Wrote::Refused(Refusal::BufferTooShort);
-            }
-            put_lines(buffer, list, count);
-            Wrote::Line(size)
-        }
+    check_list(list)?;
+    let count = be16_at(list, 0);
+    let size = file_length(list, count);
+    if buffer.len() < size {
+        return Err(Refusal::BufferTooShort);
     }
+    put_lines(buffer, list, count);
+    Ok(size)
 }

@@ -1,4 +1,5 @@
 -- A packet is refused by the first row of the table that holds, and by none where none does, in every mode.
+use Rattle.std.specs.Prelude.{Option, Result, Err}
 use mathlib.Core.Path.{◌≡◌, refl, ◌∙◌, ap}
 use mathlib.Core.Bool.{Bool, true, false, cond, not, ◌&&◌, ◌||◌}
 use mathlib.Core.List.{List, [], ◌∷◌}
@@ -9,11 +10,8 @@ use Rattle.basis.specs.Bytes.{part}
 use Rattle.rfc.specs.Rfc791 as v4
 use Rattle.rfc.specs.Rfc8200 as v6
 use Rattle.rfc.specs.Rfc9293.{control}
-use Rattle.tcp.specs.declared.Mss.{Mss}
 use Rattle.observable.specs.declared.TcpObservation.{TcpObservation}
 use Rattle.ip.specs.declared.IpFacts.{IpFacts}
-use Rattle.ip.specs.declared.IpRead.{IpRead}
-use Rattle.ip.specs.declared.IpRead.TheVariants as ip
 use Rattle.flow.specs.declared.Mode.{Mode}
 use Rattle.flow.specs.declared.Reading.{Reading}
 use Rattle.refusals.specs.declared.PacketRefusal.{PacketRefusal}
@@ -64,10 +62,10 @@ first_row (n ∷ numbers) (row ∷ rest) = cond row n (first_row numbers rest)
 -- ---- the number is that of the first
 
 either
-    : (t : Bool) (a b : Reading) (m n : ℕ)
-    → refusal_of a.answer ≡ m
-    → refusal_of b.answer ≡ n
-    → refusal_of (cond {A = Reading} t a b).answer ≡ cond t m n
+    : (t : Bool) (a b : Result Reading PacketRefusal) (m n : ℕ)
+    → refusal_of a ≡ m
+    → refusal_of b ≡ n
+    → refusal_of (cond t a b) ≡ cond t m n
 either true a b m n x y = x
 either false a b m n x y = y
 
@@ -78,8 +76,8 @@ no_refusal false false = refl
 
 -- Whatever it observes, the TCP stage refuses by the flags alone.
 by_flags
-    : (observe : Bool → Mss → TcpObservation) (t : List ℕ) (peer : Mss)
-    → refusal_of (read_tcp_by observe t peer).answer ≡ cond (flags_invalid (control t)) 7 0
+    : (observe : Bool → Option ℕ → TcpObservation) (t : List ℕ) (peer : Option ℕ)
+    → refusal_of (read_tcp_by observe t peer) ≡ cond (flags_invalid (control t)) 7 0
 unfolding read_tcp_by refusal_of
 by_flags observe t peer =
     either (flags_invalid (control t)) _ _ 7 (cond (is_syn_type (control t)) 0 (cond (is_syn_ack_type (control t)) 0 0)) refl
@@ -89,8 +87,8 @@ by_flags observe t peer =
 
 -- In any mode by the data offset before them.
 pub by_header
-    : (mode : Mode) (f : IpFacts) (t : List ℕ) (peer : Mss)
-    → refusal_of (tcp_stage mode f t peer).answer
+    : (mode : Mode) (f : IpFacts) (t : List ℕ) (peer : Option ℕ)
+    → refusal_of (tcp_stage mode f t peer)
     ≡ cond (mode.strict && contradicts_itself t) 14 (cond (flags_invalid (control t)) 7 0)
 unfolding refusal_of
 by_header mode f t peer =
@@ -98,16 +96,16 @@ by_header mode f t peer =
     (either (mode.strict && contradicts_itself t) _ _ 14 (cond (flags_invalid (control t)) 7 0) refl
     (by_flags (observation_in mode f t) t peer))
 
-module _ (mode : Mode) (p : List ℕ) (peer : Mss) where
+module _ (mode : Mode) (p : List ℕ) (peer : Option ℕ) where
   -- What the IP stage gives leads to a refusal of this number.
-  record Numbered (r : IpRead) (n : ℕ) : Type 0 where
-    says : refusal_of (after_ip (tcp_stage mode) r p peer).answer ≡ n
+  record Numbered (r : Result IpFacts PacketRefusal) (n : ℕ) : Type 0 where
+    says : refusal_of (after_ip (tcp_stage mode) r p peer) ≡ n
 
-  over : (t : Bool) {a b : IpRead} {m n : ℕ} → Numbered a m → Numbered b n → Numbered (cond t a b) (cond t m n)
+  over : (t : Bool) {a b : Result IpFacts PacketRefusal} {m n : ℕ} → Numbered a m → Numbered b n → Numbered (cond t a b) (cond t m n)
   over true x y = x
   over false x y = y
 
-  refused : (r : PacketRefusal) → Numbered (ip.Refused r) (packet_number r)
+  refused : (r : PacketRefusal) → Numbered (Err r) (packet_number r)
   unfolding refusal_of
   refused r = record { says = refl }
 
@@ -160,7 +158,7 @@ module _ (mode : Mode) (p : List ℕ) (peer : Mss) where
   by_version_lem false false false = refl
 
   -- "in order of test": the number of a packet's refusal is that of the first row that holds, 0 where none does.
-  pub by_first_row : refusal_of (read_in mode p peer).answer ≡ first_row row_numbers (rows mode p)
+  pub by_first_row : refusal_of (read_in mode p peer) ≡ first_row row_numbers (rows mode p)
   unfolding read_in read_ip rows
   by_first_row =
       (over (eqb (length p) 0) (refused refusal.Version)

@@ -1,11 +1,11 @@
 -- The walk of a mode.
+use Rattle.std.specs.Prelude.{Option}
 use mathlib.Core.Path.{◌≡◌, refl, ap}
 use mathlib.Core.Bool.{Bool, true, false, cond}
 use mathlib.Core.List.{List}
 use Prim.Native.Nat.{ℕ}
 use Rattle.quirks.specs.declared.QuirkSet.{QuirkSet}
 use Rattle.rfc.specs.Rfc9293.{options}
-use Rattle.tcp.specs.declared.Mss.{Mss}
 use Rattle.syn_options.specs.Walk.{Walked, walk_of}
 use Rattle.syn_options.specs.Stops.{nothing, walked_of, walk_options}
 use Rattle.syn_options.proofs.Readers.{whole_walk}
@@ -21,7 +21,7 @@ plain_walk syn quirks s = ap walked_of (whole_walk syn quirks s)
 
 -- What a mode observes is drawn from the one walk.
 pub observed_walk
-    : (mode : Mode) (f : IpFacts) (t : List ℕ) (syn : Bool) (peer : Mss)
+    : (mode : Mode) (f : IpFacts) (t : List ℕ) (syn : Bool) (peer : Option ℕ)
     → observation_of f t (walked_of (walk_options (stop_of mode) syn (quirks_of_headers t f.quirks) (options t))) peer
     ≡ observation_in mode f t syn peer
 unfolding observation_in strict_observation observation_from

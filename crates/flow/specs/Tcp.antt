@@ -1,17 +1,15 @@
 -- The TCP stage: from the facts of the IP header, the TCP part and the peer's MSS to an observation, "nothing", or refusal 7.
-use Rattle.std.specs.Prelude.{ℕ, ◌+◌, ◌*◌, min, Bool, true, false, cond, List, eqb}
+use Rattle.std.specs.Prelude.{ℕ, ◌+◌, ◌*◌, min, Bool, true, false, cond, List, eqb, Option, Some, None, Result, Ok, Err}
 use Rattle.quirks.specs.declared.QuirkSet.{QuirkSet}
 use Rattle.rfc.specs.Rfc9293 as tcp
-use Rattle.tcp.specs.declared.Mss.{Mss}
-use Rattle.tcp.specs.declared.Mss.TheVariants as mss
 use Rattle.tcp.specs.declared.PayloadSize.{PayloadSize}
 use Rattle.tcp.specs.declared.PayloadSize.TheVariants as payload
 use Rattle.observable.specs.declared.TcpObservation.{TcpObservation}
-use Rattle.observable.specs.Observation.{empty_observation}
 use Rattle.syn_options.specs.Walk.{Walked, walk_of}
 use Rattle.ip.specs.declared.IpFacts.{IpFacts}
-use Rattle.flow.specs.declared.Answer.TheVariants as answer
+use Rattle.flow.specs.declared.Kind.TheVariants as kind
 use Rattle.flow.specs.declared.Reading.{Reading}
+use Rattle.flow.specs.declared.Reading.TheVariants as reading
 use Rattle.refusals.specs.declared.PacketRefusal.{PacketRefusal}
 use Rattle.refusals.specs.declared.PacketRefusal.TheVariants as refusal
 use Rattle.tcp_header.specs.Flags.{flags_invalid, is_syn_type, is_syn_ack_type}
@@ -26,7 +24,7 @@ unfoldable pub payload_class : List ℕ → PayloadSize
 payload_class t = cond (eqb (tcp.payload_size t) 0) payload.Zero payload.NonZero
 
 -- The observation: the IP facts, the walk over the options, the window, and the peer's MSS.
-unfoldable pub observation_of : IpFacts → List ℕ → Walked → Mss → TcpObservation
+unfoldable pub observation_of : IpFacts → List ℕ → Walked → Option ℕ → TcpObservation
 observation_of f t w peer =
     record {
       version = f.version;
@@ -44,25 +42,21 @@ observation_of f t w peer =
     }
 
 -- The walk goes on after clipping (`stop` is false); only a SYN shows the peer's timestamp.
-unfoldable pub observation_from : IpFacts → List ℕ → Bool → Mss → TcpObservation
+unfoldable pub observation_from : IpFacts → List ℕ → Bool → Option ℕ → TcpObservation
 observation_from f t syn peer = observation_of f t (walk_of false syn (quirks_of_headers t f.quirks) (tcp.options t)) peer
 
 -- "A zero peer MSS counts as absent."
-unfoldable pub known_peer : Mss → Mss
-known_peer mss.Absent = mss.Absent
-known_peer (mss.Present n) = cond (eqb n 0) mss.Absent (mss.Present n)
-
--- A refusal gives nothing beside (document 01, "Refusal numbers": no row returns an observation).
-abbrev pub refusing : PacketRefusal → Reading
-refusing r = record { answer = answer.Refused r; observation = empty_observation }
+unfoldable pub known_peer : Option ℕ → Option ℕ
+known_peer None = None
+known_peer (Some n) = cond (eqb n 0) None (Some n)
 
 -- "only a SYN+ACK's observation takes [the peer's MSS]; a SYN's has none"
-unfoldable pub read_tcp : IpFacts → List ℕ → Mss → Reading
+unfoldable pub read_tcp : IpFacts → List ℕ → Option ℕ → Result Reading PacketRefusal
 read_tcp f t peer =
     cond (flags_invalid (tcp.control t))
-    (refusing (refusal.InvalidTcpFlags (tcp.control t)))
+    (Err (refusal.InvalidTcpFlags (tcp.control t)))
     (cond (is_syn_type (tcp.control t))
-    (record { answer = answer.Syn; observation = observation_from f t true mss.Absent })
+    (Ok (reading.Opening kind.Syn (observation_from f t true None)))
     (cond (is_syn_ack_type (tcp.control t))
-    (record { answer = answer.SynAck; observation = observation_from f t false (known_peer peer) })
-    (record { answer = answer.Nothing; observation = empty_observation })))
+    (Ok (reading.Opening kind.SynAck (observation_from f t false (known_peer peer))))
+    (Ok reading.Nothing)))

@@ -2,7 +2,7 @@
 #![tactic(auto)]
 
 ghost use Rattle.std.specs.Prelude.{◌≡◌};
-ghost use Rattle.found.specs.Rank.{found_of, exact_rank, rank_of, is_none};
+ghost use Rattle.found.specs.Rank.{found_of, rank_of, is_none};
 
 use matching::{FuzzyReason, SignatureFit};
 
@@ -14,7 +14,7 @@ pub struct Hit {
     pub generic: bool,
 }
 
-// What a search finds: three answers, with the record.
+// What a search finds, with the record. Not an Option: none, exact and fuzzy are three answers, which the product never blurs.
 #[derive(Clone, Copy)]
 pub enum Found {
     None,
@@ -32,14 +32,11 @@ pub struct Searched {
 pub fn is_none(fit: SignatureFit) -> bool
     ensures { result ≡ is_none fit }
 {
-    match fit {
-        SignatureFit::None => true,
-        SignatureFit::Exact => false,
-        SignatureFit::Fuzzy(_) => false,
-    }
+    matches!(fit, SignatureFit::None)
 }
 
 // What is found in one record.
+#[tactic(auto, unfolding(crate::specs::Rank::found_of))]
 pub fn found_of(hit: Hit, fit: SignatureFit) -> Found
     ensures { result ≡ found_of hit fit }
 {
@@ -50,23 +47,17 @@ pub fn found_of(hit: Hit, fit: SignatureFit) -> Found
     }
 }
 
-// The rank of a record that fits exactly.
-fn exact_rank(generic: bool) -> u8
-    ensures { result ≡ exact_rank generic }
-{
-    if generic {
-        return 1;
-    }
-    0
-}
+// What does not fit has no rank, and comes last: every rank is less.
+pub const UNRANKED: u8 = 255;
 
-// The less the better; what does not fit has no rank, and comes last.
+// The less the better. A number, as the clause has it: document 02 gives the order, and a search compares ranks with `<` and with 0.
 pub fn rank_of(found: Found) -> u8
     ensures { result ≡ rank_of found }
 {
     match found {
-        Found::None => 255,
-        Found::Exact(hit) => exact_rank(hit.generic),
+        Found::Exact(hit) if !hit.generic => 0,
+        Found::Exact(_) => 1,
         Found::Fuzzy(_, _) => 2,
+        Found::None => UNRANKED,
     }
 }

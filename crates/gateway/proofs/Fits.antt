@@ -1,4 +1,5 @@
 -- Every number of a gateway's answer fits its field, so no two different answers of a gateway share a struct.
+use Rattle.std.specs.Prelude.{Option, Result, Ok, Err}
 use mathlib.Core.Path.{◌≡◌, refl}
 use mathlib.Core.Bool.{Bool, true, false, cond, ◌&&◌}
 use mathlib.Core.List.{List}
@@ -8,10 +9,9 @@ use lib.Dec.{ltb}
 use borrow.Author.Tests.{ltb-true}
 use Rattle.basis.specs.Bytes.{AllBytes}
 use Rattle.basis.proofs.Tests.{and_left, and_right}
-use Rattle.tcp.specs.declared.Mss.{Mss}
-use Rattle.flow.specs.declared.Answer.{Answer}
-use Rattle.flow.specs.declared.Answer.TheVariants as reading
+use Rattle.observable.specs.declared.TcpObservation.{TcpObservation}
 use Rattle.flow.specs.declared.Reading.{Reading}
+use Rattle.flow.specs.declared.Reading.TheVariants as reading
 use Rattle.flow.specs.declared.Mode.{Mode}
 use Rattle.flow.specs.Modes.{read_in}
 use Rattle.matching.specs.declared.Features.{Features}
@@ -19,8 +19,8 @@ use Rattle.matching.specs.declared.SignatureFit.{SignatureFit}
 use Rattle.matching.specs.declared.SignatureFit.TheVariants as fit
 use Rattle.matching.specs.Fit.{features_of, fit_of}
 use Rattle.refusals.specs.Refusals.{list_value}
-use Rattle.siglist.specs.declared.ListAnswer.{ListAnswer}
-use Rattle.siglist.specs.declared.ListAnswer.TheVariants as list
+use Rattle.refusals.specs.declared.PacketRefusal.{PacketRefusal}
+use Rattle.refusals.specs.declared.ListRefusal.{ListRefusal}
 use Rattle.sigrecord.specs.Record.{signature_of, entry_count}
 use Rattle.siglist.specs.List.{record_count, size_of, list_fits, record_start, record_at, entries_of, record_good, check_list}
 use Rattle.siglist.proofs.FirstBad.{Checked, does_not_fit, first_bad_named}
@@ -30,7 +30,7 @@ use Rattle.found.specs.Rank.{found_of}
 use Rattle.search.specs.Search.{fit_at, hit_at, candidate_at, found_at, search_row, search_over, search_all, searched}
 use Rattle.search.proofs.Examined.{within}
 use Rattle.packet_answer.specs.declared.PacketAnswer.{PacketAnswer}
-use Rattle.packet_answer.specs.Packet.{peer_of, judged, answer_in}
+use Rattle.packet_answer.specs.Packet.{peer_of, after_reading, answer_in}
 use Rattle.gateway.specs.Parts.{parts_of, after_list, gateway_in}
 use Rattle.gateway.proofs.Room.{HitFits, FoundFits, SearchedFits, PacketFits, AnswerFits}
 use Rattle.gateway.proofs.ReadBack.{injective}
@@ -74,9 +74,9 @@ module _ (l : List ℕ) (lent : AllBytes l) where
       (hit_fits i)
       (fit_small f kinds bytes (record_at l i) (entry_count (record_at l i)) (entries_of l (record_at l i)) (record_bytes_lem i))
 
-  found_fits : (r : Reading) → FoundFits (searched r.observation l).found
+  found_fits : (o : TcpObservation) → FoundFits (searched o l).found
   unfolding searched search_all search_over search_row
-  found_fits r = read_fits (features_of r.observation) r.observation.olayout.kinds r.observation.olayout.bytes _
+  found_fits o = read_fits (features_of o) o.olayout.kinds o.olayout.bytes _
 
   -- The size is of two bytes, or 0, and no more records are examined.
   size_fits : size_of l < 65536
@@ -86,32 +86,31 @@ module _ (l : List ℕ) (lent : AllBytes l) where
       by_test true = two_bytes l 0 lent
       by_test false = omega arith
 
-  searched_fits : (r : Reading) → SearchedFits (searched r.observation l)
-  searched_fits r = (found_fits r, omega (arith, within r.observation l, size_fits))
+  searched_fits : (o : TcpObservation) → SearchedFits (searched o l)
+  searched_fits o = (found_fits o, omega (arith, within o l, size_fits))
 
 -- ---- the answer
 
 -- Each kind of answer, where its refusal fits.
-judged_fits : (a : Answer) (r : Reading) (l : List ℕ) → AllBytes l → RefusedFits a → PacketFits (judged a r.observation l)
-judged_fits reading.Syn r l h fits = searched_fits l h r
-judged_fits reading.SynAck r l h fits = searched_fits l h r
-judged_fits reading.Nothing r l h fits = tt
-judged_fits (reading.Refused x) r l h fits = fits
+after_fits : (r : Result Reading PacketRefusal) (l : List ℕ) → AllBytes l → RefusedFits r → PacketFits (after_reading r l)
+after_fits (Ok (reading.Opening k o)) l h fits = searched_fits l h o
+after_fits (Ok reading.Nothing) l h fits = tt
+after_fits (Err x) l h fits = fits
 
 -- The answer of a packet against a list, checked or not, in any mode.
 pub packet_fits_lem
-    : (mode : Mode) (p : List ℕ) (peer : Mss) (l : List ℕ) → AllBytes p → AllBytes l → PacketFits (answer_in mode p peer l)
+    : (mode : Mode) (p : List ℕ) (peer : Option ℕ) (l : List ℕ) → AllBytes p → AllBytes l → PacketFits (answer_in mode p peer l)
 unfolding answer_in
 packet_fits_lem mode p peer l hp hl =
-    judged_fits (read_in mode p peer).answer (read_in mode p peer) l hl (reading_fits mode p peer hp)
+    after_fits (read_in mode p peer) l hl (reading_fits mode p peer hp)
 
 -- The index of a bad record fits two bytes.
-abbrev ListFits : ListAnswer → Type 0
-ListFits list.Good = Unit {0}
-ListFits (list.Refused r) = list_value r < 65536
+abbrev ListFits : Result (Unit {0}) ListRefusal → Type 0
+ListFits (Ok tt) = Unit {0}
+ListFits (Err r) = list_value r < 65536
 
 -- The first bad record is one of the list's, and these are counted by two bytes.
-checked_fits : {a : ListAnswer} (l : List ℕ) (n : ℕ) → n < 65536 → Checked l 0 n a → ListFits a
+checked_fits : {a : Result (Unit {0}) ListRefusal} (l : List ℕ) (n : ℕ) → n < 65536 → Checked l 0 n a → ListFits a
 checked_fits l n h (Checked.all_good good) = tt
 checked_fits l n h (Checked.first_bad_lem i from below bad before) = omega arith
 
@@ -124,9 +123,13 @@ list_fits_lem l h = by_test (list_fits l) refl
     by_test false e = rw (does_not_fit l e) (omega arith)
 
 -- The answer after the list is checked.
-after_list_lem : (c : ListAnswer) (a : PacketAnswer) → ListFits c → PacketFits a → AnswerFits (after_list c a)
-after_list_lem list.Good a hc ha = ha
-after_list_lem (list.Refused r) a hc ha = hc
+after_list_lem
+    : (c : Result (Unit {0}) ListRefusal) (a : Result PacketAnswer PacketRefusal)
+    → ListFits c
+    → PacketFits a
+    → AnswerFits (after_list c a)
+after_list_lem (Ok tt) a hc ha = ha
+after_list_lem (Err r) a hc ha = hc
 
 -- ---- the laws
 

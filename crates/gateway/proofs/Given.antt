@@ -1,4 +1,5 @@
 -- The numbers that a packet's refusal gives fit their bytes: the flags of refusal 7 are a byte of the packet.
+use Rattle.std.specs.Prelude.{Option, Result, Ok, Err}
 use mathlib.Core.Bool.{Bool, true, false, cond, ◌&&◌}
 use mathlib.Core.List.{List, [], ◌∷◌}
 use Prim.Native.Nat.{ℕ, zero, suc, ◌+◌, ◌*◌, ◌-◌, ◌<◌}
@@ -7,16 +8,12 @@ use lib.ListN.{take, drop}
 use lib.Seq.{get_or-drop}
 use Rattle.basis.specs.Bytes.{byte_at, AllBytes, be16, part}
 use Rattle.rfc.specs.Rfc9293.{control}
-use Rattle.tcp.specs.declared.Mss.{Mss}
 use Rattle.observable.specs.declared.TcpObservation.{TcpObservation}
 use Rattle.ip.specs.declared.IpFacts.{IpFacts}
-use Rattle.ip.specs.declared.IpRead.{IpRead}
 use Rattle.refusals.specs.declared.PacketRefusal.{PacketRefusal}
 use Rattle.refusals.specs.declared.PacketRefusal.TheVariants as refusal
 use Rattle.refusals.specs.Refusals.{packet_number, packet_value}
 use Rattle.ip.proofs.Ip.{Given, given}
-use Rattle.flow.specs.declared.Answer.{Answer}
-use Rattle.flow.specs.declared.Answer.TheVariants as reading
 use Rattle.flow.specs.declared.Reading.{Reading}
 use Rattle.tcp_header.specs.Flags.{flags_invalid, is_syn_type, is_syn_ack_type}
 use Rattle.flow.specs.declared.Mode.{Mode}
@@ -66,24 +63,22 @@ small_fits refusal.ExtensionHeaders small = omega arith
 -- ---- the TCP stage
 
 -- Of the answers to a packet, only a refusal gives a number.
-abbrev pub RefusedFits : Answer → Type 0
-RefusedFits reading.Syn = Unit {0}
-RefusedFits reading.SynAck = Unit {0}
-RefusedFits reading.Nothing = Unit {0}
-RefusedFits (reading.Refused r) = packet_value r < 256
+abbrev pub RefusedFits : Result Reading PacketRefusal → Type 0
+RefusedFits (Ok r) = Unit {0}
+RefusedFits (Err r) = packet_value r < 256
 
 -- A reading's refusal, if it is one, fits.
-record ReadingFits (r : Reading) : Type 0 where
-  reads : RefusedFits r.answer
+record ReadingFits (r : Result Reading PacketRefusal) : Type 0 where
+  reads : RefusedFits r
 
 -- Whichever way a test goes.
-either : (t : Bool) {x y : Reading} → ReadingFits x → ReadingFits y → ReadingFits (cond t x y)
+either : (t : Bool) {x y : Result Reading PacketRefusal} → ReadingFits x → ReadingFits y → ReadingFits (cond t x y)
 either true hx hy = hx
 either false hx hy = hy
 
 -- The flags of refusal 7 are a byte of the TCP part, whatever is observed.
 flags_fit
-    : (observe : Bool → Mss → TcpObservation) (t : List ℕ) (peer : Mss) → AllBytes t → ReadingFits (read_tcp_by observe t peer)
+    : (observe : Bool → Option ℕ → TcpObservation) (t : List ℕ) (peer : Option ℕ) → AllBytes t → ReadingFits (read_tcp_by observe t peer)
 unfolding read_tcp_by
 flags_fit observe t peer h =
     either (flags_invalid (control t)) (record { reads = h 13 })
@@ -91,22 +86,22 @@ flags_fit observe t peer h =
     (either (is_syn_ack_type (control t)) (record { reads = tt }) (record { reads = tt })))
 
 -- Refusal 14 gives nothing.
-tcp_fits : (mode : Mode) (f : IpFacts) (t : List ℕ) (peer : Mss) → AllBytes t → ReadingFits (tcp_stage mode f t peer)
+tcp_fits : (mode : Mode) (f : IpFacts) (t : List ℕ) (peer : Option ℕ) → AllBytes t → ReadingFits (tcp_stage mode f t peer)
 tcp_fits mode f t peer h =
     rw (stage_by mode f t peer)
     (either (mode.strict && contradicts_itself t) (record { reads = omega arith }) (flags_fit (observation_in mode f t) t peer h))
 
-module _ (mode : Mode) (p : List ℕ) (peer : Mss) (h : AllBytes p) where
+module _ (mode : Mode) (p : List ℕ) (peer : Option ℕ) (h : AllBytes p) where
   -- The TCP part is a part of the packet.
   of_part : (f : IpFacts) → ReadingFits (tcp_stage mode f (tcp_part f p) peer)
   of_part f = tcp_fits mode f (tcp_part f p) peer (part_bytes f.start f.end p h)
 
-  after_ip_lem : {n : ℕ} {r : IpRead} → Given p n r → ReadingFits (after_ip (tcp_stage mode) r p peer)
+  after_ip_lem : {n : ℕ} {r : Result IpFacts PacketRefusal} → Given p n r → ReadingFits (after_ip (tcp_stage mode) r p peer)
   after_ip_lem (Given.refused {r = r} small) = record { reads = small_fits r small }
   after_ip_lem (Given.four long words) = of_part _
   after_ip_lem (Given.six long) = of_part _
 
   -- The refusal of a packet fits, in any mode.
-  pub reading_fits : RefusedFits (read_in mode p peer).answer
+  pub reading_fits : RefusedFits (read_in mode p peer)
   unfolding read_in
   reading_fits = (after_ip_lem (given p)).reads

@@ -3,6 +3,7 @@ pub mod Given
 pub mod LineTold
 pub mod ListTold
 pub mod Marks
+pub mod PlainMode
 pub mod ReadBack
 pub mod Room
 pub mod Tolerated

@@ -1,4 +1,5 @@
 -- The answers beside lines: `value` is the length of the line, and nothing is written beside another answer.
+use Rattle.std.specs.Prelude.{Result, Ok, Err}
 use mathlib.Core.Path.{◌≡◌, refl}
 use mathlib.Core.Bool.{Bool, true, false}
 use mathlib.Core.List.{List}
@@ -15,13 +16,12 @@ use Rattle.refusals.specs.declared.PacketRefusal.{PacketRefusal}
 use Rattle.refusals.specs.declared.PacketRefusal.TheVariants as why
 use Rattle.refusals.specs.Refusals.{packet_number, packet_value, list_number}
 use Rattle.observable.specs.declared.TcpObservation.{TcpObservation}
-use Rattle.flow.specs.declared.Answer.{Answer}
-use Rattle.flow.specs.declared.Answer.TheVariants as reading
+use Rattle.flow.specs.declared.Reading.{Reading}
+use Rattle.flow.specs.declared.Reading.TheVariants as reading
+use Rattle.flow.specs.Reading.{observation_read}
 use Rattle.flow.specs.declared.Mode.{Mode}
 use Rattle.flow.specs.Modes.{read_in}
 use Rattle.flow.proofs.Observed.{sound_in}
-use Rattle.siglist.specs.declared.ListAnswer.{ListAnswer}
-use Rattle.siglist.specs.declared.ListAnswer.TheVariants as list
 use Rattle.siglist.specs.List.{record_count, check_list}
 use Rattle.siglist.proofs.FirstBad.{each_good, good_fits}
 use Rattle.packet_answer.specs.Packet.{peer_of}
@@ -31,9 +31,9 @@ use Rattle.written_line.specs.Writing.{refusing, line_into, observation_line, re
 use Rattle.written_line.proofs.EveryRecord.{record_length_lem}
 use Rattle.written_line.proofs.Observed.{observation_length_lem}
 use Rattle.gateway.specs.Lines.{line_parts, refusal_parts, wrote_parts, lined_parts, unwritten}
-use Rattle.gateway.specs.Lines.{seen_line, line_of_answer, packet_line_in, record_parts}
+use Rattle.gateway.specs.Lines.{seen_line, line_of_reading, packet_line_in, record_parts}
 use Rattle.gateway.specs.LineTold.{LineZeros, LineTold}
-use Rattle.gateway.specs.Parts.{refused, refused_list}
+use Rattle.gateway.specs.Parts.{refused, kind_number, refused_list}
 use Rattle.gateway.proofs.Zeros.{packet_alone, list_alone}
 
 -- ---- a line that was read off or written
@@ -131,37 +131,40 @@ module _ (o : TcpObservation) (held : ObservationHeld o) (few : o.olayout.count 
       rw (le-ltb 40 o.olayout.count few)
       (into_told kind 432 room (observation_text o) (observation_length_lem o held few) (omega arith))
 
-  answer_told : (a : Answer) → LineTold 432 room (line_of_answer a o room)
-  answer_told reading.Syn = seen_told 1
-  answer_told reading.SynAck = seen_told 2
-  answer_told reading.Nothing =
-      record {
-        told = λ h. absurd (omega arith);
-        short = omega arith;
-        inside = omega arith;
-        none = λ h. refl;
-        enough = λ h i. omega arith;
-        zeros =
-            record {
-              kind = λ h. refl;
-              refusal = λ h. refl;
-              value = λ h i j. refl;
-              search = (refl, refl, refl, refl);
-              reason = (refl, refl, refl, refl);
-            };
-      }
-  answer_told (reading.Refused r) =
-      refused_told 432 room (packet_number r) (packet_value r) (not_fifteen r) (λ h i. packet_alone r h)
+reading_told
+    : (r : Result Reading PacketRefusal)
+    → ObservationHeld (observation_read r)
+    → (observation_read r).olayout.count ≤ 40
+    → (room : ℕ)
+    → LineTold 432 room (line_of_reading r room)
+reading_told (Ok (reading.Opening k o)) held few room = seen_told o held few room (kind_number k)
+reading_told (Ok reading.Nothing) held few room =
+    record {
+      told = λ h. absurd (omega arith);
+      short = omega arith;
+      inside = omega arith;
+      none = λ h. refl;
+      enough = λ h i. omega arith;
+      zeros =
+          record {
+            kind = λ h. refl;
+            refusal = λ h. refl;
+            value = λ h i j. refl;
+            search = (refl, refl, refl, refl);
+            reason = (refl, refl, refl, refl);
+          };
+    }
+reading_told (Err r) held few room =
+    refused_told 432 room (packet_number r) (packet_value r) (not_fifteen r) (λ h i. packet_alone r h)
 
 -- In every mode, of a packet whose numbers are such as their types hold (those of every packet of bytes are).
 pub packet_line_told
     : (mode : Mode) (p : List ℕ) (peer room : ℕ)
-    → ObservationHeld (read_in mode p (peer_of peer)).observation
+    → ObservationHeld (observation_read (read_in mode p (peer_of peer)))
     → LineTold 432 room (packet_line_in mode p peer room)
 unfolding packet_line_in
 packet_line_told mode p peer room held =
-    let r = read_in mode p (peer_of peer) in
-    answer_told r.observation held (sound_in mode p (peer_of peer)).few room r.answer
+    reading_told (read_in mode p (peer_of peer)) held (sound_in mode p (peer_of peer)).few room
 
 -- ---- a record
 
@@ -173,8 +176,8 @@ module _ (l : List ℕ) (all : AllBytes l) (i room : ℕ) where
   good_told
       : (t : Bool)
       → ltb i (record_count l) ≡ t
-      → check_list l ≡ list.Good
-      → LineTold 434 room (lined_parts 0 (record_line_of list.Good l i room))
+      → check_list l ≡ (Ok tt)
+      → LineTold 434 room (lined_parts 0 (record_line_of (Ok tt) l i room))
   unfolding refusing wrote_parts refusal_parts
   good_told true e good =
       rw e
@@ -182,10 +185,10 @@ module _ (l : List ℕ) (all : AllBytes l) (i room : ℕ) where
       (record_length_lem l i all (good_fits l good) (each_good l i good (ltb-true i (record_count l) e))) (omega arith))
   good_told false e good = rw e (refused_told 434 room 23 0 (λ h. omega arith) (λ h j. refl))
 
-  list_told : (a : ListAnswer) → check_list l ≡ a → LineTold 434 room (lined_parts 0 (record_line_of a l i room))
+  list_told : (a : Result (Unit {0}) ListRefusal) → check_list l ≡ a → LineTold 434 room (lined_parts 0 (record_line_of a l i room))
   unfolding refusing wrote_parts refusal_parts refused_list
-  list_told list.Good e = good_told (ltb i (record_count l)) refl e
-  list_told (list.Refused r) e =
+  list_told (Ok tt) e = good_told (ltb i (record_count l)) refl e
+  list_told (Err r) e =
       refused_told 434 room (list_number r) _ (list_not_fifteen r) (λ h j. list_alone r j)
 
   -- Of every record of every list of bytes.

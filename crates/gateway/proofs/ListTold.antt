@@ -1,4 +1,5 @@
 -- The struct beside a compiled list: `length` is the list's, and nothing is written beside a refusal.
+use Rattle.std.specs.Prelude.{Result}
 use mathlib.Core.Path.{◌≡◌, refl}
 use mathlib.Core.List.{List}
 use Prim.Native.Nat.{ℕ, ◌<◌, ◌≤◌}
@@ -8,14 +9,14 @@ use Rattle.text.specs.Written.{Lined}
 use Rattle.refusals.specs.declared.Refusal.{Refusal}
 use Rattle.refusals.specs.declared.Refusal.TheVariants as refusal
 use Rattle.refusals.specs.Refusals.{number}
-use Rattle.keeper_file.specs.declared.Compiled.{Compiled}
+use Rattle.keeper_file.specs.declared.LineRefusal.{LineRefusal}
 use Rattle.keeper_file.specs.CompileAnswers.{CompileAnswer}
 use Rattle.keeper_file.specs.Compiling.{refusing_line, compile_file}
 use Rattle.keeper_file.proofs.CompileAnswers.{compile_answer}
 use Rattle.gateway.specs.declared.TermreadCompiled.{TermreadCompiled}
 use Rattle.gateway.specs.Compiled.{compiled_parts, compile_parts, longest_list, ListTold}
 
-abbrev parts : Lined Compiled → Lined TermreadCompiled
+abbrev parts : Lined (Result ℕ LineRefusal) → Lined TermreadCompiled
 parts x = record { answer = compiled_parts x.answer; line = x.line }
 
 -- A refusal has a number; 15 only where the buffer is short.
@@ -30,7 +31,7 @@ refused_told room k r some enough =
       enough = enough;
     }
 
-list_told_so : (file : List ℕ) (room : ℕ) (x : Lined Compiled) → CompileAnswer file room x → ListTold room (parts x)
+list_told_so : (file : List ℕ) (room : ℕ) (x : Lined (Result ℕ LineRefusal)) → CompileAnswer file room x → ListTold room (parts x)
 unfolding compiled_parts refusing_line
 list_told_so file room x (CompileAnswer.bad_line line at before refused) =
     refused_told room line.number (refusal.BadLine at) (omega arith) (λ h (e : ◌≡◌ {A = ℕ} 13 15). omega arith)

@@ -1,4 +1,5 @@
 -- What a fit tolerates is small: its quirks are among the low eight, and its hops below 256.
+use Rattle.std.specs.Prelude.{Option, Some, None}
 use mathlib.Core.Path.{◌≡◌, refl, sym, ◌∙◌, ap}
 use mathlib.Core.Bool.{Bool, true, false, cond, ◌&&◌}
 use mathlib.Core.List.{List}
@@ -18,9 +19,6 @@ use Rattle.distances.specs.declared.TtlFit.{TtlFit}
 use Rattle.distances.specs.declared.TtlFit.TheVariants as ttlfit
 use Rattle.distances.specs.Distances.{initial_ttl, is_bad, out_of_range, ttl_fit}
 use Rattle.matching.specs.declared.Features.{Features}
-use Rattle.matching.specs.declared.Hops.TheVariants as hops
-use Rattle.matching.specs.declared.QuirksFit.{QuirksFit}
-use Rattle.matching.specs.declared.QuirksFit.TheVariants as quirksfit
 use Rattle.matching.specs.declared.SignatureFit.{SignatureFit}
 use Rattle.matching.specs.declared.SignatureFit.TheVariants as fit
 use Rattle.matching.specs.declared.Tolerated.{Tolerated}
@@ -59,16 +57,16 @@ addable_small : bits_of fuzzy_addable < 256
 addable_small = rw fuzzy_addable_bits (omega arith)
 
 -- The quirks added and missing, if tolerated, are small.
-abbrev QuirksSmall : QuirksFit → Type 0
-QuirksSmall quirksfit.Rejected = Unit {0}
-QuirksSmall (quirksfit.Tolerated q) = (bits_of q.added < 256) × (bits_of q.missing < 256)
+abbrev QuirksSmall : Option Tolerated → Type 0
+QuirksSmall None = Unit {0}
+QuirksSmall (Some q) = (bits_of q.added < 256) × (bits_of q.missing < 256)
 
 -- Tolerated quirks are small where both tests say so.
 tests_small
     : (t u : Bool) (q : Tolerated)
     → (t ≡ true → bits_of q.missing < 256)
     → (u ≡ true → bits_of q.added < 256)
-    → QuirksSmall (cond (t && u) (quirksfit.Tolerated q) quirksfit.Rejected)
+    → QuirksSmall (cond (t && u) (Some q) None)
 tests_small true true q m a = (a refl, m refl)
 tests_small true false q m a = tt
 tests_small false u q m a = tt
@@ -87,16 +85,16 @@ quirks_small_lem observed signature =
 -- ---- the hops
 
 -- The hop distance, if out of range, is small.
-abbrev TtlSmall : TtlFit → Type 0
-TtlSmall ttlfit.Rejected = Unit {0}
-TtlSmall (ttlfit.InRange d) = Unit {0}
-TtlSmall (ttlfit.OutOfRange d) = d < 256
+abbrev TtlSmall : Option TtlFit → Type 0
+TtlSmall None = Unit {0}
+TtlSmall (Some (ttlfit.InRange d)) = Unit {0}
+TtlSmall (Some (ttlfit.OutOfRange d)) = d < 256
 
 -- However the three tests come out, the distance is the only number of a TTL's fit.
 distance_small
     : (bad above far : Bool) (d : ℕ)
     → d < 256
-    → TtlSmall (cond bad (cond above ttlfit.Rejected (ttlfit.InRange d)) (cond far (ttlfit.OutOfRange d) (ttlfit.InRange d)))
+    → TtlSmall (cond bad (cond above None (Some (ttlfit.InRange d))) (cond far (Some (ttlfit.OutOfRange d)) (Some (ttlfit.InRange d))))
 distance_small true true far d h = tt
 distance_small true false far d h = tt
 distance_small false above true d h = h
@@ -137,18 +135,18 @@ FitSmall (fit.Fuzzy r) = ReasonFits r
 in_range_small
     : (t : Bool) (q : Tolerated)
     → (bits_of q.added < 256) × (bits_of q.missing < 256)
-    → FitSmall (cond t fit.Exact (fit.Fuzzy (record { hops = hops.InRange; added = q.added; missing = q.missing })))
+    → FitSmall (cond t fit.Exact (fit.Fuzzy (record { hops = None; added = q.added; missing = q.missing })))
 in_range_small true q h = tt
 in_range_small false q h = (h.0, h.1, tt)
 
 -- The TTL and the quirks, judged together.
-judge_small : (t : TtlFit) (q : QuirksFit) → TtlSmall t → QuirksSmall q → FitSmall (judge t q)
+judge_small : (t : Option TtlFit) (q : Option Tolerated) → TtlSmall t → QuirksSmall q → FitSmall (judge t q)
 unfolding judge judge_in_range
-judge_small ttlfit.Rejected q ht hq = tt
-judge_small (ttlfit.InRange d) quirksfit.Rejected ht hq = tt
-judge_small (ttlfit.InRange d) (quirksfit.Tolerated q) ht hq = in_range_small (is_empty q.added && is_empty q.missing) q hq
-judge_small (ttlfit.OutOfRange d) quirksfit.Rejected ht hq = tt
-judge_small (ttlfit.OutOfRange d) (quirksfit.Tolerated q) ht hq = (hq.0, hq.1, ht)
+judge_small None q ht hq = tt
+judge_small (Some (ttlfit.InRange d)) None ht hq = tt
+judge_small (Some (ttlfit.InRange d)) (Some q) ht hq = in_range_small (is_empty q.added && is_empty q.missing) q hq
+judge_small (Some (ttlfit.OutOfRange d)) None ht hq = tt
+judge_small (Some (ttlfit.OutOfRange d)) (Some q) ht hq = (hq.0, hq.1, ht)
 
 -- A fit that a test may turn to nothing.
 or_none : (t : Bool) (x : SignatureFit) → FitSmall x → FitSmall (cond t x fit.None)

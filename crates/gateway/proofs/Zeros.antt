@@ -1,4 +1,5 @@
 -- What an answer does not have is 0 in its struct, and so is what later requests fill.
+use Rattle.std.specs.Prelude.{None, Result, Ok, Err}
 use mathlib.Core.Path.{◌≡◌, refl}
 use mathlib.Core.Bool.{Bool, false}
 use Prim.Native.Nat.{ℕ, ◌%◌}
@@ -9,14 +10,11 @@ use Rattle.refusals.specs.declared.ListRefusal.{ListRefusal}
 use Rattle.refusals.specs.declared.ListRefusal.TheVariants as bad
 use Rattle.refusals.specs.Refusals.{packet_number, list_number, packet_value, list_value}
 use Rattle.matching.specs.declared.FuzzyReason.{FuzzyReason}
-use Rattle.matching.specs.declared.Hops.TheVariants as hops
-use Rattle.siglist.specs.declared.ListAnswer.{ListAnswer}
-use Rattle.siglist.specs.declared.ListAnswer.TheVariants as list
 use Rattle.found.specs.declared.Hit.{Hit}
 use Rattle.found.specs.declared.Found.{Found}
 use Rattle.found.specs.declared.Found.TheVariants as found
 use Rattle.packet_answer.specs.declared.PacketAnswer.TheVariants as packet
-use Rattle.gateway.specs.Parts.{GatewayAnswer, plain, refused, generic_mark, fuzzy}
+use Rattle.gateway.specs.Parts.{GatewayAnswer, kind_number, plain, refused, generic_mark, fuzzy}
 use Rattle.gateway.specs.Parts.{found_parts, searched_parts, packet_parts, refused_list, parts_of, list_parts}
 use Rattle.gateway.specs.Zeros.{Zeros}
 use Rattle.gateway.proofs.Marks.{bits_0_and_2, no_distance, not_far}
@@ -29,7 +27,7 @@ plain_zeros
 plain_zeros outcome kind label number examined generic searches records =
     record {
       tolerated = refl;
-      other_marks = bits_0_and_2 hops.InRange generic;
+      other_marks = bits_0_and_2 None generic;
       searched = searches;
       record_found = records;
       reason = λ h. (refl, refl, refl, not_far generic);
@@ -91,14 +89,13 @@ list_alone (bad.BadRecord i) h = absurd (h refl)
 -- Of every answer.
 pub zeros : (a : GatewayAnswer) → Zeros (parts_of a)
 unfolding packet_parts searched_parts refused_list
-zeros (GatewayAnswer.answered (packet.Syn s)) = found_zeros 1 s.found s.examined
-zeros (GatewayAnswer.answered (packet.SynAck s)) = found_zeros 2 s.found s.examined
-zeros (GatewayAnswer.answered packet.Nothing) = plain_zeros 4 0 0 0 0 false (λ h i j. (refl, refl)) (λ h i. (refl, refl, refl))
-zeros (GatewayAnswer.answered (packet.Refused r)) = refused_zeros (packet_number r) (packet_value r) (λ h i. packet_alone r h)
+zeros (GatewayAnswer.answered (Ok (packet.Opening k s))) = found_zeros (kind_number k) s.found s.examined
+zeros (GatewayAnswer.answered (Ok packet.Nothing)) = plain_zeros 4 0 0 0 0 false (λ h i j. (refl, refl)) (λ h i. (refl, refl, refl))
+zeros (GatewayAnswer.answered (Err r)) = refused_zeros (packet_number r) (packet_value r) (λ h i. packet_alone r h)
 zeros (GatewayAnswer.list_refused_lem r) = refused_zeros (list_number r) (list_value r % 65536) (λ h i. list_alone r i)
 
 -- Of what is said of a list.
-pub list_zeros : (a : ListAnswer) → Zeros (list_parts a)
+pub list_zeros : (a : Result (Unit {0}) ListRefusal) → Zeros (list_parts a)
 unfolding list_parts
-list_zeros list.Good = plain_zeros 0 0 0 0 0 false (λ h i j. (refl, refl)) (λ h i. (refl, refl, refl))
-list_zeros (list.Refused r) = zeros (GatewayAnswer.list_refused_lem r)
+list_zeros (Ok tt) = plain_zeros 0 0 0 0 0 false (λ h i j. (refl, refl)) (λ h i. (refl, refl, refl))
+list_zeros (Err r) = zeros (GatewayAnswer.list_refused_lem r)

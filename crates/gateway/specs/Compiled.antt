@@ -1,17 +1,17 @@
 -- A compiled list for C: the struct that is answered, and the list that stands in the buffer, from its start on. Beside a refusal no byte
 -- is written.
-use Rattle.std.specs.Prelude.{ℕ, ◌%◌, ◌≤◌, ◌≡◌, List, [], length}
+use Rattle.std.specs.Prelude.{ℕ, ◌%◌, ◌≤◌, ◌≡◌, List, [], length, Result, Ok, Err}
 use Rattle.text.specs.Written.{Lined}
 use Rattle.refusals.specs.Refusals.{number, value}
-use Rattle.keeper_file.specs.declared.Compiled.{Compiled}
-use Rattle.keeper_file.specs.declared.Compiled.TheVariants as compiled
+use Rattle.keeper_file.specs.declared.LineRefusal.{LineRefusal}
 use Rattle.keeper_file.specs.Compiling.{compile_file}
 use Rattle.gateway.specs.declared.TermreadCompiled.{TermreadCompiled}
 
 -- `refusal` 0: a list of `length` bytes. Else its number, `line` from 1, `offset` in it; modulo 2 ^ 32.
-unfoldable pub compiled_parts : Compiled → TermreadCompiled
-compiled_parts (compiled.List n) = record { length = n % 4294967296; line = 0; offset = 0; refusal = 0 }
-compiled_parts (compiled.Refused k r) = record { length = 0; line = k % 4294967296; offset = value r % 4294967296; refusal = number r }
+unfoldable pub compiled_parts : Result ℕ LineRefusal → TermreadCompiled
+compiled_parts (Ok n) = record { length = n % 4294967296; line = 0; offset = 0; refusal = 0 }
+compiled_parts (Err r) =
+    record { length = 0; line = r.line % 4294967296; offset = value r.refusal % 4294967296; refusal = number r.refusal }
 
 -- A file, and the bytes of the buffer.
 unfoldable pub compile_parts : List ℕ → ℕ → Lined TermreadCompiled

@@ -1,22 +1,20 @@
 -- A line for C: the struct that is answered, and the line that stands in the buffer, from its start on (document 02, Wish 7). Beside
 -- "nothing" and a refusal no byte is written.
-use Rattle.std.specs.Prelude.{ℕ, ◌%◌, List, []}
+use Rattle.std.specs.Prelude.{ℕ, ◌%◌, List, [], Result, Ok, Err}
 use Rattle.text.specs.Written.{Lined}
+use Rattle.refusals.specs.declared.PacketRefusal.{PacketRefusal}
 use Rattle.refusals.specs.declared.Refusal.{Refusal}
 use Rattle.refusals.specs.Refusals.{number, packet_number, packet_value, by_kind}
 use Rattle.observable.specs.declared.TcpObservation.{TcpObservation}
-use Rattle.flow.specs.declared.Answer.{Answer}
-use Rattle.flow.specs.declared.Answer.TheVariants as reading
 use Rattle.flow.specs.declared.Mode.{Mode}
 use Rattle.flow.specs.declared.Reading.{Reading}
+use Rattle.flow.specs.declared.Reading.TheVariants as reading
 use Rattle.flow.specs.Modes.{mode_of, read_in}
 use Rattle.flow.specs.Reading.{read_packet}
 use Rattle.packet_answer.specs.Packet.{peer_of}
-use Rattle.written_line.specs.declared.Wrote.{Wrote}
-use Rattle.written_line.specs.declared.Wrote.TheVariants as wrote
 use Rattle.written_line.specs.Writing.{observation_line, record_line}
 use Rattle.gateway.specs.declared.TermreadResult.{TermreadResult}
-use Rattle.gateway.specs.Parts.{plain, valued, refused, refused_list}
+use Rattle.gateway.specs.Parts.{plain, valued, refused, kind_number, refused_list}
 
 -- ---- the struct
 
@@ -28,13 +26,13 @@ line_parts kind size = valued 6 kind 0 (size % 65536)
 unfoldable pub refusal_parts : Refusal → TermreadResult
 refusal_parts r = by_kind (λ why. refused (packet_number why) (packet_value why)) refused_list (refused (number r) 0) r
 
-unfoldable pub wrote_parts : ℕ → Wrote → TermreadResult
-wrote_parts kind (wrote.Line size) = line_parts kind size
-wrote_parts kind (wrote.Refused r) = refusal_parts r
+unfoldable pub wrote_parts : ℕ → Result ℕ Refusal → TermreadResult
+wrote_parts kind (Ok size) = line_parts kind size
+wrote_parts kind (Err r) = refusal_parts r
 
 -- ---- with the line
 
-abbrev pub lined_parts : ℕ → Lined Wrote → Lined TermreadResult
+abbrev pub lined_parts : ℕ → Lined (Result ℕ Refusal) → Lined TermreadResult
 lined_parts kind w = record { answer = wrote_parts kind w.answer; line = w.line }
 
 abbrev pub unwritten : TermreadResult → Lined TermreadResult
@@ -44,14 +42,10 @@ unwritten a = record { answer = a; line = [] }
 abbrev pub seen_line : ℕ → TcpObservation → ℕ → Lined TermreadResult
 seen_line kind o room = lined_parts kind (observation_line o room)
 
-abbrev pub line_of_answer : Answer → TcpObservation → ℕ → Lined TermreadResult
-line_of_answer reading.Syn o room = seen_line 1 o room
-line_of_answer reading.SynAck o room = seen_line 2 o room
-line_of_answer reading.Nothing o room = unwritten (plain 4 0 0 0 0 0)
-line_of_answer (reading.Refused r) o room = unwritten (refused (packet_number r) (packet_value r))
-
-abbrev pub line_of_reading : Reading → ℕ → Lined TermreadResult
-line_of_reading r room = line_of_answer r.answer r.observation room
+abbrev pub line_of_reading : Result Reading PacketRefusal → ℕ → Lined TermreadResult
+line_of_reading (Ok (reading.Opening k o)) room = seen_line (kind_number k) o room
+line_of_reading (Ok reading.Nothing) room = unwritten (plain 4 0 0 0 0 0)
+line_of_reading (Err r) room = unwritten (refused (packet_number r) (packet_value r))
 
 -- ---- what the exported functions answer and write
 

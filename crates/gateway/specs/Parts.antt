@@ -1,15 +1,14 @@
 -- An answer for C: a struct, whose field `outcome` alone tells exact, fuzzy and none apart. No two of its fields share a meaning, and a
 -- field that an answer does not have is 0; so are, of every answer, `tolerated` and the bits of `marks` but two.
-use Rattle.std.specs.Prelude.{ℕ, ◌+◌, ◌%◌, Bool, cond, List}
+use Rattle.std.specs.Prelude.{ℕ, ◌+◌, ◌%◌, Bool, cond, List, Option, Some, None, Result, Ok, Err}
 use Rattle.quirks.specs.Quirks.{bits_of}
 use Rattle.refusals.specs.declared.ListRefusal.{ListRefusal}
+use Rattle.refusals.specs.declared.PacketRefusal.{PacketRefusal}
 use Rattle.refusals.specs.Refusals.{packet_number, list_number, packet_value, list_value, Verdict, list_refused}
 use Rattle.matching.specs.declared.FuzzyReason.{FuzzyReason}
-use Rattle.matching.specs.declared.Hops.{Hops}
-use Rattle.matching.specs.declared.Hops.TheVariants as hops
+use Rattle.flow.specs.declared.Kind.{Kind}
+use Rattle.flow.specs.declared.Kind.TheVariants as kind
 use Rattle.flow.specs.declared.Mode.{Mode}
-use Rattle.siglist.specs.declared.ListAnswer.{ListAnswer}
-use Rattle.siglist.specs.declared.ListAnswer.TheVariants as list
 use Rattle.siglist.specs.List.{check_list}
 use Rattle.found.specs.declared.Hit.{Hit}
 use Rattle.found.specs.declared.Found.{Found}
@@ -66,17 +65,17 @@ refused refusal value = valued 5 0 refusal value
 
 -- The reason of a fuzzy answer, "the hop distance if out of range, the added and the missing quirks" (document 01, module 7): `added`
 -- and `missing`, a bit for each quirk; `hops`; and bit 0 of `marks`, which says that the TTL is out of range.
-abbrev pub hops_of : Hops → ℕ
-hops_of hops.InRange = 0
-hops_of (hops.OutOfRange d) = d
+abbrev pub hops_of : Option ℕ → ℕ
+hops_of None = 0
+hops_of (Some d) = d
 
 -- Bit 2 of `marks`, of exact and fuzzy: the record is generic (document 02, Wish 3). Bit 1 is kept for Wish 8.
 abbrev pub generic_mark : Bool → ℕ
 generic_mark generic = cond generic 4 0
 
-abbrev pub marks_of : Hops → Bool → ℕ
-marks_of hops.InRange generic = generic_mark generic
-marks_of (hops.OutOfRange d) generic = generic_mark generic + 1
+abbrev pub marks_of : Option ℕ → Bool → ℕ
+marks_of None generic = generic_mark generic
+marks_of (Some d) generic = generic_mark generic + 1
 
 abbrev pub fuzzy : ℕ → Hit → FuzzyReason → ℕ → TermreadResult
 fuzzy kind hit reason examined =
@@ -106,18 +105,21 @@ found_parts kind (found.Fuzzy hit reason) examined = fuzzy kind hit reason exami
 unfoldable pub searched_parts : ℕ → Searched → TermreadResult
 searched_parts kind s = found_parts kind s.found s.examined
 
-unfoldable pub packet_parts : PacketAnswer → TermreadResult
-packet_parts (packet.Syn s) = searched_parts 1 s
-packet_parts (packet.SynAck s) = searched_parts 2 s
-packet_parts packet.Nothing = plain 4 0 0 0 0 0
-packet_parts (packet.Refused r) = refused (packet_number r) (packet_value r)
+abbrev pub kind_number : Kind → ℕ
+kind_number kind.Syn = 1
+kind_number kind.SynAck = 2
+
+unfoldable pub packet_parts : Result PacketAnswer PacketRefusal → TermreadResult
+packet_parts (Ok (packet.Opening k s)) = searched_parts (kind_number k) s
+packet_parts (Ok packet.Nothing) = plain 4 0 0 0 0 0
+packet_parts (Err r) = refused (packet_number r) (packet_value r)
 
 unfoldable pub refused_list : ListRefusal → TermreadResult
 refused_list r = refused (list_number r) (list_value r % 65536)
 
 -- The answer of a packet, or why its list is refused.
 pub data GatewayAnswer : Type 0 where
-  answered : PacketAnswer → GatewayAnswer
+  answered : Result PacketAnswer PacketRefusal → GatewayAnswer
   list_refused_lem : ListRefusal → GatewayAnswer
 
 abbrev pub parts_of : GatewayAnswer → TermreadResult
@@ -127,9 +129,9 @@ parts_of (GatewayAnswer.list_refused_lem r) = refused_list r
 -- ---- what the exported functions answer
 
 -- A list that is not checked yet is refused before its packet is read, as a bundle's is.
-abbrev pub after_list : ListAnswer → PacketAnswer → GatewayAnswer
-after_list list.Good a = GatewayAnswer.answered a
-after_list (list.Refused r) a = GatewayAnswer.list_refused_lem r
+abbrev pub after_list : Result (Unit {0}) ListRefusal → Result PacketAnswer PacketRefusal → GatewayAnswer
+after_list (Ok tt) a = GatewayAnswer.answered a
+after_list (Err r) a = GatewayAnswer.list_refused_lem r
 
 unfoldable pub gateway_answer : List ℕ → ℕ → List ℕ → GatewayAnswer
 gateway_answer p peer l = after_list (check_list l) (answer_of p (peer_of peer) l)
@@ -139,9 +141,9 @@ unfoldable pub gateway_in : Mode → List ℕ → ℕ → List ℕ → GatewayAn
 gateway_in mode p peer l = after_list (check_list l) (answer_in mode p (peer_of peer) l)
 
 -- Of a list: all 0 if it is well formed, or its refusal.
-unfoldable pub list_parts : ListAnswer → TermreadResult
-list_parts list.Good = plain 0 0 0 0 0 0
-list_parts (list.Refused r) = refused_list r
+unfoldable pub list_parts : Result (Unit {0}) ListRefusal → TermreadResult
+list_parts (Ok tt) = plain 0 0 0 0 0 0
+list_parts (Err r) = refused_list r
 
 -- Which refusal of the table the answer is, if any.
 abbrev pub gateway_verdict : GatewayAnswer → Verdict

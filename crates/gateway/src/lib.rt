@@ -6,7 +6,7 @@ ghost use Rattle.refusals.specs.Refusals.{packet_number, packet_value};
 ghost use Rattle.siglist.specs.List.{check_list};
 ghost use Rattle.flow.specs.Modes.{mode_of};
 ghost use Rattle.packet_answer.specs.Packet.{peer_of, answer_of, answer_in};
-ghost use Rattle.gateway.specs.Parts.{plain, valued, refused, hops_of, generic_mark, marks_of, fuzzy, searched_parts, packet_parts};
+ghost use Rattle.gateway.specs.Parts.{plain, valued, refused, generic_mark, marks_of, fuzzy, kind_number, searched_parts, packet_parts};
 ghost use Rattle.gateway.specs.Parts.{refused_list, parts_of, gateway_answer, gateway_in, list_parts};
 ghost use Rattle.text.specs.Written.{Writes};
 ghost use Rattle.gateway.specs.Lines.{line_parts, refusal_parts, wrote_parts, seen_line};
@@ -14,21 +14,20 @@ ghost use Rattle.gateway.specs.Lines.{packet_line_in, raw_line, raw_line_in, rec
 ghost use Rattle.gateway.specs.Compiled.{compile_parts};
 
 use compiled::compiled_parts;
-use flow::{Answer, Mode, mode_of, read_packet_in};
+use flow::{Kind, Mode, Reading, mode_of, read_packet_in};
 use found::{Found, Hit, Searched};
 use line_writer::{write_observation, write_record};
 use list_compiler::compile_list;
-use matching::{FuzzyReason, Hops};
+use matching::FuzzyReason;
 use observable::TcpObservation;
 use packet_answer::{PacketAnswer, answer_packet_in, peer_of};
 use refusals::{ListRefusal, PacketRefusal, Refusal, list_value, packet_value, refusal_number};
-use siglist::{ListAnswer, check_list};
-use written_line::Wrote;
+use siglist::check_list;
 
 mod compiled;
 
 // An answer for C: sixteen bytes, returned in two registers (specs/Parts.antt; include/termread.h has the same struct). What a later
-// request fills is 0 until then.
+// request fills is 0 until then. Kinds and refusals are numbers, and 0 stands for what is absent: the C interface.
 #[repr(C)]
 #[derive(Clone, Copy)]
 pub struct TermreadResult {
@@ -46,7 +45,7 @@ pub struct TermreadResult {
     pub marks: u8,
 }
 
-// What compiling a list answers, sixteen bytes too.
+// What compiling a list answers, sixteen bytes too: numbers, for the C interface.
 #[repr(C)]
 #[derive(Clone, Copy)]
 pub struct TermreadCompiled {
@@ -56,7 +55,7 @@ pub struct TermreadCompiled {
     pub refusal: u32,
 }
 
-// ---- the fields
+// ---- the fields, each by its name: no field of the C interface is filled by another answer's
 
 // The bit of `marks` that says that the record is generic.
 const GENERIC: u8 = 4;
@@ -105,39 +104,21 @@ fn refused(refusal: u8, value: u16) -> TermreadResult
     valued(5, 0, refusal, value)
 }
 
-fn hops_of(hops: Hops) -> u8
-    ensures { result ≡ hops_of hops }
-{
-    match hops {
-        Hops::InRange => 0,
-        Hops::OutOfRange(distance) => distance,
-    }
-}
-
 fn generic_mark(generic: bool) -> u8
     ensures { result ≡ generic_mark generic }
 {
-    if generic {
-        return GENERIC;
-    }
-    0
+    if generic { GENERIC } else { 0 }
 }
 
-fn marks_of(hops: Hops, generic: bool) -> u8
+fn marks_of(hops: Option<u8>, generic: bool) -> u8
     ensures { result ≡ marks_of hops generic }
 {
-    match hops {
-        Hops::InRange => generic_mark(generic),
-        Hops::OutOfRange(_) => generic_mark(generic) + 1,
-    }
+    generic_mark(generic) + u8::from(hops.is_some())
 }
 
 fn fuzzy(kind: u8, hit: Hit, reason: FuzzyReason, examined: u16) -> TermreadResult
     ensures { result ≡ fuzzy kind hit reason examined }
 {
-    let hops = reason.hops;
-    let added = reason.added;
-    let missing = reason.missing;
     TermreadResult {
         outcome: 2,
         kind,
@@ -147,19 +128,19 @@ fn fuzzy(kind: u8, hit: Hit, reason: FuzzyReason, examined: u16) -> TermreadResu
         number: hit.number,
         examined,
         value: 0,
-        added: (added.bits() % 256) as u8,
-        missing: (missing.bits() % 256) as u8,
-        hops: hops_of(hops),
-        marks: marks_of(hops, hit.generic),
+        added: (reason.added.bits() % 256) as u8,
+        missing: (reason.missing.bits() % 256) as u8,
+        hops: reason.hops.unwrap_or(0),
+        marks: marks_of(reason.hops, hit.generic),
     }
 }
 
 // A generic exact record leaves by a way of its own, so that on both ways the mark is a constant.
+#[tactic(auto, unfolding(crate::specs::Parts::searched_parts))]
 fn searched_parts(kind: u8, searched: Searched) -> TermreadResult
     ensures { result ≡ searched_parts kind searched }
 {
-    let examined = searched.examined;
-    let found = searched.found;
+    let Searched { found, examined } = searched;
     match found {
         Found::None => plain(3, kind, 0, 0, examined, 0),
         Found::Exact(hit) => {
@@ -176,36 +157,57 @@ fn refused_packet(refusal: PacketRefusal) -> TermreadResult
     ensures { result ≡ refused (packet_number refusal) (packet_value refusal) }
 {
     refused(
-        refusal_number(Refusal::Packet(refusal)),
-        packet_value(refusal) as u16,
+        refusal_number(refusal.into()),
+        u16::from(packet_value(refusal)),
     )
 }
 
-fn packet_parts(answer: PacketAnswer) -> TermreadResult
-    ensures { result ≡ packet_parts answer }
+fn kind_number(kind: Kind) -> u8
+    ensures { result ≡ kind_number kind }
 {
-    match answer {
-        PacketAnswer::Syn(searched) => searched_parts(1, searched),
-        PacketAnswer::SynAck(searched) => searched_parts(2, searched),
-        PacketAnswer::Nothing => plain(4, 0, 0, 0, 0, 0),
-        PacketAnswer::Refused(refusal) => refused_packet(refusal),
+    match kind {
+        Kind::Syn => 1,
+        Kind::SynAck => 2,
     }
 }
 
+#[tactic(auto, unfolding(crate::specs::Parts::packet_parts))]
+fn packet_parts(answer: Result<PacketAnswer, PacketRefusal>) -> TermreadResult
+    ensures { result ≡ packet_parts answer }
+{
+    match answer {
+        Ok(PacketAnswer::Opening(kind, searched)) => searched_parts(kind_number(kind), searched),
+        Ok(PacketAnswer::Nothing) => plain(4, 0, 0, 0, 0, 0),
+        Err(refusal) => refused_packet(refusal),
+    }
+}
+
+#[tactic(auto, unfolding(crate::specs::Parts::refused_list))]
 fn refused_list(refusal: ListRefusal) -> TermreadResult
     ensures { result ≡ refused_list refusal }
 {
     refused(
-        refusal_number(Refusal::List(refusal)),
+        refusal_number(refusal.into()),
         (list_value(refusal) % 65536) as u16,
     )
 }
 
-// The answer of a packet against a list that was checked.
+// The answer of a packet against a list that was checked, in any mode.
 fn answered(packet: &[u8], peer: u16, list: &[u8], mode: Mode) -> TermreadResult
     ensures { result ≡ packet_parts (answer_in mode packet.now (peer_of peer) list.now) }
 {
     packet_parts(answer_packet_in(packet, peer_of(peer), list, mode))
+}
+
+// The answer of a packet against a list that was not, in any mode: refusals 9 and 10 come before the packet's.
+#[tactic(auto, unfolding(crate::specs::Parts::gateway_in))]
+fn answered_or_refused(packet: &[u8], peer: u16, list: &[u8], mode: Mode) -> TermreadResult
+    ensures { result ≡ parts_of (gateway_in mode packet.now peer list.now) }
+{
+    match check_list(list) {
+        Ok(()) => answered(packet, peer, list, mode),
+        Err(refusal) => refused_list(refusal),
+    }
 }
 
 // ---- lines
@@ -217,6 +219,7 @@ fn line_parts(kind: u8, size: usize) -> TermreadResult
     valued(6, kind, 0, (size % 65536) as u16)
 }
 
+#[tactic(auto, unfolding(crate::specs::Lines::refusal_parts))]
 fn refusal_parts(refusal: Refusal) -> TermreadResult
     ensures { result ≡ refusal_parts refusal }
 {
@@ -227,12 +230,13 @@ fn refusal_parts(refusal: Refusal) -> TermreadResult
     }
 }
 
-fn wrote_parts(kind: u8, wrote: Wrote) -> TermreadResult
+#[tactic(auto, unfolding(crate::specs::Lines::wrote_parts))]
+fn wrote_parts(kind: u8, wrote: Result<usize, Refusal>) -> TermreadResult
     ensures { result ≡ wrote_parts kind wrote }
 {
     match wrote {
-        Wrote::Line(size) => line_parts(kind, size),
-        Wrote::Refused(refusal) => refusal_parts(refusal),
+        Ok(size) => line_parts(kind, size),
+        Err(refusal) => refusal_parts(refusal),
     }
 }
 
@@ -244,33 +248,36 @@ fn line_seen(buffer: &mut [u8], kind: u8, o: TcpObservation) -> TermreadResult
 }
 
 // The raw line of a packet, in any mode.
+#[tactic(auto, unfolding(crate::specs::Lines::packet_line_in, text::specs::Written::written))]
 fn packet_line(buffer: &mut [u8], packet: &[u8], peer: u16, mode: Mode) -> TermreadResult
     ensures { Writes buffer.old (packet_line_in mode packet.now peer) result buffer.new }
 {
-    let reading = read_packet_in(packet, peer_of(peer), mode);
-    let answer = reading.answer;
-    let observation = reading.observation;
-    match answer {
-        Answer::Syn => line_seen(buffer, 1, observation),
-        Answer::SynAck => line_seen(buffer, 2, observation),
-        Answer::Nothing => plain(4, 0, 0, 0, 0, 0),
-        Answer::Refused(refusal) => refused_packet(refusal),
+    match read_packet_in(packet, peer_of(peer), mode) {
+        Ok(Reading::Opening(kind, observation)) => line_seen(
+            buffer,
+            kind_number(kind),
+            observation,
+        ),
+        Ok(Reading::Nothing) => plain(4, 0, 0, 0, 0, 0),
+        Err(refusal) => refused_packet(refusal),
     }
 }
 
 // ---- what is exported
 
 // Whether a list is well formed: outcome 0, or its refusal.
+#[tactic(auto, unfolding(crate::specs::Parts::list_parts))]
 pub fn termread_check_list(list: &[u8]) -> TermreadResult
     ensures { result ≡ list_parts (check_list list.now) }
 {
     match check_list(list) {
-        ListAnswer::Good => plain(0, 0, 0, 0, 0, 0),
-        ListAnswer::Refused(refusal) => refused_list(refusal),
+        Ok(()) => plain(0, 0, 0, 0, 0, 0),
+        Err(refusal) => refused_list(refusal),
     }
 }
 
 // The answer of a packet against a list that was checked: what is not a well-formed record of it does not fit.
+#[tactic(auto, using(crate::proofs::PlainMode::plain_answer))]
 pub fn termread_answer_checked(packet: &[u8], peer: u16, list: &[u8]) -> TermreadResult
     ensures { result ≡ packet_parts (answer_of packet.now (peer_of peer) list.now) }
 {
@@ -278,16 +285,15 @@ pub fn termread_answer_checked(packet: &[u8], peer: u16, list: &[u8]) -> Termrea
 }
 
 // The answer of a packet against a list that was not checked: refusals 9 and 10 come before the packet's.
+#[tactic(auto, using(crate::proofs::PlainMode::plain_gateway))]
 pub fn termread_answer(packet: &[u8], peer: u16, list: &[u8]) -> TermreadResult
     ensures { result ≡ parts_of (gateway_answer packet.now peer list.now) }
 {
-    match check_list(list) {
-        ListAnswer::Good => answered(packet, peer, list, Mode::PLAIN),
-        ListAnswer::Refused(refusal) => refused_list(refusal),
-    }
+    answered_or_refused(packet, peer, list, Mode::PLAIN)
 }
 
-// Both in any mode, as one number: bit 0 is strict, and the other bits are not read.
+// Both in any mode, as one number: bit 0 is strict, and the other bits are not read. They stand beside the two above, as does the raw line
+// in any mode beside the plain one, since C calls each by its name (the C interface).
 pub fn termread_answer_checked_in(packet: &[u8], peer: u16, list: &[u8], bits: u8) -> TermreadResult
     ensures { result ≡ packet_parts (answer_in (mode_of bits) packet.now (peer_of peer) list.now) }
 {
@@ -297,14 +303,12 @@ pub fn termread_answer_checked_in(packet: &[u8], peer: u16, list: &[u8], bits: u
 pub fn termread_answer_in(packet: &[u8], peer: u16, list: &[u8], bits: u8) -> TermreadResult
     ensures { result ≡ parts_of (gateway_in (mode_of bits) packet.now peer list.now) }
 {
-    match check_list(list) {
-        ListAnswer::Good => answered(packet, peer, list, mode_of(bits)),
-        ListAnswer::Refused(refusal) => refused_list(refusal),
-    }
+    answered_or_refused(packet, peer, list, mode_of(bits))
 }
 
 // The raw line of a packet, written from the buffer's start: outcome 6 with its length, nothing, or a refusal, 15 the last. Whatever is
 // answered, bytes past the line are as they were.
+#[tactic(auto, using(crate::proofs::PlainMode::plain_line))]
 pub fn termread_raw_line(buffer: &mut [u8], packet: &[u8], peer: u16) -> TermreadResult
     ensures { Writes buffer.old (raw_line packet.now peer) result buffer.new }
 {
@@ -319,6 +323,7 @@ pub fn termread_raw_line_in(buffer: &mut [u8], packet: &[u8], peer: u16, bits: u
 }
 
 // The line of record `index` of a list, in the same way: refusals 9, 10, 23 and 15.
+#[tactic(auto, unfolding(crate::specs::Lines::record_parts))]
 pub fn termread_record_line(buffer: &mut [u8], list: &[u8], index: usize) -> TermreadResult
     ensures { Writes buffer.old (record_parts list.now index) result buffer.new }
 {
@@ -326,6 +331,7 @@ pub fn termread_record_line(buffer: &mut [u8], list: &[u8], index: usize) -> Ter
 }
 
 // A keeper's file compiled into a list, from the buffer's start on: its length, or a refusal, 13, 24, 25 or 15, with the line.
+#[tactic(auto, unfolding(crate::specs::Compiled::compile_parts))]
 pub fn termread_compile_list(buffer: &mut [u8], file: &[u8]) -> TermreadCompiled
     ensures { Writes buffer.old (compile_parts file.now) result buffer.new }
 {

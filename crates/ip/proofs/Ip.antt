@@ -1,4 +1,5 @@
 -- Laws of the IP stage: its last two answers, and all that it gives.
+use Rattle.std.specs.Prelude.{Result, Ok, Err}
 use mathlib.Core.Path.{◌≡◌, refl}
 use mathlib.Core.Bool.{Bool, true, false, cond, not, ◌||◌}
 use mathlib.Core.List.{List}
@@ -12,8 +13,6 @@ use Rattle.basis.proofs.Bytes.{part_length}
 use Rattle.rfc.specs.Rfc791 as v4
 use Rattle.rfc.specs.Rfc8200 as v6
 use Rattle.ip.specs.declared.IpFacts.{IpFacts}
-use Rattle.ip.specs.declared.IpRead.{IpRead}
-use Rattle.ip.specs.declared.IpRead.TheVariants as ip
 use Rattle.refusals.specs.declared.PacketRefusal.{PacketRefusal}
 use Rattle.refusals.specs.declared.PacketRefusal.TheVariants as refusal
 use Rattle.refusals.specs.Refusals.{packet_number}
@@ -24,8 +23,8 @@ module _ (p : List ℕ) (long : 20 ≤ length p) (words : 5 ≤ v4.ihl p) (tcp :
   before_tcp
       : read_ipv4 p
       ≡ cond (ltb (v4.data_end p - v4.data_start p) 20)
-      (ip.Refused refusal.TcpTooShort)
-      (ip.Facts (ipv4_facts p (v4.data_start p) (v4.data_end p)))
+      (Err refusal.TcpTooShort)
+      (Ok (ipv4_facts p (v4.data_start p) (v4.data_end p)))
   unfolding read_ipv4
   before_tcp =
       simp (
@@ -36,42 +35,46 @@ module _ (p : List ℕ) (long : 20 ≤ length p) (words : 5 ≤ v4.ihl p) (tcp :
         part_length (v4.data_start p) (v4.data_end p) p (omega arith),
       )
 
-  pub v4_short : v4.data_end p < v4.data_start p + 20 → read_ipv4 p ≡ ip.Refused refusal.TcpTooShort
+  pub v4_short : v4.data_end p < v4.data_start p + 20 → read_ipv4 p ≡ Err refusal.TcpTooShort
   v4_short h = rw (before_tcp, lt-ltb (v4.data_end p - v4.data_start p) 20 (omega arith))
 
-  pub v4_facts : v4.data_start p + 20 ≤ v4.data_end p → read_ipv4 p ≡ ip.Facts (ipv4_facts p (v4.data_start p) (v4.data_end p))
+  pub v4_facts : v4.data_start p + 20 ≤ v4.data_end p → read_ipv4 p ≡ Ok (ipv4_facts p (v4.data_start p) (v4.data_end p))
   v4_facts h = rw (before_tcp, le-ltb (v4.data_end p - v4.data_start p) 20 (omega arith))
 
 module _ (p : List ℕ) (long : 40 ≤ length p) (tcp : v6.next_header p ≡ 6) where
   before_tcp_v6
-      : read_ipv6 p ≡ cond (ltb (v6.payload_end p - 40) 20) (ip.Refused refusal.TcpTooShort) (ip.Facts (ipv6_facts p (v6.payload_end p)))
+      : read_ipv6 p ≡ cond (ltb (v6.payload_end p - 40) 20) (Err refusal.TcpTooShort) (Ok (ipv6_facts p (v6.payload_end p)))
   unfolding read_ipv6
   before_tcp_v6 =
       simp (le-ltb (length p) 40 long, eq-eqb (v6.next_header p) 6 tcp, part_length 40 (v6.payload_end p) p (omega arith))
 
-  pub v6_short : v6.payload_end p < 60 → read_ipv6 p ≡ ip.Refused refusal.TcpTooShort
+  pub v6_short : v6.payload_end p < 60 → read_ipv6 p ≡ Err refusal.TcpTooShort
   v6_short h = rw (before_tcp_v6, lt-ltb (v6.payload_end p - 40) 20 (omega arith))
 
-  pub v6_facts : 60 ≤ v6.payload_end p → read_ipv6 p ≡ ip.Facts (ipv6_facts p (v6.payload_end p))
+  pub v6_facts : 60 ≤ v6.payload_end p → read_ipv6 p ≡ Ok (ipv6_facts p (v6.payload_end p))
   v6_facts h = rw (before_tcp_v6, le-ltb (v6.payload_end p - 40) 20 (omega arith))
 
 -- ---- what the stage gives
 
 -- Of a packet of this version: a refusal under 7; or the facts of its header, with a TCP part of at least twenty bytes within the packet.
-pub data Given (p : List ℕ) : ℕ → IpRead → Type 0 where
-  refused : {version : ℕ} {r : PacketRefusal} → packet_number r < 7 → Given p version (ip.Refused r)
+pub data Given (p : List ℕ) : ℕ → Result IpFacts PacketRefusal → Type 0 where
+  refused : {version : ℕ} {r : PacketRefusal} → packet_number r < 7 → Given p version (Err r)
   four
       : v4.data_start p + 20 ≤ v4.data_end p
       → 5 ≤ v4.ihl p
-      → Given p 4 (ip.Facts (ipv4_facts p (v4.data_start p) (v4.data_end p)))
-  six : 60 ≤ v6.payload_end p → Given p 6 (ip.Facts (ipv6_facts p (v6.payload_end p)))
+      → Given p 4 (Ok (ipv4_facts p (v4.data_start p) (v4.data_end p)))
+  six : 60 ≤ v6.payload_end p → Given p 6 (Ok (ipv6_facts p (v6.payload_end p)))
 
 module _ (p : List ℕ) where
-  either : (t : Bool) {n : ℕ} {a b : IpRead} → (t ≡ true → Given p n a) → (t ≡ false → Given p n b) → Given p n (cond t a b)
+  either
+      : (t : Bool) {n : ℕ} {a b : Result IpFacts PacketRefusal}
+      → (t ≡ true → Given p n a)
+      → (t ≡ false → Given p n b)
+      → Given p n (cond t a b)
   either true x y = x refl
   either false x y = y refl
 
-  no : {version : ℕ} (r : PacketRefusal) → packet_number r < 7 → Given p version (ip.Refused r)
+  no : {version : ℕ} (r : PacketRefusal) → packet_number r < 7 → Given p version (Err r)
   no r h = refused h
 
   -- The last test of both versions: a part under twenty bytes is refused.
@@ -107,11 +110,11 @@ module _ (p : List ℕ) where
       either (eqb (v4.version p) 6) (λ e. rw (eqb-true (v4.version p) 6 e) given6) (λ e.
       no refusal.Version (omega arith))))
 
-  part_lies : {n : ℕ} {f : IpFacts} → Given p n (ip.Facts f) → (f.start + 20 ≤ f.end) × (f.end ≤ length p)
+  part_lies : {n : ℕ} {f : IpFacts} → Given p n (Ok f) → (f.start + 20 ≤ f.end) × (f.end ≤ length p)
   unfolding ipv4_facts ipv6_facts
   part_lies (four h words) = (h, omega arith)
   part_lies (six h) = (h, omega arith)
 
   -- Of facts that the code holds.
-  pub tcp_part_lies : (f : IpFacts) → read_ip p ≡ ip.Facts f → (f.start + 20 ≤ f.end) × (f.end ≤ length p)
+  pub tcp_part_lies : (f : IpFacts) → read_ip p ≡ Ok f → (f.start + 20 ≤ f.end) × (f.end ≤ length p)
   tcp_part_lies f e = part_lies (rw e at given)

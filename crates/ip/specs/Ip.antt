@@ -1,5 +1,5 @@
 -- The IP stage: from a packet to the facts of its IP header and the place of its TCP part, or a refusal 1 to 6.
-use Rattle.std.specs.Prelude.{ℕ, ◌*◌, ◌/◌, ◌%◌, cond, not, ◌&&◌, ◌||◌, List, eqb, ltb, length}
+use Rattle.std.specs.Prelude.{ℕ, ◌*◌, ◌/◌, ◌%◌, cond, not, ◌&&◌, ◌||◌, List, eqb, ltb, length, Result, Ok, Err}
 use Rattle.basis.specs.Bytes.{part}
 use Rattle.quirks.specs.declared.Quirk.TheVariants as quirk
 use Rattle.quirks.specs.declared.QuirkSet.{QuirkSet}
@@ -11,8 +11,7 @@ use Rattle.tcp.specs.declared.IpVersion.TheVariants as version
 use Rattle.ttl.specs.Ttl.{reading_of}
 use Rattle.ip_options.specs.IpOptions.{ipv4_option_length, ipv6_extension_length}
 use Rattle.ip.specs.declared.IpFacts.{IpFacts}
-use Rattle.ip.specs.declared.IpRead.{IpRead}
-use Rattle.ip.specs.declared.IpRead.TheVariants as ip
+use Rattle.refusals.specs.declared.PacketRefusal.{PacketRefusal}
 use Rattle.refusals.specs.declared.PacketRefusal.TheVariants as refusal
 use Rattle.refusals.specs.Refusals.{Verdict, packet_refused}
 
@@ -44,14 +43,14 @@ ipv4_facts p start end =
     }
 
 -- Refusals 2 to 6 for IPv4, in their order.
-unfoldable pub read_ipv4 : List ℕ → IpRead
+unfoldable pub read_ipv4 : List ℕ → Result IpFacts PacketRefusal
 read_ipv4 p =
-    cond (ltb (length p) 20) (ip.Refused refusal.TooShort)
-    (cond (ltb (v4.ihl p) 5) (ip.Refused refusal.HeaderLength)
-    (cond (not (eqb (v4.protocol p) 6)) (ip.Refused refusal.UnsupportedProtocol)
-    (cond (ltb 0 (v4.fragment_offset p) || eqb (v4.more_fragments p) 1) (ip.Refused refusal.Fragment)
-    (cond (ltb (length (part (v4.data_start p) (v4.data_end p) p)) 20) (ip.Refused refusal.TcpTooShort)
-    (ip.Facts (ipv4_facts p (v4.data_start p) (v4.data_end p)))))))
+    cond (ltb (length p) 20) (Err refusal.TooShort)
+    (cond (ltb (v4.ihl p) 5) (Err refusal.HeaderLength)
+    (cond (not (eqb (v4.protocol p) 6)) (Err refusal.UnsupportedProtocol)
+    (cond (ltb 0 (v4.fragment_offset p) || eqb (v4.more_fragments p) 1) (Err refusal.Fragment)
+    (cond (ltb (length (part (v4.data_start p) (v4.data_end p) p)) 20) (Err refusal.TcpTooShort)
+    (Ok (ipv4_facts p (v4.data_start p) (v4.data_end p)))))))
 
 -- ---- IPv6
 
@@ -74,31 +73,31 @@ ipv6_facts p end =
     }
 
 -- Refusals 2, 4 and 6 for IPv6, in their order.
-unfoldable pub read_ipv6 : List ℕ → IpRead
+unfoldable pub read_ipv6 : List ℕ → Result IpFacts PacketRefusal
 read_ipv6 p =
-    cond (ltb (length p) 40) (ip.Refused refusal.TooShort)
-    (cond (not (eqb (v6.next_header p) 6)) (ip.Refused refusal.UnsupportedProtocol)
-    (cond (ltb (length (v6.payload p)) 20) (ip.Refused refusal.TcpTooShort)
-    (ip.Facts (ipv6_facts p (v6.payload_end p)))))
+    cond (ltb (length p) 40) (Err refusal.TooShort)
+    (cond (not (eqb (v6.next_header p) 6)) (Err refusal.UnsupportedProtocol)
+    (cond (ltb (length (v6.payload p)) 20) (Err refusal.TcpTooShort)
+    (Ok (ipv6_facts p (v6.payload_end p)))))
 
 -- ---- either
 
 -- An IP stage gives the facts of a packet's IP header and the place of its TCP part, or a refusal.
 abbrev pub IpStage : Type 0
-IpStage = List ℕ → IpRead
+IpStage = List ℕ → Result IpFacts PacketRefusal
 
 -- Refusal 1: "packet empty, or top nibble of byte 0 not 4 or 6"; else the stage of the packet's version.
 abbrev pub by_version : IpStage → IpStage → IpStage
 by_version four six p =
-    cond (eqb (length p) 0) (ip.Refused refusal.Version)
+    cond (eqb (length p) 0) (Err refusal.Version)
     (cond (eqb (v4.version p) 4) (four p)
     (cond (eqb (v4.version p) 6) (six p)
-    (ip.Refused refusal.Version)))
+    (Err refusal.Version)))
 
-unfoldable pub read_ip : List ℕ → IpRead
+unfoldable pub read_ip : List ℕ → Result IpFacts PacketRefusal
 read_ip p = by_version read_ipv4 read_ipv6 p
 
 -- Which refusal of the table the answer is, if any.
-abbrev pub ip_verdict : IpRead → Verdict
-ip_verdict (ip.Refused r) = packet_refused r
-ip_verdict (ip.Facts f) = Verdict.accepted
+abbrev pub ip_verdict : Result IpFacts PacketRefusal → Verdict
+ip_verdict (Err r) = packet_refused r
+ip_verdict (Ok f) = Verdict.accepted

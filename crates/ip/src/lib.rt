@@ -24,12 +24,6 @@ pub struct IpFacts {
     pub end: usize,
 }
 
-#[derive(Clone, Copy)]
-pub enum IpRead {
-    Refused(PacketRefusal),
-    Facts(IpFacts),
-}
-
 // The protocol number of TCP.
 const TCP: u8 = 6;
 
@@ -43,15 +37,14 @@ const TCP_HEADER: usize = 20;
 // ---- the IP stage
 
 // A fragment offset above 0, or more fragments to come, of the two bytes that hold both.
+#[tactic(auto, using(crate::proofs::Fragments::fragment_high, crate::proofs::Fragments::fragment_low))]
 fn is_fragment(high: u8, low: u8) -> bool
     ensures { result ≡ ltb 0 (high % 32 * 256 + low) || eqb (high / 32 % 2) 1 }
 {
-    if high % 64 != 0 {
-        return true;
-    }
-    low != 0
+    high % 64 != 0 || low != 0
 }
 
+#[tactic(auto, using(quirks::proofs::Named::empty_bits), unfolding(crate::specs::Ip::ipv4_quirks))]
 fn ipv4_quirks(ecn: u8, reserved: u8, df: u8, identification: u16) -> QuirkSet
     ensures { result ≡ ipv4_quirks ecn reserved df identification }
 {
@@ -63,6 +56,7 @@ fn ipv4_quirks(ecn: u8, reserved: u8, df: u8, identification: u16) -> QuirkSet
         .add_if((df == 0) & (identification == 0), Quirk::ZeroID)
 }
 
+#[tactic(auto, unfolding(crate::specs::Ip::ipv4_facts))]
 fn ipv4_facts(packet: &[u8], start: usize, end: usize) -> IpFacts
     requires { 20 ≤ length packet.now }
     ensures { result ≡ ipv4_facts packet.now start end }
@@ -82,30 +76,31 @@ fn ipv4_facts(packet: &[u8], start: usize, end: usize) -> IpFacts
     }
 }
 
-fn process_tcp_ipv4(packet: &[u8]) -> IpRead
+fn process_tcp_ipv4(packet: &[u8]) -> Result<IpFacts, PacketRefusal>
     ensures { result ≡ read_ipv4 packet.now }
 {
     if packet.len() < IPV4_HEADER {
-        return IpRead::Refused(PacketRefusal::TooShort);
+        return Err(PacketRefusal::TooShort);
     }
     let ihl = packet[0] % 16;
     if ihl < 5 {
-        return IpRead::Refused(PacketRefusal::HeaderLength);
+        return Err(PacketRefusal::HeaderLength);
     }
     if packet[9] != TCP {
-        return IpRead::Refused(PacketRefusal::UnsupportedProtocol);
+        return Err(PacketRefusal::UnsupportedProtocol);
     }
     if is_fragment(packet[6], packet[7]) {
-        return IpRead::Refused(PacketRefusal::Fragment);
+        return Err(PacketRefusal::Fragment);
     }
     let start = 4 * (ihl as usize);
     let end = least(be16_at(packet, 2) as usize, packet.len());
     if end < start + TCP_HEADER {
-        return IpRead::Refused(PacketRefusal::TcpTooShort);
+        return Err(PacketRefusal::TcpTooShort);
     }
-    IpRead::Facts(ipv4_facts(packet, start, end))
+    Ok(ipv4_facts(packet, start, end))
 }
 
+#[tactic(auto, using(quirks::proofs::Named::empty_bits), unfolding(crate::specs::Ip::ipv6_quirks))]
 fn ipv6_quirks(flow_label: u32, ecn: u8) -> QuirkSet
     ensures { result ≡ ipv6_quirks flow_label ecn }
 {
@@ -114,14 +109,14 @@ fn ipv6_quirks(flow_label: u32, ecn: u8) -> QuirkSet
         .add_if(ecn != 0, Quirk::Ecn)
 }
 
+#[tactic(auto, unfolding(crate::specs::Ip::ipv6_facts))]
 fn ipv6_facts(packet: &[u8], end: usize) -> IpFacts
     requires { 40 ≤ length packet.now }
     ensures { result ≡ ipv6_facts packet.now end }
 {
-    let first = packet[0];
     let second = packet[1];
     let flow_label = be32(wide(second % 16), be16_at(packet, 2));
-    let class = first % 16 * 16 + second / 16;
+    let class = packet[0] % 16 * 16 + second / 16;
     IpFacts {
         version: IpVersion::V6,
         ittl: calculate_ttl(packet[7]),
@@ -134,28 +129,29 @@ fn ipv6_facts(packet: &[u8], end: usize) -> IpFacts
     }
 }
 
-fn process_tcp_ipv6(packet: &[u8]) -> IpRead
+fn process_tcp_ipv6(packet: &[u8]) -> Result<IpFacts, PacketRefusal>
     ensures { result ≡ read_ipv6 packet.now }
 {
     if packet.len() < IPV6_HEADER {
-        return IpRead::Refused(PacketRefusal::TooShort);
+        return Err(PacketRefusal::TooShort);
     }
     if packet[6] != TCP {
-        return IpRead::Refused(PacketRefusal::UnsupportedProtocol);
+        return Err(PacketRefusal::UnsupportedProtocol);
     }
     let end = least(IPV6_HEADER + be16_at(packet, 4) as usize, packet.len());
     if end < IPV6_HEADER + TCP_HEADER {
-        return IpRead::Refused(PacketRefusal::TcpTooShort);
+        return Err(PacketRefusal::TcpTooShort);
     }
-    IpRead::Facts(ipv6_facts(packet, end))
+    Ok(ipv6_facts(packet, end))
 }
 
 // The choice by version nibble.
-pub fn read_ip(packet: &[u8]) -> IpRead
+#[tactic(auto, unfolding(crate::specs::Ip::read_ip))]
+pub fn read_ip(packet: &[u8]) -> Result<IpFacts, PacketRefusal>
     ensures { result ≡ read_ip packet.now }
 {
     if packet.len() == 0 {
-        return IpRead::Refused(PacketRefusal::Version);
+        return Err(PacketRefusal::Version);
     }
     let version = packet[0] / 16;
     if version == 4 {
@@ -164,5 +160,5 @@ pub fn read_ip(packet: &[u8]) -> IpRead
     if version == 6 {
         return process_tcp_ipv6(packet);
     }
-    IpRead::Refused(PacketRefusal::Version)
+    Err(PacketRefusal::Version)
 }

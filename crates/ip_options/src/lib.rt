@@ -17,14 +17,14 @@ const IPV6_FRAG: u8 = 44;
 const IPV6_HEADER: usize = 40;
 
 // The bytes of an IPv4 header's options: four for each word above five.
+#[tactic(auto, using(crate::proofs::Laws::v4_empty), unfolding(crate::specs::IpOptions::ipv4_option_length))]
 pub fn calculate_ipv4_length(packet: &[u8]) -> u8
     ensures { result ≡ ipv4_option_length packet.now }
 {
     if packet.len() == 0 {
         return 0;
     }
-    let ihl = packet[0] % 16;
-    if ihl > 5 { (ihl - 5) * 4 } else { 0 }
+    (packet[0] % 16).saturating_sub(5) * 4
 }
 
 // The bytes of the first IPv6 extension header by its own length byte, modulo 256.
@@ -49,6 +49,7 @@ pub fn calculate_ipv6_length(packet: &[u8]) -> u8
 }
 
 // The bytes of the IPv6 payload: what the header says, and never past the slice.
+#[tactic(auto, using(crate::proofs::Laws::payload_size_lem), unfolding(basis::specs::Bytes::be16))]
 fn payload_size(packet: &[u8]) -> usize
     ensures { result ≡ length (payload packet.now) }
 {

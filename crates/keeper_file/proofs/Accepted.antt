@@ -1,16 +1,15 @@
 -- What is read of a signature line of the keeper's file, and where it is refused: exactly the grammar.
+use Rattle.std.specs.Prelude.{Result, Ok}
 use Prim.Native.Nat.{ℕ, ◌+◌}
 use mathlib.Core.Path.{◌≡◌, refl, sym, ◌∙◌, ap, subst}
 use mathlib.Core.Logic.{◌↔◌, ◌⊎◌, inl, inr}
 use mathlib.Core.List.{List}
-use native.Mathlib.Omega.{arith}
 use lib.ListN.{take}
 use Rattle.grammar.specs.Language.{GoesOn, Refused}
 use Rattle.grammar.specs.Reading.{Judgement, means, refused, judgement}
 use Rattle.grammar.specs.Table.{Said}
 use Rattle.grammar.proofs.Judged.{Holds, judged}
-use Rattle.signature_line.specs.declared.LineAnswer.{LineAnswer}
-use Rattle.signature_line.specs.declared.LineAnswer.TheVariants as answer
+use Rattle.signature_line.specs.declared.BadLine.{BadLine}
 use Rattle.signature_line.specs.declared.SignatureRead.{SignatureRead}
 use Rattle.signature_line.specs.Answer.{refused_at, read_of}
 use Rattle.signature_line.specs.Line.{longest}
@@ -42,25 +41,19 @@ kept_one_meaning s m n a b =
 
 -- ---- what was read is not refused, and what was refused is not read
 
-refused_not_read : (k : ℕ) → (refused_at k).answer ≡ answer.Read → ⊥
-unfolding refused_at
-refused_not_read k e = let z : ◌≡◌ {A = ℕ} 0 1 = cc in omega arith
+refused_not_read : (k : ℕ) (m : LineMeaning) → refused_at k ≡ read_of m → ⊥
+refused_not_read k m e = cc
 
-refused_so : (j k : ℕ) → (refused_at j).answer ≡ answer.Refused k → j ≡ k
-unfolding refused_at
-refused_so j k e = cc
-
-read_not_refused : (k : ℕ) → answer.Read ≡ answer.Refused k → ⊥
-read_not_refused k e = let z : ◌≡◌ {A = ℕ} 0 1 = cc in omega arith
+refused_so : (j k : ℕ) → refused_at j ≡ refused_at k → j ≡ k
+refused_so j k e =
+    let same : ◌≡◌ {A = BadLine} (record { offset = j }) (record { offset = k }) = cc in ap (λ (b : BadLine). b.offset) same
 
 same_meaning : (m n : LineMeaning) → read_of m ≡ read_of n → m ≡ n
 same_meaning m n e = ap meaning_read e
 
 -- What was read is its meaning.
-pub kept_read_lem : (s : List ℕ) → (read_kept s).answer ≡ answer.Read → read_kept s ≡ read_of (meaning_read (read_kept s))
-kept_read_lem s e =
-    let r = read_kept s in
-    ap (λ (a : LineAnswer). record { answer = a; raw = r.raw; layout = r.layout }) e
+pub kept_read_lem : (s : List ℕ) (x : SignatureRead) → read_kept s ≡ Ok x → read_kept s ≡ read_of (meaning_read (read_kept s))
+kept_read_lem s x e = e ∙ ap (λ (r : Result SignatureRead BadLine). read_of (meaning_read r)) (sym e)
 
 -- ---- accepted exactly
 
@@ -72,7 +65,7 @@ module _ (s : List ℕ) (m : LineMeaning) where
       let r : read_of (kept_meaning v) ≡ read_of m = sym (short_answer s h ∙ ap kept_answered q) ∙ e in
       (v, (kept_judged s (means v)).0 q, sym (same_meaning (kept_meaning v) m r))
   judged_so h e (refused k) q =
-      absurd (refused_not_read k (ap (λ (r : SignatureRead). r.answer) (sym (short_answer s h ∙ ap kept_answered q) ∙ e)))
+      absurd (refused_not_read k m (sym (short_answer s h ∙ ap kept_answered q) ∙ e))
 
   accepted_only : read_kept s ≡ read_of m → KeptMeans s m
   accepted_only e = by (short_or_long s)
@@ -81,7 +74,7 @@ module _ (s : List ℕ) (m : LineMeaning) where
       by (inl h) = record { says = judged_so h e (judgement s (kept_read s)) refl; short = h }
       by (inr l) =
           let r = long_answer s l.at l.starts l.many in
-          absurd (refused_not_read (l.at + longest) (ap (λ (x : SignatureRead). x.answer) (sym r ∙ e)))
+          absurd (refused_not_read (l.at + longest) m (sym r ∙ e))
 
   accepted_all : KeptMeans s m → read_kept s ≡ read_of m
   unfolding KeptLine
@@ -128,30 +121,23 @@ refusal_gives s k (goes_on_no_more h r) =
 
 module _ (s : List ℕ) (k : ℕ) where
   stopped_so
-      : ShortEnough s → (read_kept s).answer ≡ answer.Refused k → (o : Judgement (Said × (Said × Fields))) → judgement s (kept_read s) ≡ o
+      : ShortEnough s → read_kept s ≡ refused_at k → (o : Judgement (Said × (Said × Fields))) → judgement s (kept_read s) ≡ o
       → KeptRefused s k
   stopped_so h e (means v) q =
-      absurd (read_not_refused k (ap (λ (r : SignatureRead). r.answer) (sym (short_answer s h ∙ ap kept_answered q)) ∙ e))
+      absurd (refused_not_read k (kept_meaning v) (sym e ∙ short_answer s h ∙ ap kept_answered q))
   stopped_so h e (refused j) q =
-      let same : j ≡ k = refused_so j k (ap (λ (r : SignatureRead). r.answer) (sym (short_answer s h ∙ ap kept_answered q)) ∙ e) in
+      let same : j ≡ k = refused_so j k (sym (short_answer s h ∙ ap kept_answered q) ∙ e) in
       goes_on_no_more h ((refused_alike s k).0 ((kept_judged s (refused k)).0 (rw same at q)))
 
-  refused_only : (read_kept s).answer ≡ answer.Refused k → KeptRefused s k
+  refused_only : read_kept s ≡ refused_at k → KeptRefused s k
   refused_only e = by (short_or_long s)
     where
       by : ShortEnough s ⊎ TooLong s → KeptRefused s k
       by (inl h) = stopped_so h e (judgement s (kept_read s)) refl
       by (inr l) =
           let r = long_answer s l.at l.starts l.many in
-          let same = refused_so (l.at + longest) k (ap (λ (x : SignatureRead). x.answer) (sym r) ∙ e) in
+          let same = refused_so (l.at + longest) k (sym r ∙ e) in
           subst (KeptRefused s) same (too_long l.starts l.many)
 
-  refused_all : KeptRefused s k → (read_kept s).answer ≡ answer.Refused k
-  unfolding refused_at
-  refused_all r = ap (λ (x : SignatureRead). x.answer) (refusal_gives s k r)
-
-pub kept_refused : (s : List ℕ) (k : ℕ) → ((read_kept s).answer ≡ answer.Refused k) ↔ KeptRefused s k
-kept_refused s k = (refused_only s k, refused_all s k)
-
-pub kept_nothing_beside : (s : List ℕ) (k : ℕ) → (read_kept s).answer ≡ answer.Refused k → read_kept s ≡ refused_at k
-kept_nothing_beside s k e = refusal_gives s k (refused_only s k e)
+pub kept_refused : (s : List ℕ) (k : ℕ) → (read_kept s ≡ refused_at k) ↔ KeptRefused s k
+kept_refused s k = (refused_only s k, refusal_gives s k)

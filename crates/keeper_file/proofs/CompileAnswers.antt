@@ -1,4 +1,5 @@
 -- What compiling a file answers is what is so of the file.
+use Rattle.std.specs.Prelude.{Result, Ok, Err}
 use Prim.Native.Nat.{ℕ, ◌≤◌}
 use mathlib.Core.Path.{◌≡◌, refl}
 use mathlib.Core.Bool.{Bool, true, false, cond}
@@ -8,13 +9,10 @@ use lib.Dec.{ltb}
 use lib.ListN.{length}
 use borrow.Author.Tests.{ltb-true, ltb-false}
 use Rattle.text.specs.Written.{Lined}
-use Rattle.refusals.specs.declared.Refusal.{Refusal}
 use Rattle.refusals.specs.declared.Refusal.TheVariants as refusal
 use Rattle.signature_line.specs.Meaning.{LineMeaning}
-use Rattle.keeper_file.specs.declared.Compiled.{Compiled}
-use Rattle.keeper_file.specs.declared.Compiled.TheVariants as compiled
-use Rattle.keeper_file.specs.declared.LineCheck.{LineCheck}
-use Rattle.keeper_file.specs.declared.Tally.{Tally}
+use Rattle.keeper_file.specs.declared.Counts.{Counts}
+use Rattle.keeper_file.specs.declared.LineRefusal.{LineRefusal}
 use Rattle.keeper_file.specs.CompileAnswers.{EachMeans, ListSays, LinesBefore, AllGood, CompileAnswer}
 use Rattle.keeper_file.specs.Compiling.{first_bad, most_signatures, most_entries, meanings, tallied_from, refusing_line}
 use Rattle.keeper_file.specs.Compiling.{list_into, tallied_into, checked_into, compile_file}
@@ -73,13 +71,13 @@ module _ (file : List ℕ) (room : ℕ) where
         : (t : Bool) → ltb room (length (list_text ms)) ≡ t → length ms ≤ most_signatures → entry_total ms ≤ most_entries
         → CompileAnswer file room
         (cond t (refusing_line 0 refusal.BufferTooShort)
-        (record { answer = compiled.List (length (list_text ms)); line = list_text ms }))
+        (record { answer = Ok (length (list_text ms)); line = list_text ms }))
     by_room true e few small =
         CompileAnswer.no_room all_good few small (omega (arith, ltb-true room (length (list_text ms)) e, list_size_lem ms kept))
     by_room false e few small =
         CompileAnswer.compiled_list (list_text ms) (list_says few small) (ltb-false room (length (list_text ms)) e)
 
-    by_tally : (t : Tally) → Tallied 0 0 lines t → CompileAnswer file room (tallied_into t (list_text ms) room)
+    by_tally : (t : Result Counts LineRefusal) → Tallied 0 0 lines t → CompileAnswer file room (tallied_into t (list_text ms) room)
     unfolding list_into
     by_tally t (Tallied.counted n total a b few small) =
         by_room (ltb room (length (list_text ms))) refl (omega (arith, meanings_length lines)) (omega arith)
@@ -91,7 +89,7 @@ module _ (file : List ℕ) (room : ℕ) where
         CompileAnswer.too_many_entries all_good line (before file earlier line later splits each.0) (line_meaning line) each.1
         (omega arith) (omega arith) (omega arith)
 
-  by_check : (c : LineCheck) → LinesChecked lines c → CompileAnswer file room (checked_into c lines room)
+  by_check : (c : Result (Unit {0}) LineRefusal) → LinesChecked lines c → CompileAnswer file room (checked_into c lines room)
   by_check c (LinesChecked.all_read all) =
       by_tally all (tallied_from 0 0 lines) (lines_tallied 0 0 lines (omega arith) (omega arith))
   by_check c (LinesChecked.first_bad_lem earlier line later at splits each refused) =
@@ -102,11 +100,11 @@ module _ (file : List ℕ) (room : ℕ) where
   compile_answer = by_check (first_bad lines) (lines_checked lines)
 
   -- Beside a refusal there is no list.
-  pub nothing_written : (k : ℕ) (r : Refusal) → (compile_file file room).answer ≡ compiled.Refused k r → (compile_file file room).line ≡ []
+  pub nothing_written : (r : LineRefusal) → (compile_file file room).answer ≡ Err r → (compile_file file room).line ≡ []
   unfolding refusing_line
-  nothing_written k r = by (compile_file file room) compile_answer
+  nothing_written r = by (compile_file file room) compile_answer
     where
-      by : (x : Lined Compiled) → CompileAnswer file room x → x.answer ≡ compiled.Refused k r → x.line ≡ []
+      by : (x : Lined (Result ℕ LineRefusal)) → CompileAnswer file room x → x.answer ≡ Err r → x.line ≡ []
       by x (CompileAnswer.bad_line line at earlier refused) e = refl
       by x (CompileAnswer.too_many_signatures all line earlier full few) e = refl
       by x (CompileAnswer.too_many_entries all line earlier m means few small large) e = refl

@@ -1,4 +1,5 @@
 -- The file of a list, compiled again, gives the same list up to where the layouts lie.
+use Rattle.std.specs.Prelude.{Ok}
 use Prim.Native.Nat.{ℕ, suc, ◌+◌, ◌<◌, ◌≤◌}
 use mathlib.Core.Path.{◌≡◌, refl, ◌∙◌, ap}
 use mathlib.Core.List.{List}
@@ -7,11 +8,8 @@ use native.Mathlib.Decide.{ℕ_discrete}
 use lib.ListN.{length}
 use borrow.Author.Tests.{le-ltb}
 use Rattle.basis.specs.Bytes.{byte_at, AllBytes, be16}
-use Rattle.siglist.specs.declared.ListAnswer.TheVariants as list
 use Rattle.siglist.specs.List.{record_count, record_at, entries_of, check_list}
 use Rattle.signature_line.specs.Meaning.{LineMeaning}
-use Rattle.keeper_file.specs.declared.LineCheck.TheVariants as check
-use Rattle.keeper_file.specs.declared.Tally.TheVariants as tally
 use Rattle.keeper_file.specs.CompileAnswers.{EachMeans, NotPlace, RecordsMean}
 use Rattle.keeper_file.specs.Compiling.{first_bad, most_signatures, most_entries, meanings, tallied_from, list_into, compile_file}
 use Rattle.keeper_file.specs.FileText.{file_text}
@@ -33,7 +31,7 @@ means_read EachMeans.none = refl
 means_read (EachMeans.one_more {line = line} {m = m} here rest) =
     rw ((kept_accepted line.text m).1 here, means_read rest)
 
-none_bad : {lines : List Numbered} {ms : List LineMeaning} → EachMeans lines ms → first_bad lines ≡ check.Good
+none_bad : {lines : List Numbered} {ms : List LineMeaning} → EachMeans lines ms → first_bad lines ≡ Ok tt
 unfolding first_bad
 none_bad EachMeans.none = refl
 none_bad (EachMeans.one_more {line = line} {m = m} here rest) = rw ((kept_accepted line.text m).1 here) (none_bad rest)
@@ -44,7 +42,7 @@ few_counted
     → total ≡ entries + entry_total ms
     → n ≤ most_signatures
     → total ≤ most_entries
-    → tallied_from signatures entries lines ≡ tally.Counts n total
+    → tallied_from signatures entries lines ≡ Ok (record { signatures = n; entries = total })
 unfolding tallied_from entry_total
 few_counted signatures entries n total EachMeans.none a b few small =
     let same-n : signatures ≡ n = omega arith in
@@ -102,7 +100,7 @@ same_record {l = l} m (KeptFrom.one_more {i = i} {n = n} here rest) means j low 
 
 -- ---- compiled again
 
-module _ (l : List ℕ) (all : AllBytes l) (good : check_list l ≡ list.Good) (few : entries_all l ≤ most_entries) where
+module _ (l : List ℕ) (all : AllBytes l) (good : check_list l ≡ Ok tt) (few : entries_all l ≤ most_entries) where
   kept : (ms : List LineMeaning) × KeptFrom l 0 (record_count l) ms
   kept = all_kept l all good 0 (record_count l) (omega arith)
 

@@ -1,4 +1,5 @@
 -- What is read of a signature line is the judgement on the whole of it, unless its line is over 512 bytes.
+use Rattle.std.specs.Prelude.{Result}
 use Prim.Native.Nat.{ℕ, ◌+◌, ◌-◌, ◌<◌, ◌≤◌}
 use mathlib.Core.Path.{◌≡◌, refl, sym, ◌∙◌, ap}
 use mathlib.Core.Logic.{◌⊎◌, inl, inr}
@@ -12,6 +13,7 @@ use borrow.Author.Tests.{eq-eqb, ne_eqb, eqb-true, eqb-false}
 use Rattle.grammar.specs.Reading.{Read, Judgement, means, refused, judgement}
 use Rattle.grammar.specs.States.{table_read}
 use Rattle.grammar.specs.Table.{Said}
+use Rattle.signature_line.specs.declared.BadLine.{BadLine}
 use Rattle.signature_line.specs.declared.SignatureRead.{SignatureRead}
 use Rattle.signature_line.specs.Answer.{refused_at, read_of}
 use Rattle.signature_line.specs.Line.{longest}
@@ -25,7 +27,7 @@ use Rattle.keeper_file.proofs.KeptField.{head_field, kept_read}
 use Rattle.keeper_file.proofs.LineStart.{starts_there, starts_only}
 
 -- What a judgement on the whole line answers.
-abbrev pub kept_answered : Judgement (Said × (Said × Fields)) → SignatureRead
+abbrev pub kept_answered : Judgement (Said × (Said × Fields)) → Result SignatureRead BadLine
 kept_answered (means v) = read_of (kept_meaning v)
 kept_answered (refused k) = refused_at k
 
@@ -56,12 +58,12 @@ answered_behind
     : (t : Bool) (n : ℕ) (v : Said × Said) (f : Fields) (k : ℕ)
     → kept_behind n v.1.form v.0.number (answered (cond t (means f) (refused k)))
     ≡ kept_answered (cond t (means (v.0, (v.1, f))) (refused (n + k)))
-unfolding kept_behind read_as refused_at
+unfolding kept_behind read_as
 answered_behind true n v f k = refl
 answered_behind false n v f k = refl
 
 refused_behind : (n k kind number : ℕ) → kept_behind n kind number (refused_at k) ≡ refused_at (n + k)
-unfolding kept_behind refused_at
+unfolding kept_behind
 refused_behind n k kind number = refl
 
 -- ---- the reading

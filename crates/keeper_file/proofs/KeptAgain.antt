@@ -1,4 +1,5 @@
 -- The line of a good record in a keeper's file means the record, with its kind, its label and its entries; only their place is not said.
+use Rattle.std.specs.Prelude.{Ok}
 use Prim.Native.Nat.{ℕ, zero, suc, ◌+◌, ◌-◌, ◌<◌, ◌≤◌}
 use mathlib.Core.Path.{◌≡◌, refl, sym, ◌∙◌, ap}
 use mathlib.Core.Logic.{inl, inr}
@@ -16,7 +17,6 @@ use Rattle.basis.proofs.Tests.{and_left, and_false}
 use Rattle.text.specs.Decimal.{decimal}
 use Rattle.sigrecord.specs.Record.{entry_count, label_of, first_entry}
 use Rattle.sigrecord.specs.WellFormed.{scalars_good}
-use Rattle.siglist.specs.declared.ListAnswer.TheVariants as list
 use Rattle.siglist.specs.List.{record_count, record_start, record_at, entries_of, layout_lies, record_good, check_list}
 use Rattle.siglist.proofs.FirstBad.{good_fits, each_good}
 use Rattle.grammar.specs.Numeral.{any}
@@ -99,7 +99,7 @@ pub record KeptAgain (l : List ℕ) (i : ℕ) (m : LineMeaning) : Type 0 where
   pub entries : entries_in m.layout ≡ entries_of l (record_at l i)
   pub counted : m.layout.count ≡ entry_count (record_at l i)
 
-module _ (l : List ℕ) (i : ℕ) (all : AllBytes l) (good : check_list l ≡ list.Good) (there : i < record_count l) where
+module _ (l : List ℕ) (i : ℕ) (all : AllBytes l) (good : check_list l ≡ Ok tt) (there : i < record_count l) where
   abbrev r : List ℕ
   r = record_at l i
 
@@ -210,7 +210,7 @@ pub data KeptFrom (l : List ℕ) : ℕ → ℕ → List LineMeaning → Type 0 w
       → KeptFrom l i (suc n) (m ∷ ms)
 
 pub all_kept
-    : (l : List ℕ) → AllBytes l → check_list l ≡ list.Good → (i n : ℕ) → i + n ≤ record_count l
+    : (l : List ℕ) → AllBytes l → check_list l ≡ Ok tt → (i n : ℕ) → i + n ≤ record_count l
     → (ms : List LineMeaning) × KeptFrom l i n ms
 all_kept l all good i zero h = ([], KeptFrom.none)
 all_kept l all good i (suc n) h =

@@ -1,4 +1,5 @@
 -- The signature lines of a file, read one after the other: the first that is bad, and what they count.
+use Rattle.std.specs.Prelude.{Result, Ok, Err}
 use Prim.Native.Nat.{ℕ, suc, ◌+◌, ◌<◌, ◌≤◌}
 use mathlib.Core.Path.{◌≡◌, refl, ap}
 use mathlib.Core.Bool.{Bool, true, false, cond}
@@ -8,16 +9,14 @@ use lib.Dec.{ltb}
 use lib.ListN.{length}
 use borrow.Author.Tests.{ltb-true, ltb-false}
 use Rattle.refusals.specs.declared.Refusal.TheVariants as refusal
-use Rattle.signature_line.specs.declared.LineAnswer.{LineAnswer}
-use Rattle.signature_line.specs.declared.LineAnswer.TheVariants as answer
+use Rattle.signature_line.specs.declared.BadLine.{BadLine}
+use Rattle.signature_line.specs.declared.SignatureRead.{SignatureRead}
 use Rattle.signature_line.specs.Meaning.{LineMeaning}
 use Rattle.signature_line.proofs.FieldsGood.{Each}
-use Rattle.keeper_file.specs.declared.LineCheck.{LineCheck}
-use Rattle.keeper_file.specs.declared.LineCheck.TheVariants as check
-use Rattle.keeper_file.specs.declared.Tally.{Tally}
-use Rattle.keeper_file.specs.declared.Tally.TheVariants as tally
+use Rattle.keeper_file.specs.declared.Counts.{Counts}
+use Rattle.keeper_file.specs.declared.LineRefusal.{LineRefusal}
 use Rattle.keeper_file.specs.CompileAnswers.{EachMeans}
-use Rattle.keeper_file.specs.Compiling.{bad_or, first_bad, most_signatures, most_entries, meanings, tallied_from}
+use Rattle.keeper_file.specs.Compiling.{refused, bad_or, first_bad, most_signatures, most_entries, meanings, tallied_from}
 use Rattle.keeper_file.specs.KeptLine.{KeptMeans, KeptRefused}
 use Rattle.keeper_file.specs.KeptReader.{read_kept, meaning_read}
 use Rattle.keeper_file.specs.Lines.{Numbered}
@@ -54,55 +53,56 @@ each_before lines earlier line later splits all = by earlier (rw (← splits) al
 
 -- ---- the first bad line
 
-pub data LinesChecked (lines : List Numbered) : LineCheck → Type 0 where
-  all_read : EachRead lines → LinesChecked lines check.Good
+pub data LinesChecked (lines : List Numbered) : Result (Unit {0}) LineRefusal → Type 0 where
+  all_read : EachRead lines → LinesChecked lines (Ok tt)
   first_bad_lem
       : (earlier : List Numbered) (line : Numbered) (later : List Numbered) (at : ℕ) → lines ≡ earlier ++ line ∷ later
       → EachRead earlier
       → KeptRefused line.text at
-      → LinesChecked lines (check.Bad line.number at)
+      → LinesChecked lines (refused line.number (refusal.BadLine at))
 
 pub lines_checked : (lines : List Numbered) → LinesChecked lines (first_bad lines)
 unfolding first_bad
 lines_checked [] = LinesChecked.all_read tt
-lines_checked (line ∷ lines) = by_answer (read_kept line.text).answer refl (lines_checked lines)
+lines_checked (line ∷ lines) = by_answer (read_kept line.text) refl (lines_checked lines)
   where
     later_ones
-        : {c : LineCheck} → KeptMeans line.text (line_meaning line) → LinesChecked lines c → LinesChecked (line ∷ lines) c
+        : {c : Result (Unit {0}) LineRefusal} → KeptMeans line.text (line_meaning line) → LinesChecked lines c
+        → LinesChecked (line ∷ lines) c
     later_ones here (LinesChecked.all_read all) = LinesChecked.all_read (here, all)
-    later_ones here (LinesChecked.first_bad_lem earlier bad later at splits each refused) =
-        LinesChecked.first_bad_lem (line ∷ earlier) bad later at (ap (λ (rest : List Numbered). line ∷ rest) splits) (here, each) refused
+    later_ones here (LinesChecked.first_bad_lem earlier bad later at splits each bad_there) =
+        LinesChecked.first_bad_lem (line ∷ earlier) bad later at (ap (λ (rest : List Numbered). line ∷ rest) splits) (here, each) bad_there
 
     by_answer
-        : (a : LineAnswer) → (read_kept line.text).answer ≡ a → LinesChecked lines (first_bad lines)
+        : (a : Result SignatureRead BadLine) → read_kept line.text ≡ a → LinesChecked lines (first_bad lines)
         → LinesChecked (line ∷ lines) (bad_or a line.number (first_bad lines))
-    by_answer answer.Read e rest = later_ones ((kept_accepted line.text (line_meaning line)).0 (kept_read_lem line.text e)) rest
-    by_answer (answer.Refused at) e rest =
-        LinesChecked.first_bad_lem [] line lines at refl tt ((kept_refused line.text at).0 e)
+    by_answer (Ok x) e rest = later_ones ((kept_accepted line.text (line_meaning line)).0 (kept_read_lem line.text x e)) rest
+    by_answer (Err bad) e rest =
+        LinesChecked.first_bad_lem [] line lines bad.offset refl tt ((kept_refused line.text bad.offset).0 e)
 
 -- ---- what they count
 
-pub data Tallied (signatures entries : ℕ) (lines : List Numbered) : Tally → Type 0 where
+pub data Tallied (signatures entries : ℕ) (lines : List Numbered) : Result Counts LineRefusal → Type 0 where
   counted
       : (n total : ℕ) → n ≡ signatures + length lines → total ≡ entries + entry_total (meanings lines) → n ≤ most_signatures
       → total ≤ most_entries
-      → Tallied signatures entries lines (tally.Counts n total)
+      → Tallied signatures entries lines (Ok (record { signatures = n; entries = total }))
   many_signatures
       : (earlier : List Numbered) (line : Numbered) (later : List Numbered) → lines ≡ earlier ++ line ∷ later
       → signatures + length earlier ≡ most_signatures
       → entries + entry_total (meanings earlier) ≤ most_entries
-      → Tallied signatures entries lines (tally.TooMany line.number refusal.TooManySignatures)
+      → Tallied signatures entries lines (refused line.number refusal.TooManySignatures)
   many_entries
       : (earlier : List Numbered) (line : Numbered) (later : List Numbered) → lines ≡ earlier ++ line ∷ later
       → signatures + length earlier < most_signatures
       → entries + entry_total (meanings earlier) ≤ most_entries
-      → most_entries < entries + entry_total (meanings earlier) + (read_kept line.text).layout.count
-      → Tallied signatures entries lines (tally.TooMany line.number refusal.TooManyEntries)
+      → most_entries < entries + entry_total (meanings earlier) + (line_meaning line).layout.count
+      → Tallied signatures entries lines (refused line.number refusal.TooManyEntries)
 
 -- One line more in front of those that are counted.
 one_line
-    : {signatures entries : ℕ} {line : Numbered} {lines : List Numbered} {t : Tally}
-    → Tallied (signatures + 1) (entries + (read_kept line.text).layout.count) lines t
+    : {signatures entries : ℕ} {line : Numbered} {lines : List Numbered} {t : Result Counts LineRefusal}
+    → Tallied (signatures + 1) (entries + (line_meaning line).layout.count) lines t
     → Tallied signatures entries (line ∷ lines) t
 unfolding meanings entry_total
 one_line (Tallied.counted n total a b few small) = Tallied.counted n total (omega arith) (omega arith) few small
@@ -113,16 +113,16 @@ one_line {line = line} (Tallied.many_entries earlier many later splits few small
     (omega arith) (omega arith) (omega arith)
 
 -- By the two tests, whatever is counted behind the line.
-module _ (signatures entries : ℕ) (line : Numbered) (lines : List Numbered) (rest : Tally) where
+module _ (signatures entries : ℕ) (line : Numbered) (lines : List Numbered) (rest : Result Counts LineRefusal) where
   abbrev more : ℕ
-  more = entries + (read_kept line.text).layout.count
+  more = entries + (line_meaning line).layout.count
 
   abbrev Onward : Type 0
   Onward = signatures + 1 ≤ most_signatures → more ≤ most_entries → Tallied (signatures + 1) more lines rest
 
   by_entries
       : (t : Bool) → ltb most_entries more ≡ t → signatures + 1 ≤ most_signatures → entries ≤ most_entries → Onward
-      → Tallied signatures entries (line ∷ lines) (cond t (tally.TooMany line.number refusal.TooManyEntries) rest)
+      → Tallied signatures entries (line ∷ lines) (cond t (refused line.number refusal.TooManyEntries) rest)
   unfolding meanings entry_total
   by_entries true e few small onward =
       Tallied.many_entries [] line lines refl (omega arith) (omega arith) (omega (arith, ltb-true most_entries more e))
@@ -131,8 +131,8 @@ module _ (signatures entries : ℕ) (line : Numbered) (lines : List Numbered) (r
   by_signatures
       : (t : Bool) → ltb most_signatures (signatures + 1) ≡ t → signatures ≤ most_signatures → entries ≤ most_entries → Onward
       → Tallied signatures entries (line ∷ lines)
-      (cond t (tally.TooMany line.number refusal.TooManySignatures)
-      (cond (ltb most_entries more) (tally.TooMany line.number refusal.TooManyEntries) rest))
+      (cond t (refused line.number refusal.TooManySignatures)
+      (cond (ltb most_entries more) (refused line.number refusal.TooManyEntries) rest))
   unfolding meanings entry_total
   by_signatures true e few small onward =
       Tallied.many_signatures [] line lines refl (omega (arith, ltb-true most_signatures (signatures + 1) e)) (omega arith)
@@ -146,6 +146,6 @@ unfolding tallied_from meanings entry_total
 lines_tallied signatures entries [] few small =
     Tallied.counted signatures entries (omega arith) (omega arith) few small
 lines_tallied signatures entries (line ∷ lines) few small =
-    let more = entries + (read_kept line.text).layout.count in
+    let more = entries + (line_meaning line).layout.count in
     by_signatures signatures entries line lines (tallied_from (signatures + 1) more lines) (ltb most_signatures (signatures + 1)) refl
     few small (lines_tallied (signatures + 1) more lines)

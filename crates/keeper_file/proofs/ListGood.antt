@@ -1,4 +1,5 @@
 -- The list of what a file's lines mean is well formed, and its records mean that.
+use Rattle.std.specs.Prelude.{Ok}
 use Prim.Native.Nat.{ℕ, ◌+◌, ◌*◌}
 use mathlib.Core.Path.{◌≡◌, refl, ◌∙◌, ap}
 use mathlib.Core.Bool.{true}
@@ -8,7 +9,6 @@ use lib.ListN.{length, length-append}
 use borrow.Author.Tests.{le-leb}
 use Rattle.basis.specs.Bytes.{byte_at}
 use Rattle.sigrecord.specs.Record.{first_entry, entry_count}
-use Rattle.siglist.specs.declared.ListAnswer.TheVariants as list
 use Rattle.siglist.specs.List.{record_count, records_offset, layout_count, layout_offset, list_fits}
 use Rattle.siglist.specs.List.{record_at, layout_lies, record_good, records_from, check_list}
 use Rattle.signature_line.specs.Meaning.{LineMeaning}
@@ -69,7 +69,7 @@ module _ (l : List ℕ) (i first : ℕ) (m : LineMeaning) (ms : List LineMeaning
 -- ---- the records from one on
 
 records_good
-    : (l : List ℕ) (i first : ℕ) (ms : List LineMeaning) → AllKept ms → Left l i first ms → records_from l i (length ms) ≡ list.Good
+    : (l : List ℕ) (i first : ℕ) (ms : List LineMeaning) → AllKept ms → Left l i first ms → records_from l i (length ms) ≡ Ok tt
 unfolding records_from
 records_good l i first [] good left = refl
 records_good l i first (m ∷ ms) good left =
@@ -98,7 +98,7 @@ module _ (ms : List LineMeaning) (good : AllKept ms) where
             (omega (arith, list_size_lem ms good, header_layouts ms, header_entries ms)),
       )
 
-  pub list_good : check_list (list_text ms) ≡ list.Good
+  pub list_good : check_list (list_text ms) ≡ Ok tt
   unfolding check_list
   list_good = rw (fits, header_signatures ms) (records_good (list_text ms) 0 0 ms good (all_left ms good))
 

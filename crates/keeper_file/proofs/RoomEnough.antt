@@ -1,5 +1,6 @@
 -- The list of a file has at most twice the file's bytes, and 8: a record has 24 bytes and its line at least 17, an entry has 2 and its line
 -- at least one for it.
+use Rattle.std.specs.Prelude.{Result}
 use Prim.Native.Nat.{ℕ, zero, suc, ◌+◌, ◌*◌, ◌≤◌}
 use mathlib.Core.Path.{◌≡◌, refl, ap}
 use mathlib.Core.Logic.{inl, inr}
@@ -17,7 +18,7 @@ use Rattle.grammar.proofs.Tables.{table_empty}
 use Rattle.signature_line.specs.Line.{colon, comma, TtlText, LayoutText, QuirksText, AfterScale, AfterOlen, LineSays}
 use Rattle.signature_line.specs.Meaning.{LineMeaning, layout_of}
 use Rattle.signature_line.specs.Words.{version, bare_byte, ttl_form, mss, window, scale, entry, payload}
-use Rattle.keeper_file.specs.declared.Compiled.{Compiled}
+use Rattle.keeper_file.specs.declared.LineRefusal.{LineRefusal}
 use Rattle.keeper_file.specs.CompileAnswers.{EachMeans, list_size, CompileAnswer}
 use Rattle.keeper_file.specs.Compiling.{refusing_line, compile_file, compiled_verdict}
 use Rattle.keeper_file.specs.KeptLine.{blank, label, mark, KeptLine}
@@ -209,7 +210,7 @@ pub never_short
 unfolding refusing_line
 never_short file room enough = by (compile_file file room) (compile_answer file room)
   where
-    by : (x : Lined Compiled) → CompileAnswer file room x → number_of (compiled_verdict x.answer) ≡ 15 → ⊥
+    by : (x : Lined (Result ℕ LineRefusal)) → CompileAnswer file room x → number_of (compiled_verdict x.answer) ≡ 15 → ⊥
     by x (CompileAnswer.bad_line line at before refused) e = let no : ◌≡◌ {A = ℕ} 13 15 = e in omega arith
     by x (CompileAnswer.too_many_signatures all line before full few) e = let no : ◌≡◌ {A = ℕ} 24 15 = e in omega arith
     by x (CompileAnswer.too_many_entries all line before m means few small large) e = let no : ◌≡◌ {A = ℕ} 25 15 = e in omega arith

@@ -1,16 +1,14 @@
 -- When a file is compiled and when it is refused, each answer with all that is so then; and what the list that is written says. No reader
 -- is named here.
-use Rattle.std.specs.Prelude.{ℕ, ◌+◌, ◌*◌, ◌<◌, ◌≤◌, ◌≡◌, List, [], ◌∷◌, ◌++◌, length}
+use Rattle.std.specs.Prelude.{ℕ, ◌+◌, ◌*◌, ◌<◌, ◌≤◌, ◌≡◌, List, [], ◌∷◌, ◌++◌, length, Result, Ok}
 use Rattle.basis.specs.Bytes.{byte_at, AllBytes}
 use Rattle.text.specs.Written.{Lined}
 use Rattle.refusals.specs.declared.Refusal.TheVariants as refusal
 use Rattle.sigrecord.specs.Record.{signature_of}
-use Rattle.siglist.specs.declared.ListAnswer.TheVariants as list
 use Rattle.siglist.specs.List.{record_count, record_at, entries_of, check_list}
 use Rattle.signature_line.specs.Meaning.{LineMeaning}
 use Rattle.signature_line.specs.OneRecord.{entries_in}
-use Rattle.keeper_file.specs.declared.Compiled.{Compiled}
-use Rattle.keeper_file.specs.declared.Compiled.TheVariants as compiled
+use Rattle.keeper_file.specs.declared.LineRefusal.{LineRefusal}
 use Rattle.keeper_file.specs.Compiling.{most_signatures, most_entries, refusing_line}
 use Rattle.keeper_file.specs.KeptLine.{KeptRefused, KeptMeans}
 use Rattle.keeper_file.specs.Lines.{Numbered, signature_lines}
@@ -50,7 +48,7 @@ list_size ms = 8 + 2 * entry_total ms + 24 * length ms
 -- "the list is well formed; it has one record for each signature line, in order; record i means what line i says, with its label and kind"
 pub record ListSays (file list' : List ℕ) : Type 0 where
   pub bytes : AllBytes list'
-  pub good : check_list list' ≡ list.Good
+  pub good : check_list list' ≡ Ok tt
   pub meanings : List LineMeaning
   pub each : EachMeans (signature_lines file) meanings
   pub records : RecordsMean list' 0 meanings
@@ -74,7 +72,7 @@ pub record AllGood (file : List ℕ) : Type 0 where
   pub means : List LineMeaning
   pub each : EachMeans (signature_lines file) means
 
-pub data CompileAnswer (file : List ℕ) (room : ℕ) : Lined Compiled → Type 0 where
+pub data CompileAnswer (file : List ℕ) (room : ℕ) : Lined (Result ℕ LineRefusal) → Type 0 where
   -- "the first bad line"
   bad_line
       : (line : Numbered) (at : ℕ) → LinesBefore file line → KeptRefused line.text at
@@ -97,4 +95,4 @@ pub data CompileAnswer (file : List ℕ) (room : ℕ) : Lined Compiled → Type 
       → CompileAnswer file room (refusing_line 0 refusal.BufferTooShort)
   compiled_list
       : (list' : List ℕ) → ListSays file list' → length list' ≤ room
-      → CompileAnswer file room (record { answer = compiled.List (length list'); line = list' })
+      → CompileAnswer file room (record { answer = Ok (length list'); line = list' })

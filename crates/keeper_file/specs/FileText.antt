@@ -1,14 +1,13 @@
 -- The way back: a signature list as a keeper's file.
-use Rattle.std.specs.Prelude.{ℕ, zero, suc, ◌+◌, cond, List, [], ◌∷◌, ◌++◌}
+use Rattle.std.specs.Prelude.{ℕ, zero, suc, ◌+◌, cond, List, [], ◌∷◌, ◌++◌, Result, Ok, Err}
 use Rattle.basis.specs.Ascii.{ascii}
 use Rattle.text.specs.Decimal.{newline, decimal}
 use Rattle.text.specs.Written.{Lined}
 use Rattle.refusals.specs.declared.Refusal.TheVariants as refusal
 use Rattle.sigrecord.specs.Record.{label_of, is_generic}
-use Rattle.siglist.specs.declared.ListAnswer.{ListAnswer}
-use Rattle.siglist.specs.declared.ListAnswer.TheVariants as list
+use Rattle.refusals.specs.declared.ListRefusal.{ListRefusal}
 use Rattle.siglist.specs.List.{record_count, record_at, check_list}
-use Rattle.written_line.specs.declared.Wrote.{Wrote}
+use Rattle.refusals.specs.declared.Refusal.{Refusal}
 use Rattle.written_line.specs.LineText.{record_text}
 use Rattle.written_line.specs.Writing.{refusing, line_into}
 use Rattle.keeper_file.specs.KeptLine.{blank}
@@ -30,9 +29,9 @@ unfoldable pub file_text : List ℕ → List ℕ
 file_text l = file_from l 0 (record_count l)
 
 -- Refusals 9 and 10 of the list, then 15.
-abbrev pub file_of : ListAnswer → List ℕ → ℕ → Lined Wrote
-file_of (list.Refused r) l room = refusing (refusal.List r)
-file_of list.Good l room = line_into (file_text l) room
+abbrev pub file_of : Result (Unit {0}) ListRefusal → List ℕ → ℕ → Lined (Result ℕ Refusal)
+file_of (Err r) l room = refusing (refusal.List r)
+file_of (Ok tt) l room = line_into (file_text l) room
 
-unfoldable pub write_file : List ℕ → ℕ → Lined Wrote
+unfoldable pub write_file : List ℕ → ℕ → Lined (Result ℕ Refusal)
 write_file l room = file_of (check_list l) l room

@@ -1,6 +1,6 @@
 -- The readings of a keeper's file that were decided, each by a file: its lines and their numbers, what a signature line of it means, the
 -- list that it is compiled into, and the file that is written of that list. `FileValues` is the statement; every case is computed.
-use Rattle.std.specs.Prelude.{ℕ, ◌≡◌, List, [], ◌∷◌, ◌++◌}
+use Rattle.std.specs.Prelude.{ℕ, ◌≡◌, List, [], ◌∷◌, ◌++◌, Ok}
 use Rattle.basis.specs.Ascii.{ascii}
 use Rattle.refusals.specs.declared.Refusal.TheVariants as refusal
 use Rattle.signature_line.specs.Answer.{read_of, refused_at}
@@ -8,7 +8,6 @@ use Rattle.signature_line.specs.LineValues.{record_of}
 use Rattle.signature_line.specs.Meaning.{LineMeaning}
 use Rattle.written_line.specs.RoundTrip.{whole_line}
 use Rattle.written_line.specs.Writing.{refusing}
-use Rattle.keeper_file.specs.declared.Compiled.TheVariants as compiled
 use Rattle.keeper_file.specs.Compiling.{refusing_line, compile_file}
 use Rattle.keeper_file.specs.FileText.{write_file}
 use Rattle.keeper_file.specs.KeptReader.{read_kept}
@@ -87,9 +86,9 @@ abbrev pub bad_second : List ℕ
 bad_second = ascii "; a" lf ascii "7 b" lf ascii "c"
 
 pub record FilesCompiled : Type 0 where
-  pub two : compile_file two_lines 62 ≡ record { answer = compiled.List 62; line = two_records }
+  pub two : compile_file two_lines 62 ≡ record { answer = Ok 62; line = two_records }
   pub no_room : compile_file two_lines 61 ≡ refusing_line 0 refusal.BufferTooShort
-  pub nothing : compile_file [] 8 ≡ record { answer = compiled.List 8; line = 0 ∷ 0 ∷ 0 ∷ 8 ∷ 0 ∷ 0 ∷ 0 ∷ 8 ∷ [] }
+  pub nothing : compile_file [] 8 ≡ record { answer = Ok 8; line = 0 ∷ 0 ∷ 0 ∷ 8 ∷ 0 ∷ 0 ∷ 0 ∷ 8 ∷ [] }
   -- a bad line comes before a buffer that is too short
   pub bad_line : compile_file bad_second 0 ≡ refusing_line 2 (refusal.BadLine 2)
   pub back : write_file two_records 57 ≡ whole_line two_written

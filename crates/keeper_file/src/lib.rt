@@ -4,23 +4,16 @@
 
 use refusals::Refusal;
 
-// A list of so many bytes was written, or none was: the number of the line that is refused, from 1 (0 if the buffer is), and the refusal.
+// Why a file is refused, with the number of the line that is, from 1; 0 if no line is at fault, but the buffer.
 #[derive(Clone, Copy)]
-pub enum Compiled {
-    List(usize),
-    Refused(usize, Refusal),
+pub struct LineRefusal {
+    pub line: usize,
+    pub refusal: Refusal,
 }
 
-// Every signature line of a file is one; or the first that is not, by its number, and the offset in it.
+// How many signatures and layout entries a file has.
 #[derive(Clone, Copy)]
-pub enum LineCheck {
-    Good,
-    Bad(usize, usize),
-}
-
-// How many signatures and layout entries a file has; or the number of the line with which they are too many, and the refusal.
-#[derive(Clone, Copy)]
-pub enum Tally {
-    Counts(usize, usize),
-    TooMany(usize, Refusal),
+pub struct Counts {
+    pub signatures: usize,
+    pub entries: usize,
 }

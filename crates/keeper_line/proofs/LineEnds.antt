@@ -1,6 +1,6 @@
 -- Where a line ends, in the expressions that the code makes.
 use Prim.Native.Nat.{ℕ, suc, ◌+◌, ◌-◌, ◌<◌, ◌≤◌}
-use mathlib.Core.Path.{◌≡◌, refl}
+use mathlib.Core.Path.{◌≡◌}
 use mathlib.Core.Bool.{Bool, true, false, cond, ◌&&◌}
 use mathlib.Core.List.{List, [], ◌∷◌}
 use native.Mathlib.Omega.{arith}
@@ -9,9 +9,9 @@ use native.Mathlib.Numerals.{add-one}
 use lib.Dec.{eqb, ltb}
 use lib.ListN.{length, drop, length-drop, drop_of_length-le}
 use lib.Seq.{drop-cons}
-use borrow.Author.Tests.{lt-ltb, le-ltb, eq-eqb, ne_eqb}
+use borrow.Author.Tests.{le-ltb, eq-eqb, ne_eqb}
 use Rattle.basis.specs.Bytes.{byte_at}
-use Rattle.keeper_file.specs.Lines.{line_feed, carriage_return, passed_over}
+use Rattle.keeper_file.specs.Lines.{line_feed, carriage_return}
 use Rattle.keeper_line.specs.Places.{to_feed, feed_at, text_end}
 
 -- ---- the line feed, one byte at a time
@@ -70,44 +70,3 @@ module _ (s : List ℕ) (at : ℕ) where
             none : (k : Bool) → at ≤ cond (k && false && eqb (byte_at s (feed - 1)) carriage_return) (feed - 1) feed
             none true = h
             none false = h
-
--- ---- the carriage return, test by test
-
-module _ (s : List ℕ) (at feed : ℕ) where
-  abbrev dropped : Bool → Bool → Bool → ℕ
-  dropped fed some return = cond (fed && some && return) (feed - 1) feed
-
-  pub end_unfed : length s ≤ feed → feed ≡ text_end s at feed
-  unfolding text_end
-  end_unfed h = rw (le-ltb feed (length s) h)
-
-  pub end_empty : feed ≤ at → feed ≡ text_end s at feed
-  unfolding text_end
-  end_empty h = rw (le-ltb at feed h) (by (ltb feed (length s)))
-    where
-      by : (k : Bool) → feed ≡ dropped k false (eqb (byte_at s (feed - 1)) carriage_return)
-      by true = refl
-      by false = refl
-
-  pub end_kept : (byte_at s (feed - 1) ≡ carriage_return → ⊥) → feed ≡ text_end s at feed
-  unfolding text_end
-  end_kept d = rw (ne_eqb (byte_at s (feed - 1)) carriage_return d) (by (ltb feed (length s)) (ltb at feed))
-    where
-      by : (j k : Bool) → feed ≡ dropped j k false
-      by true true = refl
-      by true false = refl
-      by false k = refl
-
-  pub end_dropped : feed < length s → at < feed → byte_at s (feed - 1) ≡ carriage_return → feed - 1 ≡ text_end s at feed
-  unfolding text_end
-  end_dropped h k e = rw (lt-ltb feed (length s) h, lt-ltb at feed k, eq-eqb (byte_at s (feed - 1)) carriage_return e)
-
--- ---- a line that is passed over
-
-pub none_passed : (s : List ℕ) → length s ≡ 0 → true ≡ passed_over s
-none_passed [] h = refl
-none_passed (b ∷ s) h = absurd (omega arith)
-
-pub first_passed : (s : List ℕ) → (length s ≡ 0 → ⊥) → eqb (byte_at s 0) 59 ≡ passed_over s
-first_passed [] h = absurd (h refl)
-first_passed (b ∷ s) h = refl

@@ -1,14 +1,15 @@
 -- A line of a file over what the calls gave; and a turn of a loop over the lines of a file.
 use Prim.Native.Nat.{ℕ, ◌+◌, ◌<◌, ◌≤◌}
-use mathlib.Core.Path.{◌≡◌, sym, ◌∙◌, ap}
+use mathlib.Core.Path.{◌≡◌, refl, sym, ◌∙◌, ap}
 use mathlib.Core.Bool.{Bool, true, false}
 use mathlib.Core.List.{List, [], ◌∷◌}
+use Rattle.std.specs.Prelude.{Option, None, Some, Result}
 use native.Mathlib.Omega.{arith}
 use lib.ListN.{length, drop}
 use borrow.Author.Tests.{lt-ltb, le-ltb}
 use Rattle.basis.specs.Bytes.{part}
 use Rattle.signature_line.specs.declared.SignatureRead.{SignatureRead}
-use Rattle.signature_line.specs.Answer.{refused_at}
+use Rattle.signature_line.specs.declared.BadLine.{BadLine}
 use Rattle.keeper_file.specs.KeptReader.{read_kept}
 use Rattle.keeper_file.specs.Lines.{lines_of, passed_over, Numbered, numbered_from}
 use Rattle.keeper_line.specs.declared.KeptAt.{KeptAt}
@@ -16,20 +17,18 @@ use Rattle.keeper_line.specs.Places.{feed_at, text_end, text_at, read_unless, ke
 use Rattle.keeper_line.proofs.LineEnds.{feed_within, end_before, end_behind}
 use Rattle.keeper_line.proofs.Lines.{line_step, no_line}
 
-abbrev line_of : ℕ → Bool → SignatureRead → KeptAt
-line_of next passed read = record { next = next; passed = passed; read = read }
+abbrev line_of : ℕ → Option (Result SignatureRead BadLine) → KeptAt
+line_of next read = record { next = next; read = read }
 
 -- ---- what the calls gave
 
-pub nothing_at
-    : (s : List ℕ) (at : ℕ) → length s ≤ at → (r : SignatureRead) → r ≡ refused_at 0 → line_of at true r ≡ kept_at s at
+pub nothing_at : (s : List ℕ) (at : ℕ) → length s ≤ at → line_of at None ≡ kept_at s at
 unfolding kept_at
-nothing_at s at h r e = rw (le-ltb at (length s) h, e)
+nothing_at s at h = rw (le-ltb at (length s) h)
 
 kept_there
     : (s : List ℕ) (at : ℕ) → at < length s
-    → kept_at s at
-    ≡ line_of (feed_at s at + 1) (passed_over (text_at s at)) (read_unless (passed_over (text_at s at)) (text_at s at))
+    → kept_at s at ≡ line_of (feed_at s at + 1) (read_unless (passed_over (text_at s at)) (text_at s at))
 unfolding kept_at
 kept_there s at h = rw (lt-ltb at (length s) h)
 
@@ -48,15 +47,10 @@ module _
     text_is : part at end s ≡ text_at s at
     text_is = ap (λ (k : ℕ). part at k s) (end_is ∙ ap (text_end s at) feed-is)
 
-    module _ (passed : Bool) (passed_is : passed ≡ passed_over (part at end s)) where
-      passed_there : passed ≡ passed_over (text_at s at)
-      passed_there = passed_is ∙ ap passed_over text_is
-
-      pub passes : passed ≡ true → (r : SignatureRead) → r ≡ refused_at 0 → line_of (feed + 1) true r ≡ kept_at s at
-      passes t r e = rw (feed-is, e) (sym (kept_there s at h ∙ rw (sym passed_there ∙ t)))
-
-      pub reads : passed ≡ false → (r : SignatureRead) → r ≡ read_kept (part at end s) → line_of (feed + 1) false r ≡ kept_at s at
-      reads t r e = rw (feed-is, e, text_is) (sym (kept_there s at h ∙ rw (sym passed_there ∙ t)))
+    pub reads
+        : (read : Option (Result SignatureRead BadLine)) → read ≡ read_unless (passed_over (part at end s)) (part at end s)
+        → line_of (feed + 1) read ≡ kept_at s at
+    reads read e = rw (feed-is, e, text_is) (sym (kept_there s at h))
 
 -- ---- a turn
 
@@ -69,14 +63,14 @@ unfolding numbered_from
 lines_end s k at h = rw (no_line s at h)
 
 module _ (s : List ℕ) (at : ℕ) (h : at < length s) (l : KeptAt) (l-is : l ≡ kept_at s at) where
-  there : l ≡ line_of (feed_at s at + 1) (passed_over (text_at s at)) (read_unless (passed_over (text_at s at)) (text_at s at))
+  abbrev text : List ℕ
+  text = text_at s at
+
+  there : l ≡ line_of (feed_at s at + 1) (read_unless (passed_over text) text)
   there = l-is ∙ kept_there s at h
 
   next_is : l.next ≡ feed_at s at + 1
   next_is = ap (λ (x : KeptAt). x.next) there
-
-  passed_is : passed_over (text_at s at) ≡ l.passed
-  passed_is = sym (ap (λ (x : KeptAt). x.passed) there)
 
   pub goes_further : at < l.next
   goes_further = omega (arith, next_is)
@@ -84,18 +78,33 @@ module _ (s : List ℕ) (at : ℕ) (h : at < length s) (l : KeptAt) (l-is : l �
   pub stays_within : l.next ≤ length s + 1
   stays_within = omega (arith, next_is, feed_within s at (omega arith))
 
-  pub nothing_read : l.passed ≡ true → l.read ≡ refused_at 0
-  nothing_read t = ap (λ (x : KeptAt). x.read) there ∙ rw (passed_is ∙ t)
-
-  pub line_read : l.passed ≡ false → l.read ≡ read_kept (text_at s at)
-  line_read t = ap (λ (x : KeptAt). x.read) there ∙ rw (passed_is ∙ t)
+  read_is : l.read ≡ read_unless (passed_over text) text
+  read_is = ap (λ (x : KeptAt). x.read) there
 
   -- The line is passed over, or is the next signature line.
-  pub turn_passed : (k : ℕ) → l.passed ≡ true → lines_from s k at ≡ lines_from s (k + 1) l.next
+  is_passed : l.read ≡ None → passed_over text ≡ true
+  is_passed e = by (passed_over text) refl (sym read_is ∙ e)
+    where
+      by : (k : Bool) → passed_over text ≡ k → read_unless k text ≡ None → passed_over text ≡ true
+      by true t q = t
+      by false t q = let z : ◌≡◌ {A = ℕ} 0 1 = cc in absurd (omega arith)
+
+  was_read : {r : Result SignatureRead BadLine} → l.read ≡ Some r → (passed_over text ≡ false) × (r ≡ read_kept text)
+  was_read {r} e = by (passed_over text) refl (sym read_is ∙ e)
+    where
+      by : (k : Bool) → passed_over text ≡ k → read_unless k text ≡ Some r → (passed_over text ≡ false) × (r ≡ read_kept text)
+      by true t q = let z : ◌≡◌ {A = ℕ} 0 1 = cc in absurd (omega arith)
+      by false t q = (t, cc)
+
+  pub line_read : {r : Result SignatureRead BadLine} → l.read ≡ Some r → r ≡ read_kept text
+  line_read e = (was_read e).1
+
+  pub turn_passed : (k : ℕ) → l.read ≡ None → lines_from s k at ≡ lines_from s (k + 1) l.next
   unfolding numbered_from
-  turn_passed k t = rw (line_step s at h, passed_is ∙ t, next_is)
+  turn_passed k e = rw (line_step s at h, is_passed e, next_is)
 
   pub turn_kept
-      : (k : ℕ) → l.passed ≡ false → lines_from s k at ≡ record { number = k; text = text_at s at } ∷ lines_from s (k + 1) l.next
+      : (k : ℕ) {r : Result SignatureRead BadLine} → l.read ≡ Some r
+      → lines_from s k at ≡ record { number = k; text = text } ∷ lines_from s (k + 1) l.next
   unfolding numbered_from
-  turn_kept k t = rw (line_step s at h, passed_is ∙ t, next_is)
+  turn_kept k e = rw (line_step s at h, (was_read e).0, next_is)

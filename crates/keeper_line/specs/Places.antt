@@ -1,8 +1,8 @@
 -- The lines of a keeper's file by their places in it.
-use Rattle.std.specs.Prelude.{ℕ, suc, ◌+◌, ◌-◌, Bool, true, cond, ◌&&◌, List, [], ◌∷◌, eqb, ltb, length, drop}
+use Rattle.std.specs.Prelude.{ℕ, suc, ◌+◌, ◌-◌, Bool, cond, ◌&&◌, List, [], ◌∷◌, eqb, ltb, length, drop, Option, None, Some, Result}
 use Rattle.basis.specs.Bytes.{byte_at, part}
 use Rattle.signature_line.specs.declared.SignatureRead.{SignatureRead}
-use Rattle.signature_line.specs.Answer.{refused_at}
+use Rattle.signature_line.specs.declared.BadLine.{BadLine}
 use Rattle.numerals.specs.declared.Piece.{Piece}
 use Rattle.one_field.specs.Places.{piece_at}
 use Rattle.keeper_file.specs.KeptLine.{mark}
@@ -11,7 +11,7 @@ use Rattle.keeper_file.specs.Lines.{line_feed, carriage_return, passed_over}
 use Rattle.keeper_line.specs.declared.KeptAt.{KeptAt}
 
 -- `g ` or nothing, from a place on.
-abbrev pub mark_at : List ℕ → ℕ → Piece
+abbrev pub mark_at : List ℕ → ℕ → Result Piece BadLine
 mark_at = piece_at mark
 
 -- How many bytes stand before the first line feed: all, if there is none.
@@ -32,14 +32,13 @@ text_end s at feed =
 abbrev pub text_at : List ℕ → ℕ → List ℕ
 text_at s at = part at (text_end s at (feed_at s at)) s
 
--- What is read of a line that is not passed over; of one that is, nothing.
-abbrev pub read_unless : Bool → List ℕ → SignatureRead
-read_unless passed text = cond passed (refused_at 0) (read_kept text)
+-- What is read of a line that is not passed over.
+abbrev pub read_unless : Bool → List ℕ → Option (Result SignatureRead BadLine)
+read_unless passed text = cond passed None (Some (read_kept text))
 
 -- The line that starts at a place: where the next one starts, and what is read of it. Behind the end there is none.
 unfoldable pub kept_at : List ℕ → ℕ → KeptAt
 kept_at s at =
     let text = text_at s at in
-    cond (ltb at (length s))
-    (record { next = feed_at s at + 1; passed = passed_over text; read = read_unless (passed_over text) text })
-    (record { next = at; passed = true; read = refused_at 0 })
+    cond (ltb at (length s)) (record { next = feed_at s at + 1; read = read_unless (passed_over text) text })
+    (record { next = at; read = None })

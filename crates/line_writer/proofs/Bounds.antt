@@ -20,6 +20,7 @@ use Rattle.grammar.specs.Table.{Said, said}
 use Rattle.signature_line.specs.Line.{colon, comma}
 use Rattle.signature_line.specs.Words.{version, bare_byte, ttl_form, mss, window, scale, entry, quirk_word, payload}
 use Rattle.text.specs.Decimal.{decimal}
+use Rattle.text.proofs.Decimal.{decimal_length}
 use Rattle.written_line.specs.LineText.{ttl_text, layout_text, quirks_text, text_after_scale, text_after_olen, line_text, signature_text}
 use Rattle.written_line.specs.Signature.{version_said, form_said, mss_said, scale_said, window_said, payload_said}
 use Rattle.written_line.specs.Signature.{entry_said, entries_said, chosen, fields_of}
@@ -117,3 +118,5 @@ pub whole_length
 unfolding signature_text line_text text_after_olen text_after_scale fields_of
 whole_length s e =
     simp length-append (omega (arith, bare_number s.olen, one_version s.version, one_payload s.pclass))
+
+pub ruleset few = (whole_length, mss_within, scale_within, window_within, ttl_within, layout_within, quirks_within, decimal_length)

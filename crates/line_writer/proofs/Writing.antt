@@ -1,9 +1,9 @@
 -- A line that finds room, and one that does not; the entries of a list's record, and of an observation.
+use Rattle.std.specs.Prelude.{Result, Ok, Err}
 use mathlib.Core.Path.{◌≡◌, refl, sym, ◌∙◌, ap}
 use mathlib.Core.Bool.{Bool, true, false, ◌&&◌}
 use mathlib.Core.List.{List}
-use Prim.Native.Nat.{ℕ, ◌+◌, ◌*◌, ◌-◌, ◌<◌, ◌≤◌}
-use native.Mathlib.Nat.{sub-zero}
+use Prim.Native.Nat.{ℕ, ◌+◌, ◌*◌, ◌<◌, ◌≤◌}
 use native.Mathlib.Omega.{arith}
 use lib.Dec.{leb, ltb}
 use lib.ListN.{length, take}
@@ -18,12 +18,9 @@ use Rattle.refusals.specs.declared.Refusal.{Refusal}
 use Rattle.refusals.specs.declared.Refusal.TheVariants as refusal
 use Rattle.sigrecord.specs.Record.{first_entry, entry_count, signature_of}
 use Rattle.siglist.specs.declared.Areas.{Areas}
-use Rattle.siglist.specs.declared.ListAnswer.TheVariants as list
 use Rattle.siglist.specs.List.{record_count, layout_count, list_fits, AreasFit, record_at, record_of, entries_lie, check_list}
 use Rattle.siglist.proofs.List.{list_fits_lem, record_of_list}
 use Rattle.signature_line.specs.OneRecord.{entries_in}
-use Rattle.written_line.specs.declared.Wrote.{Wrote}
-use Rattle.written_line.specs.declared.Wrote.TheVariants as wrote
 use Rattle.written_line.specs.LineText.{signature_text, record_text, observation_text}
 use Rattle.written_line.specs.Signature.{signature_seen}
 use Rattle.written_line.specs.Writing.{refusing, line_into, signature_line, observation_line, record_line, listed_line}
@@ -32,21 +29,21 @@ use Rattle.line_writer.specs.Rows.{TurnedTo}
 
 -- ---- what is written
 
-pub refused_so : (b : List ℕ) (r : Refusal) → Writes b (λ room. refusing r) (wrote.Refused r) b
+pub refused_so : (b : List ℕ) (r : Refusal) → Writes b (λ room. refusing r) (Err r) b
 unfolding refusing
 refused_so b r = (refl, sym (nothing_written b 0))
 
 pub no_room : (b s : List ℕ) (size : ℕ) → size ≡ length s → length b < size
-    → Writes b (line_into s) (wrote.Refused refusal.BufferTooShort) b
+    → Writes b (line_into s) (Err refusal.BufferTooShort) b
 unfolding line_into
 no_room b s size e h = rw (lt-ltb (length b) (length s) (omega (arith, e))) (refused_so b refusal.BufferTooShort)
 
 pub whole_line_lem
     : (b b' s : List ℕ) (size end : ℕ) → size ≡ length s → size ≤ length b → Put b 0 s end b'
-    → Writes b (line_into s) (wrote.Line size) b'
+    → Writes b (line_into s) (Ok size) b'
 unfolding line_into
 whole_line_lem b b' s size end e h put =
-    rw (le-ltb (length b) (length s) (omega (arith, e))) (ap wrote.Line e, (put_all b b' s 0 end (omega (arith, e)) put).1)
+    rw (le-ltb (length b) (length s) (omega (arith, e))) (ap Ok e, (put_all b b' s 0 end (omega (arith, e)) put).1)
 
 -- ---- a record
 
@@ -84,7 +81,7 @@ module _ (l : List ℕ) (a : Areas) (i : ℕ) (fits : AreasFit l a) (inside : i 
           e
 
       pub lie_elsewhere
-          : (b : List ℕ) → entries_lie a.entries first count ≡ false → Writes b (listed_line l i) (wrote.Refused refusal.NoSuchRecord) b
+          : (b : List ℕ) → entries_lie a.entries first count ≡ false → Writes b (listed_line l i) (Err refusal.NoSuchRecord) b
       unfolding listed_line
       lie_elsewhere b e = rw (lie_there false e) (refused_so b refusal.NoSuchRecord)
 
@@ -95,7 +92,7 @@ module _ (l : List ℕ) (a : Areas) (i : ℕ) (fits : AreasFit l a) (inside : i 
       the_text = rw (fits.entries_at, first_there, count_there, the_record_lem)
 
       pub listed_text_lem
-          : (b b' : List ℕ) (r : Wrote) → entries_lie a.entries first count ≡ true
+          : (b b' : List ℕ) (r : Result ℕ Refusal) → entries_lie a.entries first count ≡ true
           → Writes b
           (signature_line (signature_of raw) (part (a.entries_offset + 2 * first) (a.entries_offset + 2 * first + 2 * count) l)) r b'
           → Writes b (listed_line l i) r b'
@@ -103,35 +100,34 @@ module _ (l : List ℕ) (a : Areas) (i : ℕ) (fits : AreasFit l a) (inside : i 
       listed_text_lem b b' r e w = rw (lie_there true e, ← the_text) w
 
 module _ (l b : List ℕ) (i : ℕ) where
-  pub no_areas : list_fits l ≡ false → Writes b (listed_line l i) (wrote.Refused refusal.NoSuchRecord) b
+  pub no_areas : list_fits l ≡ false → Writes b (listed_line l i) (Err refusal.NoSuchRecord) b
   unfolding listed_line
   no_areas e = rw e (refused_so b refusal.NoSuchRecord)
 
-  pub past_the_last : record_count l ≤ i → Writes b (listed_line l i) (wrote.Refused refusal.NoSuchRecord) b
+  pub past_the_last : record_count l ≤ i → Writes b (listed_line l i) (Err refusal.NoSuchRecord) b
   past_the_last h = rw (listed_past l i (length b) h) (refused_so b refusal.NoSuchRecord)
 
-  pub list_refused_lem : (r : ListRefusal) → check_list l ≡ list.Refused r → Writes b (record_line l i) (wrote.Refused (refusal.List r)) b
+  pub list_refused_lem : (r : ListRefusal) → check_list l ≡ Err r → Writes b (record_line l i) (Err (refusal.List r)) b
   unfolding record_line
   list_refused_lem r e = rw e (refused_so b (refusal.List r))
 
-  pub its_line : (r : Wrote) (b' : List ℕ) → check_list l ≡ list.Good → Writes b (listed_line l i) r b' → Writes b (record_line l i) r b'
+  pub its_line
+      : (r : Result ℕ Refusal) (b' : List ℕ)
+      → check_list l ≡ Ok tt → Writes b (listed_line l i) r b' → Writes b (record_line l i) r b'
   its_line r b' e w = rw (sym (listed_record l i (length b) e)) w
 
 -- ---- an observation
 
 module _ (o : TcpObservation) (b : List ℕ) where
-  pub too_long : 40 < o.olayout.count → Writes b (observation_line o) (wrote.Refused refusal.LayoutTooLong) b
+  pub too_long : 40 < o.olayout.count → Writes b (observation_line o) (Err refusal.LayoutTooLong) b
   unfolding observation_line
   too_long h = rw (lt-ltb 40 o.olayout.count h) (refused_so b refusal.LayoutTooLong)
 
   -- The part of the entries in turn up to the count, as it is lent.
   pub raw_line_lem
-      : (turned : List ℕ) (r : Wrote) (b' : List ℕ) → o.olayout.count ≤ 40
+      : (turned : List ℕ) (r : Result ℕ Refusal) (b' : List ℕ) → o.olayout.count ≤ 40
       → TurnedTo o.olayout.kinds o.olayout.bytes o.olayout.count turned
-      → Writes b (signature_line (signature_seen o) (take (2 * o.olayout.count - 0) turned)) r b'
+      → Writes b (signature_line (signature_seen o) (take (2 * o.olayout.count) turned)) r b'
       → Writes b (observation_line o) r b'
   unfolding observation_line observation_text entries_in
-  raw_line_lem turned r b' h t w =
-      let all : take (2 * o.olayout.count - 0) turned ≡ take (2 * o.olayout.count) turned =
-      ap (λ (n : ℕ). take n turned) (sub-zero (2 * o.olayout.count)) in
-      rw (le-ltb 40 o.olayout.count h, ← (all ∙ t.turned)) w
+  raw_line_lem turned r b' h t w = rw (le-ltb 40 o.olayout.count h, ← t.turned) w

@@ -1,6 +1,6 @@
 pub mod Compiled
-pub mod Counting
 pub mod Lists
-pub mod Meanings
+pub mod Passes
 pub mod Totals
 pub mod Unique
+pub mod Walk

@@ -1,4 +1,5 @@
 -- How long the list of a file is, and that this is what was counted.
+use Rattle.std.specs.Prelude.{Result, Ok}
 use Prim.Native.Nat.{ℕ, ◌+◌, ◌*◌, ◌/◌, ◌%◌, ◌≤◌}
 use mathlib.Core.Path.{◌≡◌, refl, sym, ◌∙◌, ap}
 use mathlib.Core.List.{List, [], ◌∷◌, ◌++◌}
@@ -10,8 +11,9 @@ use borrow.Author.Tests.{lt-ltb, le-ltb}
 use Rattle.refusals.specs.declared.Refusal.{Refusal}
 use Rattle.signature_line.specs.Meaning.{LineMeaning}
 use Rattle.signature_line.specs.OneRecord.{alternating, entries_in}
-use Rattle.keeper_file.specs.declared.Tally.TheVariants as tally
-use Rattle.keeper_file.specs.Compiling.{most_signatures, most_entries, meanings, tallied_from}
+use Rattle.keeper_file.specs.declared.Counts.{Counts}
+use Rattle.keeper_file.specs.declared.LineRefusal.{LineRefusal}
+use Rattle.keeper_file.specs.Compiling.{refused, most_signatures, most_entries, meanings, tallied_from}
 use Rattle.keeper_file.specs.KeptReader.{meaning_read, read_kept}
 use Rattle.keeper_file.specs.Lines.{Numbered}
 use Rattle.keeper_file.specs.ListText.{entry_total, entries_text, placed_at, records_text, header_text, list_text}
@@ -83,19 +85,28 @@ pub record Totals (signatures entries : ℕ) (lines : List Numbered) (s e : ℕ)
   pub few : s ≤ most_signatures
   pub small : e ≤ most_entries
 
-too_many_not : (k : ℕ) (r : Refusal) (s e : ℕ) → tally.TooMany k r ≡ tally.Counts s e → ⊥
-too_many_not k r s e q = let z : ◌≡◌ {A = ℕ} 0 1 = cc in omega arith
+-- The counts of so many signatures and entries.
+abbrev counts : ℕ → ℕ → Result Counts LineRefusal
+counts s e = Ok (record { signatures = s; entries = e })
 
-counts_first : (a b s e : ℕ) → tally.Counts a b ≡ tally.Counts s e → a ≡ s
-counts_first a b s e q = cc
+too_many_not : (k : ℕ) (r : Refusal) (s e : ℕ) → refused k r ≡ counts s e → ⊥
+too_many_not k r s e q = cc
 
-counts_second : (a b s e : ℕ) → tally.Counts a b ≡ tally.Counts s e → b ≡ e
-counts_second a b s e q = cc
+same_counts
+    : (a b s e : ℕ) → counts a b ≡ counts s e
+    → ◌≡◌ {A = Counts} (record { signatures = a; entries = b }) (record { signatures = s; entries = e })
+same_counts a b s e q = cc
+
+counts_first : (a b s e : ℕ) → counts a b ≡ counts s e → a ≡ s
+counts_first a b s e q = ap (λ (c : Counts). c.signatures) (same_counts a b s e q)
+
+counts_second : (a b s e : ℕ) → counts a b ≡ counts s e → b ≡ e
+counts_second a b s e q = ap (λ (c : Counts). c.entries) (same_counts a b s e q)
 
 module _ (s e : ℕ) where
   none_left
       : (signatures entries : ℕ) → signatures ≤ most_signatures → entries ≤ most_entries
-      → tallied_from signatures entries [] ≡ tally.Counts s e → Totals signatures entries [] s e
+      → tallied_from signatures entries [] ≡ counts s e → Totals signatures entries [] s e
   unfolding tallied_from meanings entry_total
   none_left signatures entries few small q =
       let first = counts_first signatures entries s e q in
@@ -109,7 +120,7 @@ module _ (s e : ℕ) where
 
   -- One line more, of what was counted with it.
   abbrev more : ℕ → Numbered → ℕ
-  more entries line = entries + (read_kept line.text).layout.count
+  more entries line = entries + (of line).layout.count
 
   one_more
       : (signatures entries : ℕ) (line : Numbered) (lines : List Numbered) → Totals (signatures + 1) (more entries line) lines s e
@@ -125,15 +136,15 @@ module _ (s e : ℕ) where
 
   line_counted
       : (signatures entries : ℕ) (line : Numbered) (lines : List Numbered)
-      → tallied_from signatures entries (line ∷ lines) ≡ tally.Counts s e
+      → tallied_from signatures entries (line ∷ lines) ≡ counts s e
       → (signatures + 1 ≤ most_signatures) × (more entries line ≤ most_entries)
-      × (tallied_from (signatures + 1) (more entries line) lines ≡ tally.Counts s e)
+      × (tallied_from (signatures + 1) (more entries line) lines ≡ counts s e)
   unfolding tallied_from
   line_counted signatures entries line lines q = by (dec_le (signatures + 1) most_signatures) (dec_le (more entries line) most_entries)
     where
       by : Dec (signatures + 1 ≤ most_signatures) → Dec (more entries line ≤ most_entries)
           → (signatures + 1 ≤ most_signatures) × (more entries line ≤ most_entries)
-          × (tallied_from (signatures + 1) (more entries line) lines ≡ tally.Counts s e)
+          × (tallied_from (signatures + 1) (more entries line) lines ≡ counts s e)
       by (no h) k =
           absurd (too_many_not _ _ s e (rw (lt-ltb most_signatures (signatures + 1) (omega arith)) at q))
       by (yes h) (no k) =
@@ -144,7 +155,7 @@ module _ (s e : ℕ) where
 
   pub totals
       : (signatures entries : ℕ) (lines : List Numbered) → signatures ≤ most_signatures → entries ≤ most_entries
-      → tallied_from signatures entries lines ≡ tally.Counts s e → Totals signatures entries lines s e
+      → tallied_from signatures entries lines ≡ counts s e → Totals signatures entries lines s e
   totals signatures entries [] few small q = none_left signatures entries few small q
   totals signatures entries (line ∷ lines) few small q =
       let t = line_counted signatures entries line lines q in

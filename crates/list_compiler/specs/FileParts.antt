@@ -1,25 +1,44 @@
--- The parts of the list of a file, by the file; and what a line of it gives to each.
-use Rattle.std.specs.Prelude.{ℕ, cond, List, []}
+-- What the passes over the signature lines of a file give, and the parts of its list.
+use Rattle.std.specs.Prelude.{ℕ, ◌+◌, cond, List, [], ◌∷◌, ltb, map, Result, Ok}
 use Rattle.text.specs.Written.{Lined}
+use Rattle.refusals.specs.declared.Refusal.TheVariants as refusal
 use Rattle.signature_line.specs.Meaning.{LineMeaning}
-use Rattle.keeper_file.specs.declared.Compiled.{Compiled}
-use Rattle.keeper_file.specs.declared.LineCheck.{LineCheck}
-use Rattle.keeper_file.specs.declared.LineCheck.TheVariants as check
-use Rattle.keeper_file.specs.declared.Tally.{Tally}
-use Rattle.keeper_file.specs.Compiling.{bad_or, first_bad, meanings, tallied_from, list_into}
-use Rattle.keeper_file.specs.Lines.{signature_lines}
-use Rattle.keeper_file.specs.ListText.{entries_text, placed_at, records_text, list_text}
-use Rattle.keeper_line.specs.declared.KeptAt.{KeptAt}
+use Rattle.keeper_file.specs.declared.Counts.{Counts}
+use Rattle.keeper_file.specs.declared.LineRefusal.{LineRefusal}
+use Rattle.keeper_file.specs.Compiling.{refused, bad_or, most_signatures, most_entries, list_into}
+use Rattle.keeper_file.specs.KeptReader.{meaning_read}
+use Rattle.keeper_file.specs.ListText.{entries_text, records_text, list_text}
+use Rattle.list_compiler.specs.declared.lines.Line.{Line}
+use Rattle.list_compiler.specs.FileLines.{file_lines}
 
--- What the signature lines of a file mean.
+-- The first that is bad.
+unfoldable pub check_of : List Line → Result (Unit {0}) LineRefusal
+check_of [] = Ok tt
+check_of (line ∷ lines) = bad_or line.read line.number (check_of lines)
+
+-- So many signatures and entries, and those of these lines.
+unfoldable pub tally_of : ℕ → ℕ → List Line → Result Counts LineRefusal
+tally_of signatures entries [] = Ok (record { signatures = signatures; entries = entries })
+tally_of signatures entries (line ∷ lines) =
+    let more = entries + (meaning_read line.read).layout.count in
+    cond (ltb most_signatures (signatures + 1)) (refused line.number refusal.TooManySignatures)
+    (cond (ltb most_entries more) (refused line.number refusal.TooManyEntries)
+    (tally_of (signatures + 1) more lines))
+
+-- What they mean.
+abbrev pub meanings_of : List Line → List LineMeaning
+meanings_of = map (λ (line : Line). meaning_read line.read)
+
+-- ---- of a file
+
+abbrev pub file_check : List ℕ → Result (Unit {0}) LineRefusal
+file_check file = check_of (file_lines file)
+
+abbrev pub file_tally : List ℕ → Result Counts LineRefusal
+file_tally file = tally_of 0 0 (file_lines file)
+
 abbrev pub file_meanings : List ℕ → List LineMeaning
-file_meanings file = meanings (signature_lines file)
-
-abbrev pub file_check : List ℕ → LineCheck
-file_check file = first_bad (signature_lines file)
-
-abbrev pub file_tally : List ℕ → Tally
-file_tally file = tallied_from 0 0 (signature_lines file)
+file_meanings file = meanings_of (file_lines file)
 
 abbrev pub file_entries : List ℕ → List ℕ
 file_entries file = entries_text (file_meanings file)
@@ -28,12 +47,5 @@ abbrev pub file_records : List ℕ → List ℕ
 file_records file = records_text 0 (file_meanings file)
 
 -- Refusal 15, or the list.
-abbrev pub file_into : List ℕ → ℕ → Lined Compiled
+abbrev pub file_into : List ℕ → ℕ → Lined (Result ℕ LineRefusal)
 file_into file = list_into (list_text (file_meanings file))
-
--- A line that is passed over is good, and gives no record.
-abbrev pub line_check : KeptAt → ℕ → LineCheck
-line_check line number = cond line.passed check.Good (bad_or line.read.answer number check.Good)
-
-abbrev pub line_record : KeptAt → ℕ → List ℕ
-line_record line first = cond line.passed [] (placed_at first line.read.raw)

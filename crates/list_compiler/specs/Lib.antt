@@ -1,1 +1,2 @@
+pub mod FileLines
 pub mod FileParts

@@ -1,4 +1,5 @@
 -- Laws of the fit: what three answers mean.
+use Rattle.std.specs.Prelude.{Option, Some, None}
 use mathlib.Core.Path.{◌≡◌, refl}
 use mathlib.Core.Bool.{Bool, true, false, cond, ◌&&◌}
 use mathlib.Core.List.{List}
@@ -6,9 +7,6 @@ use Prim.Native.Nat.{ℕ}
 use native.Mathlib.Omega.{arith}
 use Rattle.quirks.specs.Quirks.{is_empty}
 use Rattle.matching.specs.declared.Features.{Features}
-use Rattle.matching.specs.declared.Hops.TheVariants as hops
-use Rattle.matching.specs.declared.QuirksFit.{QuirksFit}
-use Rattle.matching.specs.declared.QuirksFit.TheVariants as quirksfit
 use Rattle.sigrecord.specs.declared.Signature.{Signature}
 use Rattle.matching.specs.declared.SignatureFit.TheVariants as answer
 use Rattle.matching.specs.declared.Tolerated.{Tolerated}
@@ -20,12 +18,12 @@ use Rattle.matching.specs.Tolerance.{masked_quirks, quirks_fit, judge_in_range, 
 use Rattle.matching.specs.Fit.{scalar_gates, tolerance_of, fit_of}
 
 -- Nothing was tolerated: the TTL is in range, and no quirk is added or missing.
-pub data Untolerated : TtlFit → QuirksFit → Type 0 where
+pub data Untolerated : Option TtlFit → Option Tolerated → Type 0 where
   nothing_tolerated
       : {d : ℕ} {q : Tolerated}
       → is_empty q.added ≡ true
       → is_empty q.missing ≡ true
-      → Untolerated (ttlfit.InRange d) (quirksfit.Tolerated q)
+      → Untolerated (Some (ttlfit.InRange d)) (Some q)
 
 in_range_exact : (q : Tolerated) → judge_in_range q ≡ answer.Exact → (is_empty q.added ≡ true) × (is_empty q.missing ≡ true)
 unfolding judge_in_range
@@ -33,7 +31,7 @@ in_range_exact q = by_tests (is_empty q.added) (is_empty q.missing)
   where
     by_tests
         : (a m : Bool)
-        → cond (a && m) answer.Exact (answer.Fuzzy (record { hops = hops.InRange; added = q.added; missing = q.missing })) ≡ answer.Exact
+        → cond (a && m) answer.Exact (answer.Fuzzy (record { hops = None; added = q.added; missing = q.missing })) ≡ answer.Exact
         → (a ≡ true) × (m ≡ true)
     by_tests true true e = (refl, refl)
     by_tests true false e = let z : ◌≡◌ {A = ℕ} 0 1 = cc in absurd (omega arith)
@@ -41,17 +39,17 @@ in_range_exact q = by_tests (is_empty q.added) (is_empty q.missing)
     by_tests false false e = let z : ◌≡◌ {A = ℕ} 0 1 = cc in absurd (omega arith)
 
 -- Exact means that nothing was tolerated.
-pub exact_untolerated : (t : TtlFit) (q : QuirksFit) → judge t q ≡ answer.Exact → Untolerated t q
+pub exact_untolerated : (t : Option TtlFit) (q : Option Tolerated) → judge t q ≡ answer.Exact → Untolerated t q
 unfolding judge
-exact_untolerated ttlfit.Rejected q e = let z : ◌≡◌ {A = ℕ} 0 1 = cc in absurd (omega arith)
-exact_untolerated (ttlfit.InRange d) quirksfit.Rejected e = let z : ◌≡◌ {A = ℕ} 0 1 = cc in absurd (omega arith)
-exact_untolerated (ttlfit.InRange d) (quirksfit.Tolerated q) e =
+exact_untolerated None q e = let z : ◌≡◌ {A = ℕ} 0 1 = cc in absurd (omega arith)
+exact_untolerated (Some (ttlfit.InRange d)) None e = let z : ◌≡◌ {A = ℕ} 0 1 = cc in absurd (omega arith)
+exact_untolerated (Some (ttlfit.InRange d)) (Some q) e =
     let both = in_range_exact q e in nothing_tolerated both.0 both.1
-exact_untolerated (ttlfit.OutOfRange d) quirksfit.Rejected e = let z : ◌≡◌ {A = ℕ} 0 1 = cc in absurd (omega arith)
-exact_untolerated (ttlfit.OutOfRange d) (quirksfit.Tolerated q) e = let z : ◌≡◌ {A = ℕ} 0 1 = cc in absurd (omega arith)
+exact_untolerated (Some (ttlfit.OutOfRange d)) None e = let z : ◌≡◌ {A = ℕ} 0 1 = cc in absurd (omega arith)
+exact_untolerated (Some (ttlfit.OutOfRange d)) (Some q) e = let z : ◌≡◌ {A = ℕ} 0 1 = cc in absurd (omega arith)
 
 -- Nothing tolerated is exact.
-pub untolerated_exact : {t : TtlFit} {q : QuirksFit} → Untolerated t q → judge t q ≡ answer.Exact
+pub untolerated_exact : {t : Option TtlFit} {q : Option Tolerated} → Untolerated t q → judge t q ≡ answer.Exact
 unfolding judge judge_in_range
 untolerated_exact (nothing_tolerated added missing) = rw (added, missing)
 

@@ -1,4 +1,6 @@
 pub mod Asked
+pub mod Bits
+pub mod Declared
 pub mod Entries
 pub mod Laws
 pub mod Rigid

@@ -1,4 +1,5 @@
 -- A quirk that is neither tolerated nor masked: an observation and a signature that fit both have it, or neither has.
+use Rattle.std.specs.Prelude.{Option, Some, None}
 use mathlib.Core.Path.{◌≡◌, refl, sym, ◌∙◌, ap}
 use mathlib.Core.Bool.{Bool, true, false, cond, not, ◌&&◌, true≢false}
 use mathlib.Core.List.{List}
@@ -25,8 +26,7 @@ use Rattle.distances.specs.Distances.{ttl_fit}
 use Rattle.distances.specs.declared.TtlFit.{TtlFit}
 use Rattle.distances.specs.declared.TtlFit.TheVariants as ttlfit
 use Rattle.matching.specs.declared.Features.{Features}
-use Rattle.matching.specs.declared.QuirksFit.{QuirksFit}
-use Rattle.matching.specs.declared.QuirksFit.TheVariants as quirksfit
+use Rattle.matching.specs.declared.Tolerated.{Tolerated}
 use Rattle.matching.specs.declared.SignatureFit.{SignatureFit}
 use Rattle.matching.specs.declared.SignatureFit.TheVariants as answer
 use Rattle.matching.specs.Gates.{layout_matches}
@@ -75,7 +75,7 @@ module _ (q : Quirk) (rigid : Rigid q) where
       : (o s : QuirkSet)
       → bits_of o < 2 ^ 32
       → bits_of s < 2 ^ 32
-      → (quirks_fit o s ≡ quirksfit.Rejected → ⊥)
+      → (quirks_fit o s ≡ None → ⊥)
       → contains o q ≡ contains s q
   unfolding quirks_fit
   quirks_agree o s small fine kept = by_test _ refl kept
@@ -83,8 +83,7 @@ module _ (q : Quirk) (rigid : Rigid q) where
       by_test
           : (t : Bool)
           → is_empty (difference (difference s o) fuzzy_deletable) && is_empty (difference (difference o s) fuzzy_addable) ≡ t
-          → (cond t (quirksfit.Tolerated (record { added = difference o s; missing = difference s o })) quirksfit.Rejected
-          ≡ quirksfit.Rejected → ⊥)
+          → (cond {A = Option Tolerated} t (Some (record { added = difference o s; missing = difference s o })) None ≡ None → ⊥)
           → contains o q ≡ contains s q
       by_test true e kept =
           agree (contains s q) (contains o q)
@@ -120,11 +119,11 @@ module _ (q : Quirk) (rigid : Rigid q) where
   masked_small s sigversion.V6 seen small = small
 
   -- Rejected quirks fit nothing.
-  rejected : (t : TtlFit) (x : QuirksFit) → x ≡ quirksfit.Rejected → judge t x ≡ answer.None
+  rejected : (t : Option TtlFit) (x : Option Tolerated) → x ≡ None → judge t x ≡ answer.None
   unfolding judge
-  rejected ttlfit.Rejected x e = refl
-  rejected (ttlfit.InRange d) x e = rw e
-  rejected (ttlfit.OutOfRange d) x e = rw e
+  rejected None x e = refl
+  rejected (Some (ttlfit.InRange d)) x e = rw e
+  rejected (Some (ttlfit.OutOfRange d)) x e = rw e
 
   pub fits_agree
       : (f : Features) (kinds bytes : List ℕ) (s : Signature) (count : ℕ) (entries : List ℕ)

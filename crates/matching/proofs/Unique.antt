@@ -1,20 +1,18 @@
 -- Exactly one result meets each public function's own contract.
 -- tools/promises makes this file from the contracts, and the gate holds it to them.
 use Rattle.std.specs.Borrow.{Bor}
-use Rattle.std.specs.Prelude.{ℕ, Bool, List}
+use Rattle.std.specs.Prelude.{ℕ, Bool, List, Option}
 use contract.Lifetimes.{Lfts}
 use Rattle.basis.specs.Unique.{ExactlyOne}
 use Rattle.basis.proofs.Unique.{equation}
 use Rattle.tcp.specs.declared.IpVersion.{IpVersion}
-use Rattle.tcp.specs.declared.Mss.{Mss}
-use Rattle.tcp.specs.declared.Wscale.{Wscale}
 use Rattle.quirks.specs.declared.QuirkSet.{QuirkSet}
 use Rattle.observable.specs.declared.TcpObservation.{TcpObservation}
 use Rattle.sigrecord.specs.declared.SigVersion.{SigVersion}
 use Rattle.sigrecord.specs.Record.{signature_of}
 use Rattle.matching.specs.declared.Features.{Features}
-use Rattle.matching.specs.declared.QuirksFit.{QuirksFit}
 use Rattle.matching.specs.declared.SignatureFit.{SignatureFit}
+use Rattle.matching.specs.declared.Tolerated.{Tolerated}
 use Rattle.matching.specs.Asked.{count_and_scale_match, other_gates_match}
 use Rattle.matching.specs.Fit.{features_of, passes, tolerance_of}
 use Rattle.matching.specs.Gates.{good_layout_fits, mss_matches, olen_matches, scale_matches}
@@ -37,12 +35,12 @@ pub olen_matches_one
 olen_matches_one observed signature = equation (olen_matches observed signature)
 
 pub mss_matches_one
-    : (observed signature : Mss)
+    : (observed signature : Option ℕ)
     → ExactlyOne Bool (λ (r : Bool). mss_matches'.Post tt (observed, (signature, tt)) r (observed, (signature, tt)))
 mss_matches_one observed signature = equation (mss_matches observed signature)
 
 pub wscale_matches_one
-    : (observed signature : Wscale)
+    : (observed signature : Option ℕ)
     → ExactlyOne Bool (λ (r : Bool). wscale_matches'.Post tt (observed, (signature, tt)) r (observed, (signature, tt)))
 wscale_matches_one observed signature = equation (scale_matches observed signature)
 
@@ -54,7 +52,7 @@ pub olayout_matches_one
 olayout_matches_one κs kinds bytes count entries declared = equation (good_layout_fits count kinds.now bytes.now declared entries.now)
 
 pub count_and_scale_match_one
-    : (κs : Lfts 1) (count : ℕ) (wscale : Wscale) (raw : Bor (List ℕ))
+    : (κs : Lfts 1) (count : ℕ) (wscale : Option ℕ) (raw : Bor (List ℕ))
     → ExactlyOne Bool (λ (r : Bool). count_and_scale_match'.Post κs (count, (wscale, (raw, tt))) r (count, (wscale, (raw, tt))))
 count_and_scale_match_one κs count wscale raw = equation (count_and_scale_match count wscale raw.now)
 
@@ -76,7 +74,8 @@ mask_signature_quirks_one quirks signature observed = equation (masked_quirks qu
 
 pub quirks_fit_one
     : (observed signature : QuirkSet)
-    → ExactlyOne QuirksFit (λ (r : QuirksFit). quirks_fit'.Post tt (observed, (signature, tt)) r (observed, (signature, tt)))
+    → ExactlyOne (Option Tolerated)
+    (λ (r : Option Tolerated). quirks_fit'.Post tt (observed, (signature, tt)) r (observed, (signature, tt)))
 quirks_fit_one observed signature = equation (quirks_fit observed signature)
 
 pub features_of_one

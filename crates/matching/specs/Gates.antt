@@ -1,27 +1,29 @@
 -- Gates of a fit (document 01, module 7): option length, MSS, scale, layout. Version, window and payload are those of distances.
-use Rattle.std.specs.Prelude.{ℕ, ◌+◌, ◌*◌, Bool, true, false, ◌&&◌, List, eqb, leb, length}
+use Rattle.std.specs.Prelude.{ℕ, ◌+◌, ◌*◌, Bool, true, false, ◌&&◌, List, eqb, leb, length, Option, Some, None}
 use Rattle.basis.specs.Bytes.{byte_at}
 use Rattle.basis.specs.Tests.{all_below}
 use Rattle.sigrecord.specs.Layout.{entries_good}
-use Rattle.tcp.specs.declared.Mss.{Mss}
-use Rattle.tcp.specs.declared.Mss.TheVariants as mss
-use Rattle.tcp.specs.declared.Wscale.{Wscale}
-use Rattle.tcp.specs.declared.Wscale.TheVariants as wscale
 
 -- The option length is the same: "olen" is never left open.
 unfoldable pub olen_matches : ℕ → ℕ → Bool
 olen_matches seen declared = eqb seen declared
 
--- A declared MSS is fitted by the same MSS only; an absent one does not fit it.
-unfoldable pub mss_matches : Mss → Mss → Bool
-mss_matches observed mss.Absent = true
-mss_matches mss.Absent (mss.Present declared) = false
-mss_matches (mss.Present seen) (mss.Present declared) = eqb seen declared
+-- What is declared is fitted by what is the same only; an absent one does not fit it. Of any kind of number, by its equality.
+abbrev pub fits_declared : {A : Type 0} → (A → A → Bool) → Option A → Option A → Bool
+fits_declared same observed None = true
+fits_declared same None (Some declared) = false
+fits_declared same (Some seen) (Some declared) = same seen declared
 
-unfoldable pub scale_matches : Wscale → Wscale → Bool
-scale_matches observed wscale.Absent = true
-scale_matches wscale.Absent (wscale.Present declared) = false
-scale_matches (wscale.Present seen) (wscale.Present declared) = eqb seen declared
+-- A declared MSS is fitted by the same MSS only; an absent one does not fit it.
+unfoldable pub mss_matches : Option ℕ → Option ℕ → Bool
+mss_matches observed None = true
+mss_matches None (Some declared) = false
+mss_matches (Some seen) (Some declared) = eqb seen declared
+
+unfoldable pub scale_matches : Option ℕ → Option ℕ → Bool
+scale_matches observed None = true
+scale_matches None (Some declared) = false
+scale_matches (Some seen) (Some declared) = eqb seen declared
 
 -- Each kind and byte of an observation's layout is that of a signature's entry, up to a count. The entries lie one after the
 -- other, kind before byte.

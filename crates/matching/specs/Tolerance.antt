@@ -1,5 +1,5 @@
 -- What a fit tolerates (document 01, module 7): a TTL out of range, and some quirks.
-use Rattle.std.specs.Prelude.{cond, ◌&&◌}
+use Rattle.std.specs.Prelude.{cond, ◌&&◌, Option, Some, None}
 use Rattle.quirks.specs.declared.QuirkSet.{QuirkSet}
 use Rattle.quirks.specs.Quirks.{is_empty, difference}
 use Rattle.quirks.specs.Named.{fuzzy_deletable, fuzzy_addable, mask_when_obs_v4, mask_when_obs_v6}
@@ -10,9 +10,6 @@ use Rattle.sigrecord.specs.declared.SigVersion.TheVariants as sigversion
 use Rattle.distances.specs.declared.TtlFit.{TtlFit}
 use Rattle.distances.specs.declared.TtlFit.TheVariants as ttlfit
 use Rattle.matching.specs.declared.Tolerated.{Tolerated}
-use Rattle.matching.specs.declared.QuirksFit.{QuirksFit}
-use Rattle.matching.specs.declared.QuirksFit.TheVariants as quirksfit
-use Rattle.matching.specs.declared.Hops.TheVariants as hops
 use Rattle.matching.specs.declared.SignatureFit.{SignatureFit}
 use Rattle.matching.specs.declared.SignatureFit.TheVariants as answer
 
@@ -26,13 +23,13 @@ masked_quirks quirks sigversion.V4 observed = quirks
 masked_quirks quirks sigversion.V6 observed = quirks
 
 -- "missing df or id+ and added id- or ecn are tolerated, any other quirk difference rejects"
-unfoldable pub quirks_fit : QuirkSet → QuirkSet → QuirksFit
+unfoldable pub quirks_fit : QuirkSet → QuirkSet → Option Tolerated
 quirks_fit observed signature =
     cond
     (is_empty (difference (difference signature observed) fuzzy_deletable)
     && is_empty (difference (difference observed signature) fuzzy_addable))
-    (quirksfit.Tolerated (record { added = difference observed signature; missing = difference signature observed }))
-    quirksfit.Rejected
+    (Some (record { added = difference observed signature; missing = difference signature observed }))
+    None
 
 -- ---- both
 
@@ -40,13 +37,13 @@ quirks_fit observed signature =
 unfoldable pub judge_in_range : Tolerated → SignatureFit
 judge_in_range q =
     cond (is_empty q.added && is_empty q.missing) answer.Exact
-    (answer.Fuzzy (record { hops = hops.InRange; added = q.added; missing = q.missing }))
+    (answer.Fuzzy (record { hops = None; added = q.added; missing = q.missing }))
 
 -- "else fuzzy with a reason: the hop distance if out of range, the added and the missing quirks"
-unfoldable pub judge : TtlFit → QuirksFit → SignatureFit
-judge ttlfit.Rejected quirks = answer.None
-judge (ttlfit.InRange d) quirksfit.Rejected = answer.None
-judge (ttlfit.InRange d) (quirksfit.Tolerated q) = judge_in_range q
-judge (ttlfit.OutOfRange d) quirksfit.Rejected = answer.None
-judge (ttlfit.OutOfRange d) (quirksfit.Tolerated q) =
-    answer.Fuzzy (record { hops = hops.OutOfRange d; added = q.added; missing = q.missing })
+unfoldable pub judge : Option TtlFit → Option Tolerated → SignatureFit
+judge None quirks = answer.None
+judge (Some (ttlfit.InRange d)) None = answer.None
+judge (Some (ttlfit.InRange d)) (Some q) = judge_in_range q
+judge (Some (ttlfit.OutOfRange d)) None = answer.None
+judge (Some (ttlfit.OutOfRange d)) (Some q) =
+    answer.Fuzzy (record { hops = Some d; added = q.added; missing = q.missing })

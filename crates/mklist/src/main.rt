@@ -4,7 +4,7 @@
 
 ghost use Rattle.std.specs.Prelude.{◌<◌, ◌≤◌, length};
 
-use keeper_file::Compiled;
+use keeper_file::LineRefusal;
 use list_compiler::compile_list;
 use refusals::Refusal;
 use std::io::{Stderr, Stdout};
@@ -18,51 +18,29 @@ const LONGEST: usize = 512;
 
 // ---- the line that is refused
 
-// How many line feeds a byte is.
-fn feeds(byte: u8) -> usize
-    ensures { result ≤ 1 }
-{
-    if byte == b'\n' { 1 } else { 0 }
-}
-
-// Where the line of this number starts, from 1.
+// Where the line of this number starts, from 1; the file's end if it has so many no more.
 fn line_start(file: &[u8], number: usize) -> usize
     ensures { result ≤ length file.now }
 {
-    let mut at = 0;
     let mut line = 1;
-    while at < file.len() {
+    for (at, byte) in file.iter().enumerate() {
         if line == number {
             return at;
         }
-        line += feeds(file[at]);
-        at += 1;
+        if *byte == b'\n' {
+            line += 1;
+        }
     }
-    at
+    file.len()
+}
+
+fn stands(file: &[u8], at: usize, byte: u8) -> bool {
+    at < file.len() && file[at] == byte
 }
 
 // Whether a line ends at a place.
 fn ends_at(file: &[u8], at: usize) -> bool {
-    if file.len() <= at {
-        return true;
-    }
-    if file[at] == b'\n' {
-        return true;
-    }
-    if file[at] != b'\r' {
-        return false;
-    }
-    if file.len() - 1 <= at {
-        return false;
-    }
-    file[at + 1] == b'\n'
-}
-
-fn stands(file: &[u8], at: usize, byte: u8) -> bool {
-    if file.len() <= at {
-        return false;
-    }
-    file[at] == byte
+    at >= file.len() || file[at] == b'\n' || file[at] == b'\r' && stands(file, at + 1, b'\n')
 }
 
 // Behind the digits from a place on.
@@ -70,17 +48,8 @@ fn behind_digits(file: &[u8], from: usize) -> usize
     requires { from ≤ length file.now }
     ensures { result ≤ length file.now }
 {
-    let mut at = from;
-    while at < file.len() {
-        if file[at] < b'0' {
-            return at;
-        }
-        if b'9' < file[at] {
-            return at;
-        }
-        at += 1;
-    }
-    at
+    let digits = file[from..].iter().take_while(|byte| byte.is_ascii_digit());
+    from + digits.count()
 }
 
 // How far behind a label's end the signature starts: behind the blank, and behind `g ` if that stands there.
@@ -89,28 +58,24 @@ fn signature_behind(file: &[u8], label_end: usize) -> usize
     ensures { result ≤ 3 }
 {
     if stands(file, label_end + 1, b'g') {
-        return 3;
+        3
+    } else {
+        1
     }
-    1
 }
 
 // ---- words
 
 // `'x'`, or a byte that cannot be shown so by its number.
 fn say_byte(stderr: Stderr, byte: u8) {
-    if 32 < byte {
-        if byte < 127 {
-            let shown = [b'\'', byte, b'\''];
-            say(stderr, &shown);
-            return;
+    match byte {
+        b' ' => say(stderr, b"a blank"),
+        b'!'..=b'~' => say(stderr, &[b'\'', byte, b'\'']),
+        _ => {
+            say(stderr, b"the byte 0x");
+            let _ = eprint!(stderr; "{byte:02x}");
         }
     }
-    if byte == 32 {
-        say(stderr, b"a blank");
-        return;
-    }
-    say(stderr, b"the byte 0x");
-    let _ = eprint!(stderr; "{byte:02x}");
 }
 
 fn say_place(stderr: Stderr, line: usize, column: usize) {
@@ -163,8 +128,9 @@ fn say_many(stderr: Stderr, line: usize, text: &[u8]) {
     say(stderr, text);
 }
 
-fn say_refused(stderr: Stderr, file: &[u8], line: usize, refusal: Refusal) {
-    match refusal {
+fn say_refused(stderr: Stderr, file: &[u8], refused: LineRefusal) {
+    let line = refused.line;
+    match refused.refusal {
         Refusal::BadLine(offset) => say_bad(stderr, file, line, offset),
         Refusal::TooManySignatures => say_many(stderr, line, b": more than 65535 signatures\n"),
         Refusal::TooManyEntries => say_many(
@@ -184,11 +150,8 @@ fn say_refused(stderr: Stderr, file: &[u8], line: usize, refusal: Refusal) {
 fn compile(stdout: Stdout, stderr: Stderr, file: &[u8]) {
     let mut list = [0u8; MOST];
     match compile_list(&mut list, file) {
-        Compiled::List(size) => {
-            let whole = write_all(stdout, &list[0..size]);
-            tell_cut(stderr, b"mklist", whole);
-        }
-        Compiled::Refused(line, refusal) => say_refused(stderr, file, line, refusal),
+        Ok(size) => tell_cut(stderr, b"mklist", write_all(stdout, &list[0..size])),
+        Err(refused) => say_refused(stderr, file, refused),
     }
 }
 

@@ -13,8 +13,10 @@ use Rattle.grammar.specs.Reading.{Read}
 use Rattle.grammar.specs.States.{fits, span, Awaited, letters, digits, after, run, left, Done, done, states_read}
 use Rattle.grammar.specs.Table.{numeral, Said, said}
 use Rattle.grammar.proofs.Numerals.{fits_digit}
+use Rattle.std.specs.Prelude.{Ok}
+use Rattle.signature_line.specs.Answer.{bad_at}
 use Rattle.numerals.specs.declared.Taken.{Taken}
-use Rattle.numerals.specs.Pieces.{piece, no_piece, piece_of, state_at, number_from, numeral_at}
+use Rattle.numerals.specs.Pieces.{piece, made, state_at, number_from, numeral_at}
 
 -- ---- the loop
 
@@ -116,32 +118,32 @@ module _ (f max : ℕ) (wanted : ℕ → Bool) where
       by false h = absurd (e (rw h))
 
   module _ (s : List ℕ) (at : ℕ) where
-    numeral_none : (number_from max 0 s at).at ≡ at → no_piece at ≡ numeral_at max wanted f s at
-    unfolding state_at number_from piece_of
-    numeral_none e = rw (read_none (drop at s) (omega arith)) (ap no_piece (omega arith))
+    numeral_none : (number_from max 0 s at).at ≡ at → bad_at at ≡ numeral_at max wanted f s at
+    unfolding state_at number_from made
+    numeral_none e = rw (read_none (drop at s) (omega arith)) (ap bad_at (omega arith))
 
     numeral_unwanted
         : ((number_from max 0 s at).at ≡ at → ⊥) → wanted (number_from max 0 s at).value ≡ false
-        → no_piece (number_from max 0 s at).at ≡ numeral_at max wanted f s at
-    unfolding state_at number_from piece_of
+        → bad_at (number_from max 0 s at).at ≡ numeral_at max wanted f s at
+    unfolding state_at number_from made
     numeral_unwanted e w = rw (read_Some (drop at s) (λ z. e (omega arith)) false w)
 
     numeral_wanted
         : ((number_from max 0 s at).at ≡ at → ⊥) → wanted (number_from max 0 s at).value ≡ true
-        → piece (number_from max 0 s at).at true f (number_from max 0 s at).value ≡ numeral_at max wanted f s at
-    unfolding state_at number_from piece_of
+        → Ok (piece (number_from max 0 s at).at f (number_from max 0 s at).value) ≡ numeral_at max wanted f s at
+    unfolding state_at number_from made
     numeral_wanted e w = rw (read_Some (drop at s) (λ z. e (omega arith)) true w)
 
 -- Over what the call gave that read the number.
 module _ (f max : ℕ) (wanted : ℕ → Bool) (s : List ℕ) (at : ℕ) (t : Taken) (e : t ≡ number_from max 0 s at) where
-  pub gave_none : t.at ≡ at → no_piece at ≡ numeral_at max wanted f s at
+  pub gave_none : t.at ≡ at → bad_at at ≡ numeral_at max wanted f s at
   gave_none h = numeral_none f max wanted s at (rw e at h)
 
-  pub gave_unwanted : (t.at ≡ at → ⊥) → wanted t.value ≡ false → no_piece t.at ≡ numeral_at max wanted f s at
+  pub gave_unwanted : (t.at ≡ at → ⊥) → wanted t.value ≡ false → bad_at t.at ≡ numeral_at max wanted f s at
   gave_unwanted n w = rw e (numeral_unwanted f max wanted s at (λ z. n (rw e z)) (rw e at w))
 
   pub gave_wanted
-      : (t.at ≡ at → ⊥) → wanted t.value ≡ true → piece t.at true f t.value ≡ numeral_at max wanted f s at
+      : (t.at ≡ at → ⊥) → wanted t.value ≡ true → Ok (piece t.at f t.value) ≡ numeral_at max wanted f s at
   gave_wanted n w = rw e (numeral_wanted f max wanted s at (λ z. n (rw e z)) (rw e at w))
 
 pub all_wanted : (n : ℕ) → any n ≡ true

@@ -1,9 +1,9 @@
 -- Exactly one result meets each public function's own contract.
 -- tools/promises makes this file from the contracts, and the gate holds it to them.
-use Rattle.std.specs.Prelude.{Bool}
+use Rattle.std.specs.Prelude.{Bool, Option}
 use Rattle.basis.specs.Unique.{ExactlyOne}
 use Rattle.basis.proofs.Unique.{equation}
-use Rattle.window_size.specs.declared.Multiplier.{Multiplier}
+use Rattle.window_size.specs.declared.WindowMultiplier.{WindowMultiplier}
 use Rattle.observable.specs.declared.TcpObservation.{TcpObservation}
 use Rattle.observable.specs.Observation.{empty_observation, own_timestamp_nonzero, window_multiplier}
 use Rattle.observable.proofs.TcpObservation.empty.Reads as empty'
@@ -15,7 +15,7 @@ empty_one = equation empty_observation
 
 pub window_multiplier_one
     : (self : TcpObservation)
-    → ExactlyOne Multiplier (λ (r : Multiplier). window_multiplier'.Post tt (self, tt) r (self, tt))
+    → ExactlyOne (Option WindowMultiplier) (λ (r : Option WindowMultiplier). window_multiplier'.Post tt (self, tt) r (self, tt))
 window_multiplier_one self = equation (window_multiplier self)
 
 pub own_timestamp_is_nonzero_one

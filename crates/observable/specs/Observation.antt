@@ -1,15 +1,13 @@
 -- The observation (document 01, "Headers and options", and "Shapes that change").
-use Rattle.std.specs.Prelude.{ℕ, zero, suc, Bool, false, not, ◌&&◌, ◌||◌, List, [], ◌∷◌, eqb, replicate}
+use Rattle.std.specs.Prelude.{ℕ, zero, suc, Bool, false, not, ◌&&◌, ◌||◌, List, [], ◌∷◌, eqb, replicate, Option, None}
 use Rattle.quirks.specs.declared.Quirk.TheVariants as quirk
 use Rattle.quirks.specs.Quirks.{contains}
 use Rattle.quirks.specs.Named.{empty}
 use Rattle.tcp.specs.declared.IpVersion.TheVariants as version
 use Rattle.tcp.specs.declared.Layout.{Layout}
-use Rattle.tcp.specs.declared.Mss.TheVariants as mss
 use Rattle.tcp.specs.declared.PayloadSize.TheVariants as payload
-use Rattle.tcp.specs.declared.Wscale.TheVariants as wscale
 use Rattle.ttl.specs.declared.Ttl.TheVariants as ttl
-use Rattle.window_size.specs.declared.Multiplier.{Multiplier}
+use Rattle.window_size.specs.declared.WindowMultiplier.{WindowMultiplier}
 use Rattle.window_size.specs.Multiplier.{multiplier_of}
 use Rattle.observable.specs.declared.TcpObservation.{TcpObservation}
 
@@ -24,14 +22,14 @@ empty_observation =
       version = version.V4;
       ittl = ttl.Value 0;
       olen = 0;
-      mss = mss.Absent;
+      mss = None;
       wsize = 0;
       tot_hdr = 0;
-      wscale = wscale.Absent;
+      wscale = None;
       olayout = empty_layout;
       quirks = empty;
       pclass = payload.Zero;
-      peer_mss = mss.Absent;
+      peer_mss = None;
       tos = 0;
     }
 
@@ -47,6 +45,6 @@ own_timestamp_nonzero o =
     not (contains o.quirks quirk.OwnTimestampZero) && holds_kind 8 o.olayout.count o.olayout.kinds
 
 -- The multiplier of an observation's window.
-unfoldable pub window_multiplier : TcpObservation → Multiplier
+unfoldable pub window_multiplier : TcpObservation → Option WindowMultiplier
 window_multiplier o =
     multiplier_of o.wsize o.mss o.tot_hdr (own_timestamp_nonzero o) o.version o.peer_mss

@@ -1,5 +1,6 @@
 -- What a packet of bytes gives, in every mode: an observation whose numbers are such as their types hold, whose quirks and entries are
 -- such as a record may have.
+use Rattle.std.specs.Prelude.{Option, None, Result}
 use mathlib.Core.Path.{◌≡◌, refl}
 use mathlib.Core.Bool.{Bool, true, false, cond, ◌&&◌, ◌||◌}
 use mathlib.Core.List.{List}
@@ -12,8 +13,6 @@ use Rattle.basis.specs.Bytes.{byte_at, AllBytes}
 use Rattle.rfc.specs.Rfc791 as v4
 use Rattle.rfc.specs.Rfc8200 as v6
 use Rattle.rfc.specs.Rfc9293 as tcp
-use Rattle.tcp.specs.declared.Mss.{Mss}
-use Rattle.tcp.specs.declared.Mss.TheVariants as mss
 use Rattle.quirks.specs.declared.QuirkSet.{QuirkSet}
 use Rattle.quirks.specs.Named.{from_quirks, empty, seventeen}
 use Rattle.quirks.specs.Quirks.{bits_of}
@@ -33,7 +32,7 @@ use Rattle.syn_options.specs.Walk.{Walked}
 use Rattle.tcp_header.specs.Flags.{flags_invalid, is_syn_type, is_syn_ack_type}
 use Rattle.tcp_header.specs.HeaderQuirks.{header_quirks}
 use Rattle.ip.specs.declared.IpFacts.{IpFacts}
-use Rattle.ip.specs.declared.IpRead.{IpRead}
+use Rattle.refusals.specs.declared.PacketRefusal.{PacketRefusal}
 use Rattle.ip.specs.Ip.{ipv4_quirks, ipv4_facts, ipv6_quirks, ipv6_facts}
 use Rattle.ip.proofs.Ip.{Given, given}
 use Rattle.flow.specs.declared.Mode.{Mode}
@@ -41,7 +40,7 @@ use Rattle.flow.specs.declared.Reading.{Reading}
 use Rattle.flow.specs.Tcp.{quirks_of_headers, observation_of, known_peer}
 use Rattle.flow.specs.Strict.{contradicts_itself, read_tcp_by}
 use Rattle.flow.specs.Modes.{stop_of, tcp_stage, observation_in, read_in}
-use Rattle.flow.specs.Reading.{tcp_part, after_ip}
+use Rattle.flow.specs.Reading.{tcp_part, after_ip, observation_read}
 use Rattle.flow.proofs.Observed.{sound_in}
 use Rattle.flow.proofs.Stage.{stage_by}
 use Rattle.flow.proofs.Walks.{observed_walk}
@@ -124,7 +123,7 @@ record NumbersHeld (o : TcpObservation) : Type 0 where
   near : NearEnough o.ittl
 
 observation_held
-    : (f : IpFacts) (t : List ℕ) (w : Walked) (peer : Mss)
+    : (f : IpFacts) (t : List ℕ) (w : Walked) (peer : Option ℕ)
     → FactsHeld f
     → AllBytes t
     → WalkHeld w
@@ -177,7 +176,7 @@ header_small t q small =
     (small_add_if _ _ _ (small_add_if _ _ _ (small_add_if _ _ _ (small_add_if _ _ _ (small_add_if _ _ _ small))))))
 
 in_mode
-    : (mode : Mode) (f : IpFacts) (t : List ℕ) (syn : Bool) (peer : Mss)
+    : (mode : Mode) (f : IpFacts) (t : List ℕ) (syn : Bool) (peer : Option ℕ)
     → FactsHeld f
     → AllBytes t
     → NumbersHeld (observation_in mode f t syn peer)
@@ -192,36 +191,42 @@ in_mode mode f t syn peer facts all =
 
 -- ---- the reading
 
-either : (t : Bool) (a b : Reading) → NumbersHeld a.observation → NumbersHeld b.observation
-    → NumbersHeld (cond {A = Reading} t a b).observation
+either
+    : (t : Bool) (a b : Result Reading PacketRefusal)
+    → NumbersHeld (observation_read a)
+    → NumbersHeld (observation_read b)
+    → NumbersHeld (observation_read (cond t a b))
 either true a b x y = x
 either false a b x y = y
 
 by_flags
-    : (observe : Bool → Mss → TcpObservation)
-    → ((syn : Bool) (peer : Mss) → NumbersHeld (observe syn peer))
-    → (t : List ℕ) (peer : Mss)
-    → NumbersHeld (read_tcp_by observe t peer).observation
+    : (observe : Bool → Option ℕ → TcpObservation)
+    → ((syn : Bool) (peer : Option ℕ) → NumbersHeld (observe syn peer))
+    → (t : List ℕ) (peer : Option ℕ)
+    → NumbersHeld (observation_read (read_tcp_by observe t peer))
 unfolding read_tcp_by
 by_flags observe held t peer =
     either (flags_invalid (tcp.control t)) _ _ empty_held
-    (either (is_syn_type (tcp.control t)) _ _ (held true mss.Absent)
+    (either (is_syn_type (tcp.control t)) _ _ (held true None)
     (either (is_syn_ack_type (tcp.control t)) _ _ (held false (known_peer peer)) empty_held))
 
-module _ (mode : Mode) (p : List ℕ) (peer : Mss) (all : AllBytes p) where
-  stage_held : (f : IpFacts) → FactsHeld f → NumbersHeld (tcp_stage mode f (tcp_part f p) peer).observation
+module _ (mode : Mode) (p : List ℕ) (peer : Option ℕ) (all : AllBytes p) where
+  stage_held : (f : IpFacts) → FactsHeld f → NumbersHeld (observation_read (tcp_stage mode f (tcp_part f p) peer))
   stage_held f facts =
       let t = tcp_part f p in
       rw (stage_by mode f t peer)
       (either (mode.strict && contradicts_itself t) _ _ empty_held
       (by_flags (observation_in mode f t) (λ syn m. in_mode mode f t syn m facts (all_part f.start f.end p all)) t peer))
 
-  after_ip_lem : {n : ℕ} {r : IpRead} → Given p n r → NumbersHeld (after_ip (tcp_stage mode) r p peer).observation
+  after_ip_lem
+      : {n : ℕ} {r : Result IpFacts PacketRefusal}
+      → Given p n r
+      → NumbersHeld (observation_read (after_ip (tcp_stage mode) r p peer))
   after_ip_lem (Given.refused small) = empty_held
   after_ip_lem (Given.four long words) = stage_held _ (four_held p all (v4.data_start p) (v4.data_end p))
   after_ip_lem (Given.six long) = stage_held _ (six_held p all (v6.payload_end p))
 
-  numbers_held : NumbersHeld (read_in mode p peer).observation
+  numbers_held : NumbersHeld (observation_read (read_in mode p peer))
   unfolding read_in
   numbers_held = after_ip_lem (given p)
 
@@ -230,7 +235,7 @@ within_good : (q : QuirkSet) → Small q → Within q → quirks_good (bits_of q
 unfolding quirks_good Within
 within_good q small within = (difference_empty q seventeen (rw seventeen_bits (lit< tt)) small).1 within
 
-pub observed : (mode : Mode) (p : List ℕ) (peer : Mss) → AllBytes p → Observed (read_in mode p peer).observation
+pub observed : (mode : Mode) (p : List ℕ) (peer : Option ℕ) → AllBytes p → Observed (observation_read (read_in mode p peer))
 observed mode p peer all =
     let numbers = numbers_held mode p peer all in
     let sound = sound_in mode p peer in

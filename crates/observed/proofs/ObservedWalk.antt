@@ -1,4 +1,5 @@
 -- A walk over options of bytes gives numbers such as their types hold, and entries such as a record may have.
+use Rattle.std.specs.Prelude.{Option, Some, None}
 use mathlib.Core.Path.{◌≡◌, refl, ◌∙◌}
 use mathlib.Core.Bool.{Bool, true, false, cond, ◌&&◌, ◌||◌}
 use mathlib.Core.List.{List, [], ◌∷◌}
@@ -11,10 +12,6 @@ use lib.ListN.{length, take, drop, replicate, set, length-set, length-take}
 use lib.Seq.{get_or-drop, get_or-set_same, get_or-set_other, set_out}
 use Rattle.basis.specs.Bytes.{byte_at, AllBytes, be16, part}
 use Rattle.tcp.specs.declared.Layout.{Layout}
-use Rattle.tcp.specs.declared.Mss.{Mss}
-use Rattle.tcp.specs.declared.Mss.TheVariants as mss
-use Rattle.tcp.specs.declared.Wscale.{Wscale}
-use Rattle.tcp.specs.declared.Wscale.TheVariants as wscale
 use Rattle.quirks.specs.declared.Quirk.{Quirk}
 use Rattle.quirks.specs.declared.Quirk.TheVariants as quirk
 use Rattle.quirks.specs.declared.QuirkSet.{QuirkSet}
@@ -24,8 +21,6 @@ use Rattle.sigrecord.specs.Layout.{entry_good}
 use Rattle.one_option.specs.Options.{Opt, data_of, asked, options_after, options_of}
 use Rattle.one_option.specs.See.{later_mss, later_scale, later_quirks, see_option}
 use Rattle.syn_options.specs.Walk.{Walked, entry_byte, put_entry, put_option, walk_from, start_walk, walk_of}
-use Rattle.syn_options.specs.declared.Place.{Place}
-use Rattle.syn_options.specs.declared.Place.TheVariants as place
 use Rattle.syn_options.specs.Stops.{walk_up_to}
 use Rattle.syn_options.proofs.Entries.{zero_row}
 use Rattle.signature_line.proofs.FieldsGood.{Each}
@@ -150,19 +145,19 @@ small_add_if false q s small = small
 
 -- ---- one option
 
-mss_held : (m : Mss) (o : Opt) → OptHeld o → MssHeld m → MssHeld (later_mss m o)
+mss_held : (m : Option ℕ) (o : Opt) → OptHeld o → MssHeld m → MssHeld (later_mss m o)
 unfolding later_mss
 mss_held m o h before = by (eqb o.kind 2 && leb 2 (length (data_of o)))
   where
-    by : (t : Bool) → MssHeld (cond t (mss.Present (be16 (data_of o) 0)) m)
+    by : (t : Bool) → MssHeld (cond t (Some (be16 (data_of o) 0)) m)
     by true = word_of (data_of o) 0 (all_drop 1 o.own h.own)
     by false = before
 
-scale_held : (w : Wscale) (o : Opt) → OptHeld o → ScaleHeld w → ScaleHeld (later_scale w o)
+scale_held : (w : Option ℕ) (o : Opt) → OptHeld o → ScaleHeld w → ScaleHeld (later_scale w o)
 unfolding later_scale
 scale_held w o h before = by (eqb o.kind 3 && leb 1 (length (data_of o)))
   where
-    by : (t : Bool) → ScaleHeld (cond t (wscale.Present (byte_at (data_of o) 0)) w)
+    by : (t : Bool) → ScaleHeld (cond t (Some (byte_at (data_of o) 0)) w)
     by true = all_drop 1 o.own h.own 0
     by false = before
 
@@ -213,9 +208,9 @@ walk_of_held syn q s all small =
     (record { rows = no_rows; mss = tt; scale = tt; quirks = small })
 
 -- Wherever it stops.
-pub walk_held : (k : Place) (syn : Bool) (q : QuirkSet) (s : List ℕ) → AllBytes s → Small q → WalkHeld (walk_up_to k syn q s)
+pub walk_held : (k : Option ℕ) (syn : Bool) (q : QuirkSet) (s : List ℕ) → AllBytes s → Small q → WalkHeld (walk_up_to k syn q s)
 unfolding walk_up_to
-walk_held place.None syn q s all small = walk_of_held syn q s all small
-walk_held (place.At k) syn q s all small =
+walk_held None syn q s all small = walk_of_held syn q s all small
+walk_held (Some k) syn q s all small =
     let w = walk_of_held syn q (take k s) (all_take k s all) small in
     record { rows = w.rows; mss = w.mss; scale = w.scale; quirks = small_with quirk.OptBad _ w.quirks }

@@ -1,24 +1,22 @@
 -- A word, then what may stand behind it.
 use Prim.Native.Nat.{ℕ, suc, ◌+◌}
 use mathlib.Core.Path.{◌≡◌, refl, sym, ◌∙◌, ap}
-use mathlib.Core.Bool.{Bool, true, false, cond, not, false≢true}
-use mathlib.Core.List.{List, [], ◌∷◌, ◌++◌}
+use mathlib.Core.Bool.{Bool, true, false, cond, false≢true}
+use mathlib.Core.List.{List, [], ◌∷◌}
 use native.Mathlib.Omega.{arith}
 use lib.Dec.{eqb}
 use lib.ListN.{drop}
 use lib.Seq.{drop-drop}
-use borrow.Author.Tests.{not-true, not-false}
+use Rattle.std.specs.Prelude.{Ok, Err}
+use Rattle.signature_line.specs.declared.BadLine.{BadLine}
+use Rattle.signature_line.specs.Answer.{bad_at}
 use Rattle.grammar.specs.Reading.{Read, later}
 use Rattle.grammar.specs.States.{Awaited, letters, after, run, left, done, states_read}
 use Rattle.grammar.specs.Table.{Tail, nothing, Row, row, Said, said}
 use Rattle.numerals.specs.declared.Piece.{Piece}
-use Rattle.numerals.specs.Pieces.{piece, no_piece, piece_of, state_at}
-use Rattle.one_field.specs.Places.{word_at}
-
--- Rows that all begin with a word.
-abbrev pub prefixed : List ℕ → List Row → List Awaited
-prefixed cs [] = []
-prefixed cs (row w f t ∷ rows) = letters (cs ++ w) f t ∷ prefixed cs rows
+use Rattle.numerals.specs.Pieces.{piece_said, made, state_at}
+use Rattle.numerals.proofs.Made.{made_Ok, made_Err}
+use Rattle.one_field.specs.Places.{word_at, prefixed}
 
 abbrev shift : ℕ → Read Said → Read Said
 shift k x = record { count = k + x.count; good = x.good; value = x.value }
@@ -123,33 +121,24 @@ module _ (w : List ℕ) (f : ℕ) (t : Tail) (rows : List Row) where
           rw (q, read_step c cs w f t rows b s e, ih (rw q at g))
       by false e ih = rw (word_none c cs b s e, read_none c cs w f t rows b s e)
 
-shift_piece : (at k : ℕ) (x : Read Said) → piece_of at (shift k x) ≡ piece_of (at + k) x
-unfolding piece_of
-shift_piece at k x = ap (λ (n : ℕ). piece n x.good x.value.form x.value.number) (omega arith)
+shift_piece : (at k : ℕ) (x : Read Said) → made piece_said at (shift k x) ≡ made piece_said (at + k) x
+unfolding made
+shift_piece at k x = ap (λ (n : ℕ). cond x.good (Ok (piece_said n x.value)) (bad_at n)) (omega arith)
 
 -- Over what the call gave that read the word.
-module _ (s : List ℕ) (at : ℕ) (cs w : List ℕ) (f : ℕ) (t : Tail) (rows : List Row) (r : Piece) (e : r ≡ word_at cs 0 s at) where
-  behind_word
-      : not r.good ≡ false
-      → state_at (prefixed [] (row w f t ∷ rows)) s r.at ≡ state_at (prefixed cs (row w f t ∷ rows)) s at
-  unfolding state_at piece_of word_read
-  behind_word h =
-      let g : (word_read cs (drop at s)).good ≡ true = rw e at (not-false r.good h) in
-      rw (e, read_word w f t rows cs (drop at s) g, drop-drop (word_read cs (drop at s)).count at s)
-      (sym (shift_piece at (word_read cs (drop at s)).count
-      (states_read (prefixed [] (row w f t ∷ rows)) (drop (at + (word_read cs (drop at s)).count) s))))
+module _ (s : List ℕ) (at : ℕ) (cs w : List ℕ) (f : ℕ) (t : Tail) (rows : List Row) where
+  pub behind_word
+      : (p : Piece) → word_at cs 0 s at ≡ Ok p
+      → state_at (prefixed [] (row w f t ∷ rows)) s p.at ≡ state_at (prefixed cs (row w f t ∷ rows)) s at
+  unfolding state_at word_read
+  behind_word p e =
+      let r = word_read cs (drop at s) in
+      let g = made_Ok piece_said at r p e in
+      rw (g.1, read_word w f t rows cs (drop at s) g.0, drop-drop r.count at s)
+      (sym (shift_piece at r.count (states_read (prefixed [] (row w f t ∷ rows)) (drop (at + r.count) s))))
 
-  no_word : not r.good ≡ true → no_piece r.at ≡ state_at (prefixed cs (row w f t ∷ rows)) s at
-  unfolding state_at piece_of word_read
-  no_word h =
-      let g : (word_read cs (drop at s)).good ≡ false = rw e at (not-true r.good h) in
-      rw (e, read_no_word w f t rows cs (drop at s) g)
-
-  pub word_then
-      : {x : Piece} → x ≡ cond r.good (state_at (prefixed [] (row w f t ∷ rows)) s r.at) (no_piece r.at)
-      → x ≡ state_at (prefixed cs (row w f t ∷ rows)) s at
-  word_then {x} q = by r.good refl
-    where
-      by : (k : Bool) → r.good ≡ k → x ≡ state_at (prefixed cs (row w f t ∷ rows)) s at
-      by true e' = (rw e' at q) ∙ behind_word (rw e')
-      by false e' = (rw e' at q) ∙ no_word (rw e')
+  pub no_word : (bad : BadLine) → word_at cs 0 s at ≡ Err bad → Err bad ≡ state_at (prefixed cs (row w f t ∷ rows)) s at
+  unfolding state_at word_read made
+  no_word bad e =
+      let g = made_Err piece_said at (word_read cs (drop at s)) bad e in
+      rw (read_no_word w f t rows cs (drop at s) g.0, g.1)

@@ -1,25 +1,23 @@
 -- Laws of a field's reading at a place, in the expressions that the code makes.
 use Prim.Native.Nat.{ℕ, suc, ◌+◌, ◌<◌, ◌≤◌}
 use mathlib.Core.Path.{◌≡◌, refl, sym, ◌∙◌, ap}
-use mathlib.Core.Bool.{Bool, true, false, cond, not, ◌&&◌}
+use mathlib.Core.Bool.{Bool, true, false, cond}
 use mathlib.Core.List.{List, [], ◌∷◌}
 use native.Mathlib.Omega.{arith}
 use native.Mathlib.Decide.{dec_le}
 use native.Mathlib.Numerals.{add-one}
-use lib.Dec.{eqb, ltb}
 use lib.ListN.{length, drop, drop_of_length-le}
 use lib.Seq.{drop-cons}
-use borrow.Author.Tests.{not-true, not-false}
+use Rattle.std.specs.Prelude.{Result, Ok}
 use Rattle.basis.specs.Bytes.{byte_at}
 use Rattle.grammar.specs.Reading.{Read, later}
 use Rattle.grammar.specs.States.{Awaited, letters, after, is_nil, run, left, Done, done, states_read}
-use Rattle.grammar.specs.Table.{nothing, Row, Said}
-use Rattle.signature_line.specs.Words.{bare_byte, ttl_form}
+use Rattle.grammar.specs.Table.{nothing, Said}
+use Rattle.signature_line.specs.declared.BadLine.{BadLine}
+use Rattle.signature_line.specs.Answer.{bad_at}
 use Rattle.numerals.specs.declared.Piece.{Piece}
-use Rattle.one_field.specs.declared.LinePlace.{LinePlace}
-use Rattle.numerals.specs.Pieces.{piece, no_piece, piece_of, state_at}
-use Rattle.one_field.specs.Places.{piece_at, word_at}
-use Rattle.one_field.specs.Places.{place, field_at, behind_at, no_ttl, ttl_piece, ttl_at}
+use Rattle.numerals.specs.Pieces.{piece, piece_said, made, state_at}
+use Rattle.one_field.specs.Places.{word_at}
 
 -- ---- a reading, one byte at a time
 
@@ -39,33 +37,33 @@ read_ends : (states : List Awaited) → states_read states [] ≡ record { count
 unfolding states_read run left
 read_ends states = refl
 
-abbrev made : Bool → ℕ → List Awaited → List Awaited → Read Said
-made k n states x = record { count = cond k 0 n; good = (done (cond k states x)).good; value = (done (cond k states x)).value }
+abbrev chosen : Bool → ℕ → List Awaited → List Awaited → Read Said
+chosen k n states x = record { count = cond k 0 n; good = (done (cond k states x)).good; value = (done (cond k states x)).value }
 
-made_same : (k : Bool) (n : ℕ) (states others x : List Awaited) → done states ≡ done others → made k n states x ≡ made k n others x
-made_same true n states others x d = rw d
-made_same false n states others x d = refl
+chosen_same : (k : Bool) (n : ℕ) (states others x : List Awaited) → done states ≡ done others → chosen k n states x ≡ chosen k n others x
+chosen_same true n states others x d = rw d
+chosen_same false n states others x d = refl
 
 read_narrow
     : (states others : List Awaited) (b : ℕ) (s : List ℕ) → after b states ≡ after b others → done states ≡ done others
     → states_read states (b ∷ s) ≡ states_read others (b ∷ s)
 unfolding states_read run left
 read_narrow states others b s a d =
-    rw a (made_same (is_nil (after b others)) (suc (run (after b others) s)) states others (left (after b others) s) d)
+    rw a (chosen_same (is_nil (after b others)) (suc (run (after b others) s)) states others (left (after b others) s) d)
 
 -- ---- the same, at a place
 
-later_piece : (at : ℕ) (x : Read Said) → piece_of at (later x) ≡ piece_of (at + 1) x
-unfolding piece_of
-later_piece at x = ap (λ (k : ℕ). piece k x.good x.value.form x.value.number) (omega arith)
-
 -- What is done without a byte more.
-abbrev pub done_piece : ℕ → Done → Piece
-done_piece at d = piece at d.good d.value.form d.value.number
+abbrev pub done_piece : ℕ → Done → Result Piece BadLine
+done_piece at d = cond d.good (Ok (piece_said at d.value)) (bad_at at)
 
-stopped : (at : ℕ) (d : Done) → piece_of at (record { count = 0; good = d.good; value = d.value }) ≡ done_piece at d
-unfolding piece_of
-stopped at d = ap (λ (k : ℕ). piece k d.good d.value.form d.value.number) (omega arith)
+later_piece : (at : ℕ) (x : Read Said) → made piece_said at (later x) ≡ made piece_said (at + 1) x
+unfolding made
+later_piece at x = ap (λ (k : ℕ). done_piece k (record { good = x.good; value = x.value })) (omega arith)
+
+stopped : (at : ℕ) (d : Done) → made piece_said at (record { count = 0; good = d.good; value = d.value }) ≡ done_piece at d
+unfolding made
+stopped at d = ap (λ (k : ℕ). done_piece k d) (omega arith)
 
 module _ (s : List ℕ) (at : ℕ) where
   -- A byte that rows go on with.
@@ -76,7 +74,8 @@ module _ (s : List ℕ) (at : ℕ) where
   takes states next b h e a n =
       let q : after (byte_at s at) states ≡ next = rw e a in
       rw (drop-cons s at 0 h, read_takes states next (byte_at s at) (drop (suc at) s) q n, add-one)
-      (later_piece at (states_read next (drop (suc at) s)) ∙ ap (λ (k : ℕ). piece_of k (states_read next (drop (suc at) s))) (add-one at))
+      (later_piece at (states_read next (drop (suc at) s))
+      ∙ ap (λ (k : ℕ). made piece_said k (states_read next (drop (suc at) s))) (add-one at))
 
   -- A byte that none goes on with, and the end.
   pub stays
@@ -96,65 +95,29 @@ module _ (s : List ℕ) (at : ℕ) where
       → state_at states s at ≡ state_at others s at
   unfolding state_at
   narrow_here states others h a d =
-      rw (drop-cons s at 0 h) (ap (piece_of at) (read_narrow states others (byte_at s at) (drop (suc at) s) a d))
+      rw (drop-cons s at 0 h) (ap (made piece_said at) (read_narrow states others (byte_at s at) (drop (suc at) s) a d))
 
   -- What a call gave for the bytes behind this one is what is read here.
   pub goes_on
-      : (states : List Awaited) {next : List Awaited} (b : ℕ) {r : Piece} → r ≡ state_at next s (at + 1) → at < length s → byte_at s at ≡ b
+      : (states : List Awaited) {next : List Awaited} (b : ℕ) {r : Result Piece BadLine}
+      → r ≡ state_at next s (at + 1)
+      → at < length s
+      → byte_at s at ≡ b
       → after b states ≡ next → is_nil next ≡ false → r ≡ state_at states s at
   goes_on states {next} b e h q a n = e ∙ sym (takes states next b h q a n)
 
   -- A word that is whole.
-  pub whole_word : (form : ℕ) → word_at [] form s at ≡ piece at true form 0
+  pub whole_word : (form : ℕ) → word_at [] form s at ≡ Ok (piece at form 0)
   unfolding after done
   whole_word form = by (dec_le (suc at) (length s))
     where
-      by : Dec (suc at ≤ length s) → word_at [] form s at ≡ piece at true form 0
+      by : Dec (suc at ≤ length s) → word_at [] form s at ≡ Ok (piece at form 0)
       by (yes h) = stays (letters [] form nothing ∷ []) h refl
       by (no h) = ends (letters [] form nothing ∷ []) (omega arith)
 
 -- A word of one byte.
 pub one_byte
     : (s : List ℕ) (at : ℕ) (states : List Awaited) (b form : ℕ) → at < length s → byte_at s at ≡ b
-    → after b states ≡ letters [] form nothing ∷ [] → piece (at + 1) true form 0 ≡ state_at states s at
+    → after b states ≡ letters [] form nothing ∷ [] → Ok (piece (at + 1) form 0) ≡ state_at states s at
 one_byte s at states b form h q a =
     sym (takes s at states (letters [] form nothing ∷ []) b h q a refl ∙ whole_word s (at + 1) form)
-
--- ---- a field, where the line goes on or does not
-
-module _ (rows : List Row) (s : List ℕ) (from : LinePlace) where
-  pub field_here : not from.good ≡ false → field_at rows s from ≡ piece_at rows s from.at
-  unfolding field_at
-  field_here h = rw (not-false from.good h)
-
-  pub field_missing : not from.good ≡ true → field_at rows s from ≡ no_piece from.at
-  unfolding field_at
-  field_missing h = rw (not-true from.good h)
-
--- ---- the byte behind a field
-
-module _ (byte : ℕ) (s : List ℕ) (at : ℕ) (good : Bool) where
-  pub behind_nothing : good ≡ false → place at false ≡ behind_at byte s at good
-  unfolding behind_at
-  behind_nothing h = rw h
-
-  module _ (g : good ≡ true) {k : Bool} (e : k ≡ (ltb at (length s) && eqb (byte_at s at) byte)) where
-    pub behind_other : k ≡ false → place at false ≡ behind_at byte s at good
-    unfolding behind_at
-    behind_other h = rw (g, ← e, h)
-
-    pub behind_there : k ≡ true → place (at + 1) true ≡ behind_at byte s at good
-    unfolding behind_at
-    behind_there h = rw (g, ← e, h)
-
--- ---- a TTL, over what the calls gave
-
-module _ (s : List ℕ) (from : LinePlace) (ttl : Piece) (e : ttl ≡ field_at bare_byte s from) where
-  pub ttl_missing : not ttl.good ≡ true → no_ttl ttl.at ≡ ttl_at s from
-  unfolding ttl_at
-  ttl_missing h = rw (← e, not-true ttl.good h)
-
-  pub ttl_there
-      : not ttl.good ≡ false → (form : Piece) → form ≡ piece_at ttl_form s ttl.at → ttl_piece ttl form ≡ ttl_at s from
-  unfolding ttl_at
-  ttl_there h form q = rw (← e, not-false ttl.good h, q)

@@ -1,5 +1,6 @@
 -- What one option shows, kind by kind, in terms of its own bytes.
-use mathlib.Core.Path.{◌≡◌, refl, ap}
+use Rattle.std.specs.Prelude.{Option, Some}
+use mathlib.Core.Path.{◌≡◌, refl}
 use mathlib.Core.Bool.{Bool, true, false, not, ◌&&◌}
 use mathlib.Core.List.{List}
 use Prim.Native.Nat.{ℕ, suc, ◌+◌, ◌*◌, ◌<◌, ◌≤◌}
@@ -12,10 +13,6 @@ use Rattle.basis.specs.Bytes.{byte_at, be16, be32, any_nonzero}
 use Rattle.quirks.specs.declared.Quirk.TheVariants as quirk
 use Rattle.quirks.specs.declared.QuirkSet.{QuirkSet}
 use Rattle.quirks.specs.Quirks.{add_if}
-use Rattle.tcp.specs.declared.Mss.{Mss}
-use Rattle.tcp.specs.declared.Mss.TheVariants as mss
-use Rattle.tcp.specs.declared.Wscale.{Wscale}
-use Rattle.tcp.specs.declared.Wscale.TheVariants as wscale
 use Rattle.one_option.specs.declared.Seen.{Seen}
 use Rattle.one_option.specs.Options.{Opt}
 use Rattle.one_option.specs.See.{later_mss, later_scale, trailing_nonzero, excessive_scaling, own_timestamp_zero}
@@ -59,7 +56,7 @@ module _ (syn : Bool) (s : Seen) (own : List ℕ) where
   pub mss_enough
       : 2 < length own
       → see_option syn s (opt 2 own)
-      ≡ record { mss = mss.Present (byte_at own 1 * 256 + byte_at own 2); wscale = s.wscale; quirks = s.quirks }
+      ≡ record { mss = Some (byte_at own 1 * 256 + byte_at own 2); wscale = s.wscale; quirks = s.quirks }
   unfolding see_option later_mss later_scale trailing_nonzero excessive_scaling own_timestamp_zero peer_timestamp_nonzero later_quirks
       add_if be16
   mss_enough h = simp (data_enough own 2 h, get_or-drop)
@@ -74,7 +71,7 @@ module _ (syn : Bool) (s : Seen) (own : List ℕ) where
       → see_option syn s (opt 3 own)
       ≡ record {
         mss = s.mss;
-        wscale = wscale.Present (byte_at own 1);
+        wscale = Some (byte_at own 1);
         quirks = add_if (ltb 14 (byte_at own 1)) quirk.ExcessiveWindowScaling s.quirks;
       }
   unfolding see_option later_mss later_scale trailing_nonzero excessive_scaling own_timestamp_zero peer_timestamp_nonzero later_quirks
@@ -115,10 +112,6 @@ module _ (syn : Bool) (s : Seen) (own : List ℕ) where
 
 -- ---- field by field
 
--- A quirk set among what has been seen, for the laws above.
-abbrev pub just : QuirkSet → Seen
-just q = record { mss = mss.Absent; wscale = wscale.Absent; quirks = q }
-
 module _ (syn : Bool) (q : QuirkSet) (own : List ℕ) where
   pub other_quirks : (kind : ℕ) → (kind ≡ 0 → ⊥) → (kind ≡ 3 → ⊥) → (kind ≡ 8 → ⊥) → later_quirks syn q (opt kind own) ≡ q
   unfolding trailing_nonzero excessive_scaling own_timestamp_zero peer_timestamp_nonzero later_quirks add_if
@@ -129,11 +122,36 @@ module _ (syn : Bool) (q : QuirkSet) (own : List ℕ) where
   unfolding trailing_nonzero excessive_scaling own_timestamp_zero peer_timestamp_nonzero later_quirks add_if
   last_quirks kind e = rw e
 
-  pub quirks_of_lem : (o : Opt) {t : Seen} → see_option syn (just q) o ≡ t → later_quirks syn q o ≡ t.quirks
-  unfolding see_option
-  quirks_of_lem o e = ap (λ (x : Seen). x.quirks) e
+  pub short_scaling : length own ≤ 1 → later_quirks syn q (opt 3 own) ≡ q
+  unfolding trailing_nonzero excessive_scaling own_timestamp_zero peer_timestamp_nonzero later_quirks add_if
+  short_scaling h = simp (data_short own 0 h)
 
-module _ (m : Mss) (kind : ℕ) (own : List ℕ) where
+  pub enough_scaling
+      : 1 < length own
+      → later_quirks syn q (opt 3 own) ≡ add_if (ltb 14 (byte_at own 1)) quirk.ExcessiveWindowScaling q
+  unfolding trailing_nonzero excessive_scaling own_timestamp_zero peer_timestamp_nonzero later_quirks add_if
+  enough_scaling h = simp (data_enough own 1 h, get_or-drop)
+
+  pub no_stamps : length own ≤ 4 → later_quirks syn q (opt 8 own) ≡ q
+  unfolding trailing_nonzero excessive_scaling own_timestamp_zero peer_timestamp_nonzero later_quirks add_if
+  no_stamps h = simp (data_short own 3 h, data_short own 7 (omega arith))
+
+  pub own_stamp
+      : 4 < length own
+      → length own ≤ 8
+      → later_quirks syn q (opt 8 own) ≡ add_if (eqb (be16 own 1 * 65536 + be16 own 3) 0) quirk.OwnTimestampZero q
+  unfolding trailing_nonzero excessive_scaling own_timestamp_zero peer_timestamp_nonzero later_quirks add_if be32 be16
+  own_stamp h k = simp (data_enough own 4 h, data_short own 7 k, get_or-drop)
+
+  pub both_stamps
+      : 8 < length own
+      → later_quirks syn q (opt 8 own)
+      ≡ add_if (syn && not (eqb (be16 own 5 * 65536 + be16 own 7) 0)) quirk.PeerTimestampNonZero
+      (add_if (eqb (be16 own 1 * 65536 + be16 own 3) 0) quirk.OwnTimestampZero q)
+  unfolding trailing_nonzero excessive_scaling own_timestamp_zero peer_timestamp_nonzero later_quirks add_if be32 be16
+  both_stamps h = simp (data_enough own 4 (omega arith), data_enough own 8 h, get_or-drop)
+
+module _ (m : Option ℕ) (kind : ℕ) (own : List ℕ) where
   pub no_mss : (kind ≡ 2 → ⊥) → later_mss m (opt kind own) ≡ m
   unfolding later_mss
   no_mss n = rw (ne_eqb kind 2 n)
@@ -142,11 +160,11 @@ module _ (m : Mss) (kind : ℕ) (own : List ℕ) where
   unfolding later_mss
   short_mss e h = rw (eq-eqb kind 2 e, data_short own 1 h)
 
-  pub enough_mss : kind ≡ 2 → 2 < length own → later_mss m (opt kind own) ≡ mss.Present (be16 own 1)
+  pub enough_mss : kind ≡ 2 → 2 < length own → later_mss m (opt kind own) ≡ Some (be16 own 1)
   unfolding later_mss be16
   enough_mss e h = simp (eq-eqb kind 2 e, data_enough own 2 h, get_or-drop)
 
-module _ (w : Wscale) (kind : ℕ) (own : List ℕ) where
+module _ (w : Option ℕ) (kind : ℕ) (own : List ℕ) where
   pub no_scale : (kind ≡ 3 → ⊥) → later_scale w (opt kind own) ≡ w
   unfolding later_scale
   no_scale n = rw (ne_eqb kind 3 n)
@@ -155,6 +173,6 @@ module _ (w : Wscale) (kind : ℕ) (own : List ℕ) where
   unfolding later_scale
   short_scale e h = rw (eq-eqb kind 3 e, data_short own 0 h)
 
-  pub enough_scale : kind ≡ 3 → 1 < length own → later_scale w (opt kind own) ≡ wscale.Present (byte_at own 1)
+  pub enough_scale : kind ≡ 3 → 1 < length own → later_scale w (opt kind own) ≡ Some (byte_at own 1)
   unfolding later_scale
   enough_scale e h = simp (eq-eqb kind 3 e, data_enough own 1 h, get_or-drop)

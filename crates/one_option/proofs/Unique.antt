@@ -1,12 +1,10 @@
 -- Exactly one result meets each public function's own contract.
 -- tools/promises makes this file from the contracts, and the gate holds it to them.
 use Rattle.std.specs.Borrow.{Bor}
-use Rattle.std.specs.Prelude.{ℕ, Bool, List}
+use Rattle.std.specs.Prelude.{ℕ, Bool, List, Option}
 use contract.Lifetimes.{Lfts}
 use Rattle.basis.specs.Unique.{ExactlyOne}
 use Rattle.basis.proofs.Unique.{equation}
-use Rattle.tcp.specs.declared.Mss.{Mss}
-use Rattle.tcp.specs.declared.Wscale.{Wscale}
 use Rattle.quirks.specs.declared.QuirkSet.{QuirkSet}
 use Rattle.one_option.specs.declared.OptionStep.{OptionStep}
 use Rattle.one_option.specs.Options.{step_of}
@@ -22,13 +20,13 @@ pub option_step_one
 option_step_one κs options at = equation (step_of options.now at)
 
 pub later_mss_one
-    : (κs : Lfts 1) (kind : ℕ) (own : Bor (List ℕ)) (mss : Mss)
-    → ExactlyOne Mss (λ (r : Mss). later_mss'.Post κs (kind, (own, (mss, tt))) r (kind, (own, (mss, tt))))
+    : (κs : Lfts 1) (kind : ℕ) (own : Bor (List ℕ)) (mss : Option ℕ)
+    → ExactlyOne (Option ℕ) (λ (r : Option ℕ). later_mss'.Post κs (kind, (own, (mss, tt))) r (kind, (own, (mss, tt))))
 later_mss_one κs kind own mss = equation (later_mss mss (record { kind = kind; own = own.now }))
 
 pub later_scale_one
-    : (κs : Lfts 1) (kind : ℕ) (own : Bor (List ℕ)) (wscale : Wscale)
-    → ExactlyOne Wscale (λ (r : Wscale). later_scale'.Post κs (kind, (own, (wscale, tt))) r (kind, (own, (wscale, tt))))
+    : (κs : Lfts 1) (kind : ℕ) (own : Bor (List ℕ)) (wscale : Option ℕ)
+    → ExactlyOne (Option ℕ) (λ (r : Option ℕ). later_scale'.Post κs (kind, (own, (wscale, tt))) r (kind, (own, (wscale, tt))))
 later_scale_one κs kind own wscale = equation (later_scale wscale (record { kind = kind; own = own.now }))
 
 pub later_quirks_one

@@ -1,23 +1,19 @@
 -- What one option says of MSS, scale and quirks (document 01, "Headers and options").
-use Rattle.std.specs.Prelude.{Bool, cond, not, ◌&&◌, eqb, leb, ltb, length}
+use Rattle.std.specs.Prelude.{Bool, cond, not, ◌&&◌, eqb, leb, ltb, length, Option, Some, ℕ}
 use Rattle.basis.specs.Bytes.{byte_at, be16, be32, any_nonzero}
 use Rattle.quirks.specs.declared.Quirk.TheVariants as quirk
 use Rattle.quirks.specs.declared.QuirkSet.{QuirkSet}
 use Rattle.quirks.specs.Quirks.{add_if}
-use Rattle.tcp.specs.declared.Mss.{Mss}
-use Rattle.tcp.specs.declared.Mss.TheVariants as mss
-use Rattle.tcp.specs.declared.Wscale.{Wscale}
-use Rattle.tcp.specs.declared.Wscale.TheVariants as wscale
 use Rattle.one_option.specs.declared.Seen.{Seen}
 use Rattle.one_option.specs.Options.{Opt, data_of}
 
 -- "A later MSS or scale replaces an earlier one only if its data suffices": kind 2 with two bytes (RFC 9293, section 3.7.1),
 -- kind 3 with one (RFC 7323, section 2.2).
-unfoldable pub later_mss : Mss → Opt → Mss
-later_mss m o = cond (eqb o.kind 2 && leb 2 (length (data_of o))) (mss.Present (be16 (data_of o) 0)) m
+unfoldable pub later_mss : Option ℕ → Opt → Option ℕ
+later_mss m o = cond (eqb o.kind 2 && leb 2 (length (data_of o))) (Some (be16 (data_of o) 0)) m
 
-unfoldable pub later_scale : Wscale → Opt → Wscale
-later_scale s o = cond (eqb o.kind 3 && leb 1 (length (data_of o))) (wscale.Present (byte_at (data_of o) 0)) s
+unfoldable pub later_scale : Option ℕ → Opt → Option ℕ
+later_scale s o = cond (eqb o.kind 3 && leb 1 (length (data_of o))) (Some (byte_at (data_of o) 0)) s
 
 -- A byte other than 0 after kind 0.
 unfoldable pub trailing_nonzero : Opt → Bool

@@ -8,7 +8,6 @@ ghost use Rattle.one_option.specs.See.{later_mss, later_scale, later_quirks};
 
 use numbers::{be16_at, be32, byte_at};
 use quirks::{Quirk, QuirkSet};
-use tcp::{Mss, Wscale};
 
 // The option kinds that are read.
 const EOL: u8 = 0;
@@ -24,8 +23,8 @@ const TIMESTAMPS: u8 = 8;
 // What the options have said so far, the layout apart.
 #[derive(Clone, Copy)]
 pub struct Seen {
-    pub mss: Mss,
-    pub wscale: Wscale,
+    pub mss: Option<u16>,
+    pub wscale: Option<u8>,
     pub quirks: QuirkSet,
 }
 
@@ -66,7 +65,9 @@ fn past_step(kind: u8, all: usize) -> OptionStep
     }
 }
 
-// The option at a place, past the end an end-of-options. All is kept in places of the whole string: a turn of a walk adds once.
+// The option at a place, past the end an end-of-options. All is kept in places of the whole string: a turn of a walk adds once. Tests are
+// joined by `&`, which takes no branch.
+#[tactic(auto, using(crate::proofs::Options::inside_nonzero))]
 pub fn option_step(options: &[u8], at: usize) -> OptionStep
     ensures { result ≡ step_of options.now at }
 {
@@ -101,52 +102,45 @@ pub fn option_step(options: &[u8], at: usize) -> OptionStep
 fn any_nonzero(s: &[u8]) -> bool
     ensures { result ≡ any_nonzero s.now }
 {
-    let mut i = 0;
-    while i < s.len() {
-        if s[i] != 0 {
-            return true;
-        }
-        i += 1;
-    }
-    false
+    s.iter().any(|b| *b != 0)
 }
 
 // The MSS after one option more: a later one replaces an earlier one only if its data suffices.
-pub fn later_mss(kind: u8, own: &[u8], mss: Mss) -> Mss
+#[tactic(auto, using(crate::proofs::See::no_mss, crate::proofs::See::short_mss, crate::proofs::See::enough_mss))]
+pub fn later_mss(kind: u8, own: &[u8], mss: Option<u16>) -> Option<u16>
     ensures { result ≡ later_mss mss (record { kind = kind; own = own.now }) }
 {
-    if kind != MSS {
-        return mss;
+    if kind == MSS && 2 < own.len() {
+        Some(be16_at(own, 1))
+    } else {
+        mss
     }
-    if own.len() < 3 {
-        return mss;
-    }
-    Mss::Present(be16_at(own, 1))
 }
 
 // The scale, in the same way.
-pub fn later_scale(kind: u8, own: &[u8], wscale: Wscale) -> Wscale
+#[tactic(auto, using(crate::proofs::See::no_scale, crate::proofs::See::short_scale, crate::proofs::See::enough_scale))]
+pub fn later_scale(kind: u8, own: &[u8], wscale: Option<u8>) -> Option<u8>
     ensures { result ≡ later_scale wscale (record { kind = kind; own = own.now }) }
 {
-    if kind != WSCALE {
-        return wscale;
+    if kind == WSCALE && 1 < own.len() {
+        Some(own[1])
+    } else {
+        wscale
     }
-    if own.len() < 2 {
-        return wscale;
-    }
-    Wscale::Present(own[1])
 }
 
+#[tactic(auto, using(crate::proofs::See::short_scaling, crate::proofs::See::enough_scaling))]
 fn scale_quirks(own: &[u8], syn: bool, quirks: QuirkSet) -> QuirkSet
     ensures { result ≡ later_quirks syn quirks (record { kind = 3; own = own.now }) }
 {
-    if own.len() < 2 {
-        return quirks;
+    if 1 < own.len() {
+        quirks.add_if(14 < own[1], Quirk::ExcessiveWindowScaling)
+    } else {
+        quirks
     }
-    let scale = own[1];
-    quirks.add_if(14 < scale, Quirk::ExcessiveWindowScaling)
 }
 
+#[tactic(auto, using(crate::proofs::See::no_stamps, crate::proofs::See::own_stamp, crate::proofs::See::both_stamps))]
 fn stamp_quirks(own: &[u8], syn: bool, before: QuirkSet) -> QuirkSet
     ensures { result ≡ later_quirks syn before (record { kind = 8; own = own.now }) }
 {
@@ -163,17 +157,14 @@ fn stamp_quirks(own: &[u8], syn: bool, before: QuirkSet) -> QuirkSet
 }
 
 // The quirks after one option more.
+#[tactic(auto, using(crate::proofs::See::last_quirks, crate::proofs::See::other_quirks))]
 pub fn later_quirks(kind: u8, own: &[u8], syn: bool, quirks: QuirkSet) -> QuirkSet
     ensures { result ≡ later_quirks syn quirks (record { kind = kind; own = own.now }) }
 {
-    if kind == TIMESTAMPS {
-        return stamp_quirks(own, syn, quirks);
+    match kind {
+        TIMESTAMPS => stamp_quirks(own, syn, quirks),
+        WSCALE => scale_quirks(own, syn, quirks),
+        EOL => quirks.add_if(any_nonzero(own), Quirk::TrailinigNonZero),
+        _ => quirks,
     }
-    if kind == WSCALE {
-        return scale_quirks(own, syn, quirks);
-    }
-    if kind == EOL {
-        return quirks.add_if(any_nonzero(own), Quirk::TrailinigNonZero);
-    }
-    quirks
 }

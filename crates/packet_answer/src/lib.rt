@@ -4,54 +4,55 @@
 ghost use Rattle.std.specs.Prelude.{◌≡◌};
 ghost use Rattle.packet_answer.specs.Packet.{peer_of, answer_of, answer_in};
 
-use flow::{Answer, Mode, read_packet_in};
+use flow::{Kind, Mode, Reading, read_packet_in};
 use found::Searched;
 use refusals::PacketRefusal;
 use search::search_checked;
-use tcp::Mss;
 
-// The answer of a packet: what its search answers, nothing, or a refusal 1 to 7 or 14.
+// The answer of a packet that is not refused: what its search answers, or nothing. The kind stands beside, as in what was read.
 #[derive(Clone, Copy)]
 pub enum PacketAnswer {
-    Syn(Searched),
-    SynAck(Searched),
+    Opening(Kind, Searched),
     Nothing,
-    Refused(PacketRefusal),
 }
 
 // A peer's MSS of 0 is absent.
-pub fn peer_of(number: u16) -> Mss
+#[tactic(auto, unfolding(crate::specs::Packet::peer_of))]
+pub fn peer_of(number: u16) -> Option<u16>
     ensures { result ≡ peer_of number }
 {
-    if number == 0 {
-        return Mss::Absent;
+    match number {
+        0 => None,
+        present => Some(present),
     }
-    Mss::Present(number)
 }
 
-// The answer of a packet, in any mode, against a list that was checked: what is not a well-formed record of the list does not fit. One
-// call searches for both kinds, and only they have their observation copied (docs/DECISIONS.md, 74).
-pub fn answer_packet_in(packet: &[u8], peer: Mss, list: &[u8], mode: Mode) -> PacketAnswer
+// The answer of a packet, in any mode, against a list that was checked: what is not a well-formed record of the list does not fit. The
+// refusals are 1 to 7 and 14. One call searches for both kinds, and only they have their observation copied (docs/DECISIONS.md, 74).
+#[tactic(auto, unfolding(crate::specs::Packet::answer_in))]
+pub fn answer_packet_in(
+    packet: &[u8],
+    peer: Option<u16>,
+    list: &[u8],
+    mode: Mode,
+) -> Result<PacketAnswer, PacketRefusal>
     ensures { result ≡ answer_in mode packet.now peer list.now }
 {
-    let reading = read_packet_in(packet, peer, mode);
-    let answer = reading.answer;
-    match answer {
-        Answer::Nothing => PacketAnswer::Nothing,
-        Answer::Refused(refusal) => PacketAnswer::Refused(refusal),
-        Answer::Syn | Answer::SynAck => {
-            let observation = reading.observation;
-            let searched = search_checked(observation, list);
-            match answer {
-                Answer::Syn => PacketAnswer::Syn(searched),
-                _ => PacketAnswer::SynAck(searched),
-            }
-        }
+    match read_packet_in(packet, peer, mode)? {
+        Reading::Opening(kind, observation) => Ok(PacketAnswer::Opening(
+            kind,
+            search_checked(observation, list),
+        )),
+        Reading::Nothing => Ok(PacketAnswer::Nothing),
     }
 }
 
-// The same in the plain mode.
-pub fn answer_packet(packet: &[u8], peer: Mss, list: &[u8]) -> PacketAnswer
+// The same in the plain mode: a public function, which docs/HOUSE.md names.
+pub fn answer_packet(
+    packet: &[u8],
+    peer: Option<u16>,
+    list: &[u8],
+) -> Result<PacketAnswer, PacketRefusal>
     ensures { result ≡ answer_of packet.now peer list.now }
 {
     answer_packet_in(packet, peer, list, Mode::PLAIN)

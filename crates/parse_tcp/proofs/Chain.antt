@@ -1,73 +1,74 @@
--- Fields one after the other: the answer is what the rest gives, read behind the field's separator.
+-- Parts one after the other: what is made of the whole is what is read part by part.
 use Prim.Native.Nat.{ℕ, ◌+◌}
-use mathlib.Core.Path.{◌≡◌, refl, ap}
-use mathlib.Core.Bool.{Bool, true, false, cond, ◌&&◌}
-use mathlib.Core.List.{List}
+use mathlib.Core.Path.{◌≡◌, refl, ◌∙◌, ap}
+use mathlib.Core.Bool.{Bool, true, false, cond}
+use mathlib.Core.List.{List, []}
 use native.Mathlib.Omega.{arith}
-use lib.Dec.{eqb}
-use lib.ListN.{length, drop}
+use lib.ListN.{drop}
 use lib.Seq.{drop-drop}
-use Rattle.grammar.specs.Reading.{Read, then_read}
-use Rattle.signature_line.specs.Answer.{refused_at}
-use Rattle.signature_line.specs.declared.SignatureRead.{SignatureRead}
-use Rattle.one_field.specs.declared.LinePlace.{LinePlace}
-use Rattle.one_field.specs.Places.{place, behind_at}
-use Rattle.parse_tcp.proofs.MoreLaws.{next, one_on, stays_put, behind_read_lem, behind_unread}
+use Rattle.std.specs.Prelude.{Result, Ok, Err}
+use Rattle.grammar.specs.Reading.{Read, later, behind_read, join_read, then_read}
+use Rattle.signature_line.specs.declared.BadLine.{BadLine}
+use Rattle.signature_line.specs.Answer.{bad_at}
+use Rattle.numerals.specs.Pieces.{made, and_then}
+use Rattle.numerals.proofs.Made.{made_bad}
+use Rattle.one_field.specs.Places.{behind_at}
+use Rattle.parse_tcp.proofs.MoreLaws.{one_on, stays_put, behind_read_lem, behind_unread}
 
--- The answer where a reading from a place on is the rest of the line: its meaning if it means something and nothing is left.
-unfoldable pub finish : {A : Type 0} → (A → SignatureRead) → List ℕ → ℕ → Read A → SignatureRead
-finish k s at x = cond (x.good && eqb (at + x.count) (length s)) (k x.value) (refused_at (at + x.count))
+module _ {A P : Type 0} (of : ℕ → A → P) where
+  abbrev chosen : ℕ → Bool → A → Result P BadLine
+  chosen at k v = cond k (Ok (of at v)) (bad_at at)
 
-unfoldable pub finish_at : {A : Type 0} → (A → SignatureRead) → List ℕ → LinePlace → (List ℕ → Read A) → SignatureRead
-finish_at k s p h = cond p.good (finish k s p.at (h (drop p.at s))) (refused_at p.at)
+  later_made : (at : ℕ) (x : Read A) → made of at (later x) ≡ made of (at + 1) x
+  unfolding made
+  later_made at x = ap (λ (i : ℕ). chosen i x.good x.value) (omega arith)
 
-not_behind : (c : ℕ) (s : List ℕ) (at : ℕ) → behind_at c s at false ≡ place at false
-unfolding behind_at
-not_behind c s at = refl
+  -- The byte, then a part.
+  pub behind_made
+      : (c : ℕ) (g : List ℕ → Read A) (s : List ℕ) (at : ℕ)
+      → made of at (behind_read c g (drop at s)) ≡ and_then (behind_at c s at) (λ i. made of i (g (drop i s)))
+  unfolding and_then
+  behind_made c g s at = by (behind_at c s at) refl
+    where
+      by : (r : Result ℕ BadLine) → behind_at c s at ≡ r
+          → made of at (behind_read c g (drop at s)) ≡ and_then r (λ i. made of i (g (drop i s)))
+      by (Ok p) e =
+          rw (behind_read_lem c s at g e) (later_made at (g (drop p s)) ∙ ap (λ (i : ℕ). made of i (g (drop p s))) (one p e))
+        where
+          one : (p : ℕ) → behind_at c s at ≡ Ok p → at + 1 ≡ p
+          one p e = let q = one_on c s at e in omega arith
+      by (Err bad) e =
+          rw (behind_unread c s at g e, stays_put c s at e)
+          (made_bad of at (record { count = 0; good = false; value = (g []).value }) refl ∙ ap bad_at (omega arith))
 
-same_finish
-    : {A : Type 0} (k : A → SignatureRead) (s : List ℕ) (i j : ℕ) (good : Bool) (v : A) → i ≡ j
-    → cond (good && eqb i (length s)) (k v) (refused_at i) ≡ cond (good && eqb j (length s)) (k v) (refused_at j)
-same_finish k s i j good v e = rw e
-
-module _ {A B : Type 0} (f : List ℕ → Read A) (c : ℕ) (g : List ℕ → Read B) (k : A × B → SignatureRead) (s : List ℕ) where
-  -- What the rest gives, with the field's value.
-  abbrev rest : A → LinePlace → SignatureRead
-  rest v p = finish_at (λ (u : B). k (v, u)) s p g
-
-  module _ (at : ℕ) where
+-- A part and the next, with nothing between; and with a byte between.
+module _ {A B P Q : Type 0} (f : List ℕ → Read A) (p : ℕ → A → P) (of : ℕ → A × B → Q) where
+  module _ (s : List ℕ) (at : ℕ) (G : P → Result Q BadLine) where
     abbrev x : Read A
     x = f (drop at s)
 
-    abbrev p : LinePlace
-    p = next c s (at + x.count)
+    abbrev behind : A → ℕ → B → Q
+    behind v i u = of i (v, u)
 
-    bad : x.good ≡ false → finish k s at (then_read f c g (drop at s)) ≡ rest x.value (behind_at c s (at + x.count) x.good)
-    unfolding finish finish_at
-    bad e = rw (e, not_behind c s (at + x.count))
-
-    missing
-        : x.good ≡ true → p.good ≡ false
-        → finish k s at (then_read f c g (drop at s)) ≡ rest x.value (behind_at c s (at + x.count) x.good)
-    unfolding finish finish_at
-    missing e q =
-        rw (e, drop-drop x.count at s, behind_unread c s (at + x.count) g q, q, stays_put c s (at + x.count) q)
-        (ap refused_at (omega arith))
-
-    there
-        : x.good ≡ true → p.good ≡ true
-        → finish k s at (then_read f c g (drop at s)) ≡ rest x.value (behind_at c s (at + x.count) x.good)
-    unfolding finish finish_at
-    there e q =
-        let y = g (drop (at + x.count + 1) s) in
-        rw (e, drop-drop x.count at s, behind_read_lem c s (at + x.count) g q, q, one_on c s (at + x.count) q)
-        (same_finish k s _ _ y.good (x.value, y.value) (omega arith))
-
-    pub then_finish : finish k s at (then_read f c g (drop at s)) ≡ rest x.value (behind_at c s (at + x.count) x.good)
-    then_finish = by x.good refl p.good refl
+    pub join_made
+        : (g : List ℕ → Read B) → ((i : ℕ) (v : A) → made (behind v) i (g (drop i s)) ≡ G (p i v))
+        → made of at (join_read f g (drop at s)) ≡ and_then (made p at x) G
+    unfolding made and_then
+    join_made g h = by x.good refl
       where
-        by : (a : Bool) → x.good ≡ a → (b : Bool) → p.good ≡ b
-            → finish k s at (then_read f c g (drop at s)) ≡ rest x.value (behind_at c s (at + x.count) x.good)
-        by false e b q = bad e
-        by true e false q = missing e q
-        by true e true q = there e q
+        there : ℕ → Read B
+        there i = g (drop i s)
+
+        joined : (y : Read B) → made of at (record { count = x.count + y.count; good = y.good; value = (x.value, y.value) })
+            ≡ made (behind x.value) (at + x.count) y
+        joined y = ap (λ (i : ℕ). chosen (behind x.value) i y.good y.value) (omega arith)
+
+        by : (k : Bool) → x.good ≡ k → made of at (join_read f g (drop at s)) ≡ and_then (made p at x) G
+        by true e = rw (e, drop-drop x.count at s) (joined (there (at + x.count)) ∙ h (at + x.count) x.value)
+        by false e = rw e
+
+    pub then_made
+        : (c : ℕ) (g : List ℕ → Read B)
+        → ((i : ℕ) (v : A) → and_then (behind_at c s i) (λ n. made (behind v) n (g (drop n s))) ≡ G (p i v))
+        → made of at (then_read f c g (drop at s)) ≡ and_then (made p at x) G
+    then_made c g h = join_made (behind_read c g) (λ i v. behind_made (behind v) c g s i ∙ h i v)

@@ -1,12 +1,6 @@
 pub mod Chain
-pub mod InOrder
-pub mod LastStage
 pub mod LayoutLaws
-pub mod LineStages
 pub mod MoreLaws
 pub mod QuirkLaws
-pub mod RowStages
-pub mod StageLaws
-pub mod TtlStage
 pub mod Unique
 pub mod WholeLine

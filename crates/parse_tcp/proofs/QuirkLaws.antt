@@ -1,41 +1,55 @@
 -- The loop over the names of quirks: its turn, its ends; and quirks from their first name on.
 use Prim.Native.Nat.{ℕ, zero, suc, ◌+◌, ◌-◌, ◌<◌, ◌≤◌}
-use mathlib.Core.Path.{◌≡◌, refl, sym, ◌∙◌}
-use mathlib.Core.Bool.{Bool, true, false, not}
+use mathlib.Core.Path.{◌≡◌, refl, sym, ◌∙◌, ap}
+use mathlib.Core.Bool.{Bool, true, false}
 use mathlib.Core.List.{List, ◌∷◌}
 use native.Mathlib.Omega.{arith}
 use lib.Bits.{bit_or, or_zero_l}
 use lib.Dec.{eqb}
 use lib.ListN.{length, drop, length-drop}
 use lib.Seq.{drop-drop}
-use borrow.Author.Tests.{ne_eqb, eqb-true, not-true, not-false}
+use borrow.Author.Tests.{eq-eqb, ne_eqb}
+use Rattle.std.specs.Prelude.{Result, Ok, Err}
 use Rattle.grammar.specs.Reading.{Read, more_read}
 use Rattle.grammar.specs.States.{table_read}
 use Rattle.grammar.specs.Table.{Said}
+use Rattle.signature_line.specs.declared.BadLine.{BadLine}
+use Rattle.signature_line.specs.Answer.{bad_at}
 use Rattle.signature_line.specs.Line.{comma}
 use Rattle.signature_line.specs.LineReader.{quirks_read}
 use Rattle.signature_line.specs.Meaning.{union_from}
 use Rattle.signature_line.specs.Words.{quirk_word}
 use Rattle.signature_line.proofs.Line.{quirk_field, quirk_empty}
 use Rattle.numerals.specs.declared.Piece.{Piece}
-use Rattle.one_field.specs.declared.LinePlace.{LinePlace}
-use Rattle.numerals.specs.Pieces.{piece_of, state_at}
-use Rattle.one_field.specs.Places.{piece_at}
+use Rattle.numerals.specs.Pieces.{piece_said, made, state_at}
+use Rattle.numerals.proofs.Made.{made_Ok, made_Err}
+use Rattle.one_field.specs.Places.{behind_at, piece_at}
 use Rattle.parse_tcp.specs.declared.quirk_set.QuirksPiece.{QuirksPiece}
-use Rattle.parse_tcp.specs.RowPieces.{quirks_piece, quirks_of, quirks_at, names_at, names_from}
-use Rattle.parse_tcp.proofs.MoreLaws.{next, inside, one_on, more_ends, more_goes_on, more_bad, no_further}
+use Rattle.parse_tcp.specs.RowPieces.{quirks_said, quirks_at, names_at, names_from}
+use Rattle.parse_tcp.proofs.MoreLaws.{inside, one_on, more_ends, more_goes_on, more_bad}
 
 abbrev read : List ℕ → ℕ → Read Said
 read s at = table_read quirk_word (drop at s)
+
+-- What was read at a place, of a name that was, and of one that was not.
+read_Ok : (s : List ℕ) (at : ℕ) (e : Piece) → piece_at quirk_word s at ≡ Ok e
+    → ((read s at).good ≡ true) × (e ≡ piece_said (at + (read s at).count) (read s at).value)
+unfolding state_at
+read_Ok s at e q = made_Ok piece_said at (read s at) e q
+
+read_Err : (s : List ℕ) (at : ℕ) (bad : BadLine) → piece_at quirk_word s at ≡ Err bad
+    → ((read s at).good ≡ false) × (bad ≡ record { offset = at + (read s at).count })
+unfolding state_at
+read_Err s at bad q = made_Err piece_said at (read s at) bad q
 
 abbrev names : ℕ → List ℕ → ℕ → Read (List Said)
 names fuel s at = more_read (table_read quirk_word) comma fuel (drop at s)
 
 -- What is left to be read gives the whole, with turns enough for its bytes.
-pub record NamesLeft (bits : ℕ) (s : List ℕ) (at : ℕ) (whole : QuirksPiece) : Type 0 where
+pub record NamesLeft (bits : ℕ) (s : List ℕ) (at : ℕ) (whole : Result QuirksPiece BadLine) : Type 0 where
   pub turns : ℕ
   pub enough : length s - at ≤ turns
-  pub same : quirks_of bits at (names turns s at) ≡ whole
+  pub same : made (quirks_said bits) at (names turns s at) ≡ whole
 
 pub names_begin : (bits : ℕ) (s : List ℕ) (at : ℕ) → NamesLeft bits s at (names_at bits s at)
 unfolding names_at
@@ -43,82 +57,78 @@ names_begin bits s at = record { turns = length (drop at s); enough = omega (ari
 
 -- ---- one turn, and the ends
 
-same_piece : (i k bits : ℕ) (good : Bool) → i ≡ k → quirks_piece i good bits ≡ quirks_piece k good bits
-same_piece i k bits good e = rw e
+abbrev ended : ℕ → ℕ → Result QuirksPiece BadLine
+ended bits at = Ok (record { at = at; bits = bits })
 
 one_name
     : (bits at k c : ℕ) (v : Said) (g : Bool) (vs : List Said)
-    → quirks_of bits at (record { count = suc (k + c); good = g; value = v ∷ vs })
-    ≡ quirks_of (bit_or bits v.form) (at + 1 + k) (record { count = c; good = g; value = vs })
-unfolding quirks_of union_from
-one_name bits at k c v true vs = same_piece _ _ (union_from (bit_or bits v.form) vs) true (omega arith)
-one_name bits at k c v false vs = same_piece _ _ 0 false (omega arith)
+    → made (quirks_said bits) at (record { count = suc (k + c); good = g; value = v ∷ vs })
+    ≡ made (quirks_said (bit_or bits v.form)) (at + 1 + k) (record { count = c; good = g; value = vs })
+unfolding made union_from
+one_name bits at k c v true vs = ap (ended (union_from (bit_or bits v.form) vs)) (omega arith)
+one_name bits at k c v false vs = ap bad_at (omega arith)
 
 module _ (bits : ℕ) (s : List ℕ) (at : ℕ) where
-  ends : (turns : ℕ) → (next comma s at).good ≡ false → quirks_piece at true bits ≡ quirks_of bits at (names turns s at)
-  unfolding quirks_of union_from
-  ends zero q = same_piece _ _ bits true (omega arith)
-  ends (suc m) q = rw (more_ends (table_read quirk_word) comma s at m q) (same_piece _ _ bits true (omega arith))
+  ends : (turns : ℕ) {bad : BadLine} → behind_at comma s at ≡ Err bad → ended bits at ≡ made (quirks_said bits) at (names turns s at)
+  unfolding made union_from
+  ends zero q = ap (ended bits) (omega arith)
+  ends (suc m) q = rw (more_ends (table_read quirk_word) comma s at m q) (ap (ended bits) (omega arith))
 
-  stops
-      : (turns : ℕ) → length s - at ≤ turns → (next comma s at).good ≡ true → (piece_at quirk_word s (at + 1)).good ≡ false
-      → quirks_piece (piece_at quirk_word s (at + 1)).at false 0 ≡ quirks_of bits at (names turns s at)
-  unfolding quirks_of state_at piece_of
-  stops zero h q g = absurd (omega (arith, inside comma s at q))
-  stops (suc m) h q g = rw (more_bad (table_read quirk_word) comma s at m q g) (same_piece _ _ 0 false (omega arith))
+  module _ {p : ℕ} (q : behind_at comma s at ≡ Ok p) where
+    stops
+        : (turns : ℕ) → length s - at ≤ turns → (read s p).good ≡ false
+        → bad_at (p + (read s p).count) ≡ made (quirks_said bits) at (names turns s at)
+    unfolding made
+    stops zero h g = absurd (omega (arith, inside comma s at q))
+    stops (suc m) h g = rw (more_bad (table_read quirk_word) comma s at m q g, one_on comma s at q) (ap bad_at (omega arith))
 
-  turns_on
-      : (turns : ℕ) (whole : QuirksPiece) → length s - at ≤ turns → (next comma s at).good ≡ true
-      → (piece_at quirk_word s (at + 1)).good ≡ true
-      → quirks_of bits at (names turns s at) ≡ whole
-      → NamesLeft (bit_or bits (piece_at quirk_word s (at + 1)).form) s (piece_at quirk_word s (at + 1)).at whole
-  unfolding state_at piece_of
-  turns_on zero whole h q g e = absurd (omega (arith, inside comma s at q))
-  turns_on (suc m) whole h q g e =
-      let x = read s (at + 1) in
-      record {
-        turns = m;
-        enough = omega arith;
-        same =
-            sym
-            (rw (more_goes_on (table_read quirk_word) comma s at m q g, drop-drop x.count (at + 1) s)
-            (one_name bits at x.count _ x.value _ _))
-            ∙ e;
-      }
+    turns_on
+        : (turns : ℕ) (whole : Result QuirksPiece BadLine) → length s - at ≤ turns → (read s p).good ≡ true
+        → made (quirks_said bits) at (names turns s at) ≡ whole
+        → NamesLeft (bit_or bits (read s p).value.form) s (p + (read s p).count) whole
+    turns_on zero whole h g e = absurd (omega (arith, inside comma s at q))
+    turns_on (suc m) whole h g e =
+        let x = read s p in
+        let y = names m s (p + x.count) in
+        record {
+          turns = m;
+          enough = omega (arith, one_on comma s at q);
+          same =
+              sym
+              (rw (more_goes_on (table_read quirk_word) comma s at m q g, drop-drop x.count p s)
+              (one_name bits at x.count y.count x.value y.good y.value
+              ∙ ap (λ (i : ℕ). made (quirks_said (bit_or bits x.value.form)) (i + x.count) y) (sym (one_on comma s at q))))
+              ∙ e;
+        }
 
-  module _ (whole : QuirksPiece) (left : NamesLeft bits s at whole) (p : LinePlace) (ep : p ≡ next comma s at) where
-    pub names_end : not p.good ≡ true → quirks_piece at true bits ≡ whole
-    names_end h = ends left.turns (rw ep at (not-true p.good h)) ∙ left.same
+  module _ (whole : Result QuirksPiece BadLine) (left : NamesLeft bits s at whole) where
+    pub names_end : {bad : BadLine} → behind_at comma s at ≡ Err bad → ended bits at ≡ whole
+    names_end q = ends left.turns q ∙ left.same
 
-    module _ (there : not p.good ≡ false) (e : Piece) (ee : e ≡ piece_at quirk_word s p.at) where
-      q : (next comma s at).good ≡ true
-      q = rw ep at (not-false p.good there)
+    module _ {p : ℕ} (q : behind_at comma s at ≡ Ok p) where
+      pub names_bad : {bad : BadLine} → piece_at quirk_word s p ≡ Err bad → Err bad ≡ whole
+      names_bad {bad} w =
+          let r = read_Err s p bad w in
+          rw r.1 (stops q left.turns left.enough r.0) ∙ left.same
 
-      e_at : e ≡ piece_at quirk_word s (at + 1)
-      e_at =
-          let on : p.at ≡ at + 1 = rw ep (one_on comma s at q) in
-          rw on at ee
-
-      pub names_bad : not e.good ≡ true → quirks_piece e.at false 0 ≡ whole
-      names_bad h = rw e_at (stops left.turns left.enough q (rw e_at at (not-true e.good h))) ∙ left.same
-
-      pub names_turn : not e.good ≡ false → NamesLeft (bit_or bits e.form) s e.at whole
-      names_turn h = rw e_at (turns_on left.turns whole left.enough q (rw e_at at (not-false e.good h)) left.same)
+      pub names_turn : {e : Piece} → piece_at quirk_word s p ≡ Ok e → NamesLeft (bit_or bits e.form) s e.at whole
+      names_turn {e} w = let r = read_Ok s p e w in rw r.1 (turns_on q left.turns whole left.enough r.0 left.same)
 
       -- The line is a bounded one, and each turn takes of it.
-      pub names_less : length s - e.at < length s - at
-      unfolding state_at piece_of
-      names_less = let i = inside comma s at q in rw e_at (omega arith)
+      pub names_less : {e : Piece} → piece_at quirk_word s p ≡ Ok e → length s - e.at < length s - at
+      names_less {e} w =
+          let r = read_Ok s p e w in
+          omega (arith, inside comma s at q, one_on comma s at q, ap (λ (x : Piece). x.at) r.1)
 
 -- ---- quirks from their first name on
 
 first_named
     : (at k c : ℕ) (v : Said) (h : Bool) (vs : List Said)
-    → quirks_of 0 at (record { count = k + c; good = h; value = v ∷ vs })
-    ≡ quirks_of v.form (at + k) (record { count = c; good = h; value = vs })
-unfolding quirks_of union_from
-first_named at k c v true vs = rw (or_zero_l v.form) (same_piece _ _ (union_from v.form vs) true (omega arith))
-first_named at k c v false vs = same_piece _ _ 0 false (omega arith)
+    → made (quirks_said 0) at (record { count = k + c; good = h; value = v ∷ vs })
+    ≡ made (quirks_said v.form) (at + k) (record { count = c; good = h; value = vs })
+unfolding made union_from
+first_named at k c v true vs = rw (or_zero_l v.form) (ap (ended (union_from v.form vs)) (omega arith))
+first_named at k c v false vs = ap bad_at (omega arith)
 
 module _ (s : List ℕ) (at : ℕ) where
   abbrev others : Read (List Said)
@@ -138,34 +148,29 @@ module _ (s : List ℕ) (at : ℕ) where
       let n = name_some g in
       rw (g, ne_eqb ((read s at).count + others.count) 0 (λ z. n (omega arith)))
 
-  unread
-      : (read s at).good ≡ false → (k : Bool) → eqb (read s at).count 0 ≡ k
-      → quirks_of 0 at (quirks_read (drop at s)) ≡ quirks_piece (at + (read s at).count) k 0
-  unfolding quirks_read quirks_of union_from
-  unread g true z = rw (g, z) (same_piece _ _ 0 true (omega (arith, eqb-true (read s at).count 0 z)))
-  unread g false z = rw (g, z)
+  module _ {bad : BadLine} (e : piece_at quirk_word s at ≡ Err bad) where
+    pub quirks_none : bad.offset ≡ at → ended 0 at ≡ quirks_at s at
+    unfolding quirks_at quirks_read made union_from
+    quirks_none h =
+        let r = read_Err s at bad e in
+        let z : eqb (read s at).count 0 ≡ true = eq-eqb (read s at).count 0 (omega (arith, ap (λ (b : BadLine). b.offset) r.1)) in
+        let here : at + 0 ≡ at = omega arith in
+        rw (r.0, z, here)
 
-  from_first : (piece_at quirk_word s at).good ≡ true → names_from s (piece_at quirk_word s at) ≡ quirks_of 0 at (quirks_read (drop at s))
-  unfolding names_at state_at piece_of
+    pub quirks_bad : (bad.offset ≡ at → ⊥) → Err bad ≡ quirks_at s at
+    unfolding quirks_at quirks_read made
+    quirks_bad h =
+        let r = read_Err s at bad e in
+        let there = ap (λ (b : BadLine). b.offset) r.1 in
+        let z : eqb (read s at).count 0 ≡ false = ne_eqb (read s at).count 0 (λ z. h (omega arith)) in
+        rw (r.1, r.0, z)
+
+  from_first
+      : (read s at).good ≡ true → names_at (read s at).value.form s (at + (read s at).count) ≡ quirks_at s at
+  unfolding names_at quirks_at
   from_first g =
       rw (← drop-drop (read s at).count at s, quirks_read_lem g)
       (sym (first_named at (read s at).count others.count (read s at).value others.good others.value))
 
-module _ (s : List ℕ) (from : LinePlace) where
-  pub quirks_missing : not from.good ≡ true → quirks_piece from.at false 0 ≡ quirks_at s from
-  unfolding quirks_at
-  quirks_missing h = rw (not-true from.good h)
-
-  module _ (there : not from.good ≡ false) (first : Piece) (e : first ≡ piece_at quirk_word s from.at) where
-    here : quirks_of 0 from.at (quirks_read (drop from.at s)) ≡ quirks_at s from
-    unfolding quirks_at
-    here = rw (not-false from.good there)
-
-    pub quirks_none : first.good ≡ false → quirks_piece first.at (eqb first.at from.at) 0 ≡ quirks_at s from
-    unfolding state_at piece_of
-    quirks_none g =
-        let k = (read s from.at).count in
-        rw (e, no_further from.at k) (sym (unread s from.at (rw e at g) (eqb k 0) refl)) ∙ here
-
-    pub quirks_some : first.good ≡ true → names_from s first ≡ quirks_at s from
-    quirks_some g = rw e (from_first s from.at (rw e at g)) ∙ here
+  pub quirks_some : {first : Piece} → piece_at quirk_word s at ≡ Ok first → names_from s first ≡ quirks_at s at
+  quirks_some {first} e = let r = read_Ok s at first e in rw r.1 (from_first r.0)

@@ -1,62 +1,51 @@
 -- The fields of a line one after the other, each where the one before it ended and its separator stands.
-use Rattle.std.specs.Prelude.{ℕ, ◌/◌, ◌%◌, true, List, [], ◌∷◌}
+use Rattle.std.specs.Prelude.{ℕ, ◌/◌, ◌%◌, List, [], ◌∷◌, Result, Ok}
+use Rattle.signature_line.specs.declared.BadLine.{BadLine}
 use Rattle.signature_line.specs.Line.{colon, comma}
 use Rattle.signature_line.specs.Words.{version, bare_byte, mss, window, scale, payload}
 use Rattle.numerals.specs.declared.Piece.{Piece}
+use Rattle.numerals.specs.Pieces.{and_then}
 use Rattle.one_field.specs.declared.TtlPiece.{TtlPiece}
-use Rattle.one_field.specs.Places.{place, behind_at, field_at, ttl_at}
+use Rattle.one_field.specs.Places.{next_at, field_at, ttl_field_at}
 use Rattle.parse_tcp.specs.declared.layout.LayoutPiece.{LayoutPiece}
 use Rattle.parse_tcp.specs.declared.quirk_set.QuirksPiece.{QuirksPiece}
 use Rattle.parse_tcp.specs.declared.LineFields.{LineFields}
 use Rattle.parse_tcp.specs.RowPieces.{layout_at, quirks_at}
 
-unfoldable pub version_in : List ℕ → Piece
-version_in s = field_at version s (place 0 true)
-
-unfoldable pub ttl_in : List ℕ → TtlPiece
-ttl_in s = ttl_at s (behind_at colon s (version_in s).at (version_in s).good)
-
-unfoldable pub olen_in : List ℕ → Piece
-olen_in s = field_at bare_byte s (behind_at colon s (ttl_in s).at (ttl_in s).good)
-
-unfoldable pub mss_in : List ℕ → Piece
-mss_in s = field_at mss s (behind_at colon s (olen_in s).at (olen_in s).good)
-
-unfoldable pub window_in : List ℕ → Piece
-window_in s = field_at window s (behind_at colon s (mss_in s).at (mss_in s).good)
-
-unfoldable pub scale_in : List ℕ → Piece
-scale_in s = field_at scale s (behind_at comma s (window_in s).at (window_in s).good)
-
-unfoldable pub layout_in : List ℕ → LayoutPiece
-layout_in s = layout_at s (behind_at colon s (scale_in s).at (scale_in s).good)
-
-unfoldable pub quirks_in : List ℕ → QuirksPiece
-quirks_in s = quirks_at s (behind_at colon s (layout_in s).at (layout_in s).good)
-
-unfoldable pub payload_in : List ℕ → Piece
-payload_in s = field_at payload s (behind_at colon s (quirks_in s).at (quirks_in s).good)
-
-unfoldable pub line_fields : List ℕ → LineFields
-line_fields s =
+-- Where the last field ended, and what each says.
+abbrev pub fields_by
+    : Piece → TtlPiece → Piece → Piece → Piece → Piece → LayoutPiece → QuirksPiece → Piece → LineFields
+fields_by version ttl olen mss window scale layout quirks payload =
     record {
-      at = (payload_in s).at;
-      good = (payload_in s).good;
-      version = (version_in s).form;
-      ttl_form = (ttl_in s).form;
-      ttl = (ttl_in s).ttl;
-      distance = (ttl_in s).distance;
-      olen = (olen_in s).number;
-      mss_form = (mss_in s).form;
-      mss = (mss_in s).number;
-      wsize_form = (window_in s).form;
-      wsize = (window_in s).number;
-      wscale_form = (scale_in s).form;
-      wscale = (scale_in s).number;
-      pclass = (payload_in s).form;
-      quirks = (quirks_in s).bits;
-      layout = (layout_in s).layout;
+      at = payload.at;
+      version = version.form;
+      ttl_form = ttl.form;
+      ttl = ttl.ttl;
+      distance = ttl.distance;
+      olen = olen.number;
+      mss_form = mss.form;
+      mss = mss.number;
+      wsize_form = window.form;
+      wsize = window.number;
+      wscale_form = scale.form;
+      wscale = scale.number;
+      pclass = payload.form;
+      quirks = quirks.bits;
+      layout = layout.layout;
     }
+
+unfoldable pub line_fields : List ℕ → Result LineFields BadLine
+line_fields s =
+    and_then (field_at version s (Ok 0)) (λ v.
+    and_then (ttl_field_at s (next_at colon s (Ok v.at))) (λ t.
+    and_then (field_at bare_byte s (next_at colon s (Ok t.at))) (λ o.
+    and_then (field_at mss s (next_at colon s (Ok o.at))) (λ m.
+    and_then (field_at window s (next_at colon s (Ok m.at))) (λ w.
+    and_then (field_at scale s (next_at comma s (Ok w.at))) (λ k.
+    and_then (next_at colon s (Ok k.at)) (λ i. and_then (layout_at s i) (λ l.
+    and_then (next_at colon s (Ok l.at)) (λ i. and_then (quirks_at s i) (λ q.
+    and_then (field_at payload s (next_at colon s (Ok q.at))) (λ p.
+    Ok (fields_by v t o m w k l q p))))))))))))
 
 -- The record, each number in the bytes that it has there.
 unfoldable pub record_bytes : LineFields → List ℕ

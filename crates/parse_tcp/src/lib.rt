@@ -8,12 +8,12 @@ ghost use Rattle.parse_tcp.specs.LineParts.{line_fields};
 
 use layout::parse_olayout;
 use one_field::{
-    LinePlace, behind, parse_ip_version, parse_mss, parse_olen, parse_payload_size, parse_ttl,
+    behind, parse_ip_version, parse_mss, parse_olen, parse_payload_size, parse_ttl,
     parse_window_size, parse_wscale,
 };
 use quirk_set::parse_quirks;
 use raw::record_of;
-use signature_line::{LineAnswer, SignatureRead};
+use signature_line::{BadLine, SignatureRead};
 use tcp::Layout;
 
 mod layout;
@@ -27,7 +27,6 @@ const LONGEST: usize = 512;
 #[derive(Clone, Copy)]
 pub struct LineFields {
     pub at: usize,
-    pub good: bool,
     pub version: u32,
     pub ttl_form: u32,
     pub ttl: u32,
@@ -45,23 +44,21 @@ pub struct LineFields {
 }
 
 // Each field is read where the one before it ended and its separator stands.
-fn read_fields(line: &[u8]) -> LineFields
+#[tactic(auto, unfolding(crate::specs::LineParts::line_fields, numerals::specs::Pieces::and_then))]
+fn read_fields(line: &[u8]) -> Result<LineFields, BadLine>
     ensures { result ≡ line_fields line.now }
 {
-    let start = LinePlace { at: 0, good: true };
-    let version = parse_ip_version(line, start);
-    let ittl = parse_ttl(line, behind(line, version.at, version.good, b':'));
-    let olen = parse_olen(line, behind(line, ittl.at, ittl.good, b':'));
-    let mss = parse_mss(line, behind(line, olen.at, olen.good, b':'));
-    let wsize = parse_window_size(line, behind(line, mss.at, mss.good, b':'));
-    let wscale = parse_wscale(line, behind(line, wsize.at, wsize.good, b','));
-    let olayout = parse_olayout(line, behind(line, wscale.at, wscale.good, b':'));
-    let quirks = parse_quirks(line, behind(line, olayout.at, olayout.good, b':'));
-    let pclass = parse_payload_size(line, behind(line, quirks.at, quirks.good, b':'));
-    let layout = olayout.layout;
-    LineFields {
+    let version = parse_ip_version(line, Ok(0))?;
+    let ittl = parse_ttl(line, behind(line, Ok(version.at), b':'))?;
+    let olen = parse_olen(line, behind(line, Ok(ittl.at), b':'))?;
+    let mss = parse_mss(line, behind(line, Ok(olen.at), b':'))?;
+    let wsize = parse_window_size(line, behind(line, Ok(mss.at), b':'))?;
+    let wscale = parse_wscale(line, behind(line, Ok(wsize.at), b','))?;
+    let olayout = parse_olayout(line, behind(line, Ok(wscale.at), b':')?)?;
+    let quirks = parse_quirks(line, behind(line, Ok(olayout.at), b':')?)?;
+    let pclass = parse_payload_size(line, behind(line, Ok(quirks.at), b':'))?;
+    Ok(LineFields {
         at: pclass.at,
-        good: pclass.good,
         version: version.form,
         ttl_form: ittl.form,
         ttl: ittl.ttl,
@@ -75,46 +72,30 @@ fn read_fields(line: &[u8]) -> LineFields
         wscale: wscale.number,
         pclass: pclass.form,
         quirks: quirks.bits,
-        layout: layout,
-    }
+        layout: olayout.layout,
+    })
 }
 
-// Refusal 13: beside its offset nothing is given.
-pub fn refused_at(at: usize) -> SignatureRead
+// Refusal 13: its offset, and nothing beside. (A public function that the index names.)
+pub fn refused_at(at: usize) -> Result<SignatureRead, BadLine>
     ensures { result ≡ refused_at at }
 {
-    let raw = [0u8; 24];
-    let kinds = [0u8; 40];
-    let bytes = [0u8; 40];
-    SignatureRead {
-        answer: LineAnswer::Refused(at),
-        raw: raw,
-        layout: Layout {
-            kinds: kinds,
-            bytes: bytes,
-            count: 0,
-        },
-    }
+    Err(BadLine { offset: at })
 }
 
 // A line is read into a record and its layout, or refused by 13 with the offset of the first byte at which no line goes on.
-pub fn parse_tcp_signature(line: &[u8]) -> SignatureRead
+pub fn parse_tcp_signature(line: &[u8]) -> Result<SignatureRead, BadLine>
     ensures { result ≡ read_line line.now }
 {
     if LONGEST < line.len() {
-        return refused_at(LONGEST);
+        return Err(BadLine { offset: LONGEST });
     }
-    let fields = read_fields(line);
-    if !fields.good {
-        return refused_at(fields.at);
-    }
+    let fields = read_fields(line)?;
     if fields.at != line.len() {
-        return refused_at(fields.at);
+        return Err(BadLine { offset: fields.at });
     }
-    let layout = fields.layout;
-    SignatureRead {
-        answer: LineAnswer::Read,
+    Ok(SignatureRead {
         raw: record_of(fields),
-        layout: layout,
-    }
+        layout: fields.layout,
+    })
 }

@@ -4,7 +4,9 @@ ghost use Rattle.parse_tcp.specs.LineParts.{record_bytes};
 
 use crate::LineFields;
 
-// Numbers of two and four bytes have their high byte first; first entry, byte 21 and label are 0.
+// Numbers of two and four bytes have their high byte first; first entry, byte 21 and label are 0. Each is cut to its byte by `% 256`, as
+// the definition has it: a conversion that could fail would be no plainer.
+#[tactic(auto, unfolding(crate::specs::LineParts::record_bytes))]
 pub(crate) fn record_of(fields: LineFields) -> [u8; 24]
     ensures { result ≡ record_bytes fields }
 {

@@ -3,6 +3,12 @@ use mathlib.Core.Path.{◌≡◌, refl}
 use Rattle.quirks.specs.Quirks.{set_of, with, bit_of, place_of}
 use Rattle.quirks.specs.Named.{from_quirks, display_order, empty, fuzzy_deletable, fuzzy_addable, mask_when_obs_v4, mask_when_obs_v6}
 use Rattle.quirks.specs.Named.{seventeen}
+use Rattle.quirks.specs.declared.TheConstants.Quirk.{DISPLAY_ORDER}
+
+-- The constant that the code loops over.
+pub in_order : DISPLAY_ORDER ≡ display_order
+unfolding display_order
+in_order = refl
 
 pub empty_bits : empty ≡ set_of 0
 unfolding empty from_quirks

@@ -1,12 +1,12 @@
 -- Exactly one result meets each public function's own contract.
 -- tools/promises makes this file from the contracts, and the gate holds it to them.
-use Rattle.std.specs.Prelude.{ℕ, Bool}
+use Rattle.std.specs.Prelude.{ℕ, Bool, List}
 use Rattle.basis.specs.Unique.{ExactlyOne}
 use Rattle.basis.proofs.Unique.{equation}
 use Rattle.quirks.specs.declared.NamedSets.{NamedSets}
 use Rattle.quirks.specs.declared.Quirk.{Quirk}
 use Rattle.quirks.specs.declared.QuirkSet.{QuirkSet}
-use Rattle.quirks.specs.Named.{named_sets}
+use Rattle.quirks.specs.Named.{display_order, named_sets}
 use Rattle.quirks.specs.Quirks.{add_if, bit_of, bits_of, contains, difference, is_empty, set_of, with}
 use Rattle.quirks.proofs.Quirk.bit.Reads as bit'
 use Rattle.quirks.proofs.QuirkSet.add_if.Reads as add_if'
@@ -16,6 +16,7 @@ use Rattle.quirks.proofs.QuirkSet.difference.Reads as difference'
 use Rattle.quirks.proofs.QuirkSet.from_bits.Reads as from_bits'
 use Rattle.quirks.proofs.QuirkSet.insert.Reads as insert'
 use Rattle.quirks.proofs.QuirkSet.is_empty.Reads as is_empty'
+use Rattle.quirks.proofs.display_order.Reads as display_order'
 use Rattle.quirks.proofs.named_sets.Reads as named_sets'
 
 pub bit_one : (self : Quirk) → ExactlyOne ℕ (λ (r : ℕ). bit'.Post tt (self, tt) r (self, tt))
@@ -52,3 +53,6 @@ difference_one self other = equation (difference self other)
 
 pub named_sets_one : ExactlyOne NamedSets (λ (r : NamedSets). named_sets'.Post tt tt r tt)
 named_sets_one = equation named_sets
+
+pub display_order_one : ExactlyOne (List Quirk) (λ (r : List Quirk). display_order'.Post tt tt r tt)
+display_order_one = equation display_order

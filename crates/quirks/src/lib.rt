@@ -3,7 +3,7 @@
 
 ghost use Rattle.std.specs.Prelude.{◌≡◌, ℕ};
 ghost use Rattle.quirks.specs.Quirks.{bit_of, set_of, bits_of, is_empty, contains, with, add_if, difference};
-ghost use Rattle.quirks.specs.Named.{named_sets};
+ghost use Rattle.quirks.specs.Named.{display_order, named_sets};
 
 pub mod bits;
 
@@ -30,7 +30,29 @@ pub enum Quirk {
 }
 
 impl Quirk {
+    // The seventeen, in the order of p0f's text form.
+    pub const DISPLAY_ORDER: [Quirk; 17] = [
+        Quirk::Df,
+        Quirk::NonZeroID,
+        Quirk::ZeroID,
+        Quirk::Ecn,
+        Quirk::MustBeZero,
+        Quirk::FlowID,
+        Quirk::SeqNumZero,
+        Quirk::AckNumNonZero,
+        Quirk::AckNumZero,
+        Quirk::NonZeroURG,
+        Quirk::Urg,
+        Quirk::Push,
+        Quirk::OwnTimestampZero,
+        Quirk::PeerTimestampNonZero,
+        Quirk::TrailinigNonZero,
+        Quirk::ExcessiveWindowScaling,
+        Quirk::OptBad,
+    ];
+
     // The quirk's bit in a set.
+    #[tactic(auto, unfolding(crate::specs::Quirks::bit_of, crate::specs::Quirks::place_of))]
     pub fn bit(self) -> u32
         ensures { result ≡ bit_of self }
     {
@@ -98,16 +120,17 @@ impl QuirkSet {
     pub fn bits(self) -> u32
         ensures { result ≡ bits_of self }
     {
-        let bits = self.0;
-        bits
+        self.0
     }
 
+    #[tactic(auto, unfolding(crate::specs::Quirks::is_empty))]
     pub fn is_empty(self) -> bool
         ensures { result ≡ is_empty self }
     {
         self.0 == 0
     }
 
+    #[tactic(auto, using(crate::proofs::Laws::masked))]
     pub fn contains(self, quirk: Quirk) -> bool
         ensures { result ≡ contains self quirk }
     {
@@ -115,6 +138,7 @@ impl QuirkSet {
     }
 
     // The set with one quirk more. The original changes the set in place; here the new set is handed back.
+    #[tactic(auto, unfolding(crate::specs::Quirks::with))]
     pub fn insert(self, quirk: Quirk) -> Self
         ensures { result ≡ with self quirk }
     {
@@ -122,6 +146,7 @@ impl QuirkSet {
     }
 
     // The set with one quirk more where a test holds: the original's `if test { quirks.insert(quirk) }`.
+    #[tactic(auto, unfolding(crate::specs::Quirks::add_if))]
     pub fn add_if(self, test: bool, quirk: Quirk) -> Self
         ensures { result ≡ add_if test quirk self }
     {
@@ -129,6 +154,7 @@ impl QuirkSet {
     }
 
     // The quirks of this set that the other lacks.
+    #[tactic(auto, unfolding(crate::specs::Quirks::difference))]
     pub fn difference(self, other: Self) -> Self
         ensures { result ≡ difference self other }
     {
@@ -148,4 +174,12 @@ pub fn named_sets() -> NamedSets
         mask_when_obs_v6: QuirkSet::MASK_WHEN_OBS_V6,
         seventeen: QuirkSet::SEVENTEEN,
     }
+}
+
+// The order of p0f's text form: what holds the constant to its definition.
+#[tactic(auto, unfolding(crate::specs::Named::display_order))]
+pub fn display_order() -> [Quirk; 17]
+    ensures { result ≡ display_order }
+{
+    Quirk::DISPLAY_ORDER
 }

@@ -3,6 +3,7 @@
 #![tactic(auto)]
 
 ghost use Rattle.std.specs.Prelude.{◌≡◌};
+ghost use Rattle.refusals.specs.declared.Refusal.TheVariants.{Packet, OptionsTooLong, List};
 ghost use Rattle.refusals.specs.Refusals.{packet_number, list_number, number, packet_value, list_value, value};
 
 // Why a packet is refused.
@@ -35,11 +36,14 @@ pub enum ListRefusal {
     BadRecord(usize),
 }
 
+// Why an option string is refused: it is over forty bytes.
+#[derive(Clone, Copy)]
+pub struct OptionsTooLong;
+
 // Every refusal of both documents, also those that only a wish of document 02 will give; behind them what both leave to a keeper's file.
 #[derive(Clone, Copy)]
 pub enum Refusal {
     Packet(PacketRefusal),
-    // An option string over 40 bytes.
     OptionsTooLong,
     List(ListRefusal),
     // An observation's layout count over 40.
@@ -66,6 +70,32 @@ pub enum Refusal {
     TooManySignatures,
     // One of more layout entries than a list can have before its records.
     TooManyEntries,
+}
+
+// ---- each as one of all
+
+impl From<PacketRefusal> for Refusal {
+    ghost from_gives = { λ why r. r ≡ Packet why };
+
+    fn from(why: PacketRefusal) -> Refusal {
+        Refusal::Packet(why)
+    }
+}
+
+impl From<ListRefusal> for Refusal {
+    ghost from_gives = { λ why r. r ≡ List why };
+
+    fn from(why: ListRefusal) -> Refusal {
+        Refusal::List(why)
+    }
+}
+
+impl From<OptionsTooLong> for Refusal {
+    ghost from_gives = { λ _ r. r ≡ OptionsTooLong };
+
+    fn from(_why: OptionsTooLong) -> Refusal {
+        Refusal::OptionsTooLong
+    }
 }
 
 // ---- the numbers
@@ -95,7 +125,7 @@ fn list_number(refusal: ListRefusal) -> u8
     }
 }
 
-// The number of a refusal.
+// The number of a refusal. A function, not a From: the documents name a number and what stands beside it, which are numbers both.
 pub fn refusal_number(refusal: Refusal) -> u8
     ensures { result ≡ number refusal }
 {
@@ -126,15 +156,8 @@ pub fn packet_value(refusal: PacketRefusal) -> u8
     ensures { result ≡ packet_value refusal }
 {
     match refusal {
-        PacketRefusal::Version => 0,
-        PacketRefusal::TooShort => 0,
-        PacketRefusal::HeaderLength => 0,
-        PacketRefusal::UnsupportedProtocol => 0,
-        PacketRefusal::Fragment => 0,
-        PacketRefusal::TcpTooShort => 0,
         PacketRefusal::InvalidTcpFlags(flags) => flags,
-        PacketRefusal::DataOffset => 0,
-        PacketRefusal::ExtensionHeaders => 0,
+        _ => 0,
     }
 }
 
@@ -154,20 +177,8 @@ pub fn refusal_value(refusal: Refusal) -> usize
 {
     match refusal {
         Refusal::Packet(why) => packet_value(why) as usize,
-        Refusal::OptionsTooLong => 0,
         Refusal::List(why) => list_value(why),
-        Refusal::LayoutTooLong => 0,
-        Refusal::BundleDoesNotFit => 0,
         Refusal::BadLine(at) => at,
-        Refusal::BufferTooShort => 0,
-        Refusal::NoRoomForKey => 0,
-        Refusal::NotACapture => 0,
-        Refusal::FrameTooLong => 0,
-        Refusal::CaptureEndsEarly => 0,
-        Refusal::RowTooShort => 0,
-        Refusal::RowDiffers => 0,
-        Refusal::NoSuchRecord => 0,
-        Refusal::TooManySignatures => 0,
-        Refusal::TooManyEntries => 0,
+        _ => 0,
     }
 }

@@ -41,18 +41,19 @@ module _ (mode : Mode) (b : List ℕ) (filled at m : ℕ) where
   unfolding page_from
   line_here h e = rw (le-leb (filled + 19) page_size (omega arith), e)
 
-module _ (mode : Mode) (b page : List ℕ) (filled at n : ℕ) (some : 0 < n) where
-  more : n ≡ suc (n - 1)
+-- One of so many packets, some of whose lines are done.
+module _ (mode : Mode) (b page : List ℕ) (filled at n done : ℕ) (inside : done < n) where
+  more : n - done ≡ suc (n - (done + 1))
   more = omega arith
 
-  pub no_room : page_size - filled < 19 → page_from mode b filled at n ≡ full_page n at
+  pub no_room : page_size - filled < 19 → page_from mode b filled at (n - done) ≡ full_page (n - done) at
   no_room h =
       ap (page_from mode b filled at) more
-      ∙ full_here mode b filled at (n - 1) h
+      ∙ full_here mode b filled at (n - (done + 1)) h
       ∙ ap (λ (k : ℕ). full_page k at) (sym more)
 
-  pub no_packet : 19 ≤ page_size - filled → packet_lies b at ≡ false → page_from mode b filled at n ≡ full_page 0 at
-  no_packet h e = ap (page_from mode b filled at) more ∙ ended_here mode b filled at (n - 1) h e
+  pub no_packet : 19 ≤ page_size - filled → packet_lies b at ≡ false → page_from mode b filled at (n - done) ≡ full_page 0 at
+  no_packet h e = ap (page_from mode b filled at) more ∙ ended_here mode b filled at (n - (done + 1)) h e
 
   pub one_line
       : 19 ≤ page_size - filled
@@ -60,18 +61,18 @@ module _ (mode : Mode) (b page : List ℕ) (filled at n : ℕ) (some : 0 < n) wh
       → length page ≡ page_size
       → (page' page'' : List ℕ) (next : ℕ) (r : Progress)
       → PutAll page filled (line_of (answer_at mode b at)) next page'
-      → Filled page' next (page_from mode b next (packet_end b at) (n - 1)) r page''
-      → Filled page filled (page_from mode b filled at n) r page''
+      → Filled page' next (page_from mode b next (packet_end b at) (n - (done + 1))) r page''
+      → Filled page filled (page_from mode b filled at (n - done)) r page''
   one_line h e whole page' page'' next r line rest =
-      rw (ap (page_from mode b filled at) more ∙ line_here mode b filled at (n - 1) h e, sym line.0) (
+      rw (ap (page_from mode b filled at) more ∙ line_here mode b filled at (n - (done + 1)) h e, sym line.0) (
         all_both page page' page'' _ _ filled next r.filled (omega (arith, whole, line_length (answer_at mode b at))) line rest.0,
         rest.1,
         rest.2,
       )
 
-pub no_more : (mode : Mode) (b : List ℕ) (filled at n : ℕ) → n ≤ 0 → page_from mode b filled at n ≡ full_page 0 at
+pub no_more : (mode : Mode) (b : List ℕ) (filled at n done : ℕ) → n ≤ done → page_from mode b filled at (n - done) ≡ full_page 0 at
 unfolding page_from
-no_more mode b filled at n h = let none : n ≡ 0 = omega arith in rw none
+no_more mode b filled at n done h = let none : n - done ≡ 0 = omega arith in rw none
 
 -- ---- from a page's numbers to its progress
 

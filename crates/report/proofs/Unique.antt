@@ -1,10 +1,11 @@
 -- Exactly one result meets each public function's own contract.
 -- tools/promises makes this file from the contracts, and the gate holds it to them.
 use Rattle.std.specs.Borrow.{Bor, MutBor}
-use Rattle.std.specs.Prelude.{ℕ, Bool, List}
+use Rattle.std.specs.Prelude.{ℕ, Bool, List, Result}
 use contract.Lifetimes.{Lfts}
 use Rattle.basis.specs.Unique.{ExactlyOne}
 use Rattle.basis.proofs.Unique.{both}
+use Rattle.refusals.specs.declared.PacketRefusal.{PacketRefusal}
 use Rattle.text.specs.Written.{left_with}
 use Rattle.flow.specs.declared.Mode.{Mode}
 use Rattle.packet_answer.specs.declared.PacketAnswer.{PacketAnswer}
@@ -49,7 +50,7 @@ pub put_numbered_one
 put_numbered_one κs page at word n = both _ _
 
 pub put_answer_one
-    : (κs : Lfts 1) (page : MutBor (List ℕ)) (at : ℕ) (answer : PacketAnswer)
+    : (κs : Lfts 1) (page : MutBor (List ℕ)) (at : ℕ) (answer : Result PacketAnswer PacketRefusal)
     → ExactlyOne (ℕ × List ℕ)
     (λ (r : ℕ × List ℕ). put_answer'.Post κs (page, (at, (answer, tt))) r.0 (left_with page r.1, (at, (answer, tt))))
 put_answer_one κs page at answer = both _ _

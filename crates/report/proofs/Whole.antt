@@ -1,4 +1,5 @@
 -- The pages, one after the other, are the whole output.
+use Rattle.std.specs.Prelude.{Result, Ok, Err}
 use mathlib.Core.Path.{◌≡◌, refl, ◌∙◌, ap}
 use mathlib.Core.Bool.{Bool, true, false}
 use mathlib.Core.List.{List, ◌++◌, append_assoc, append-nil}
@@ -9,9 +10,9 @@ use lib.ListN.{length, length-append}
 use borrow.Author.Tests.{leb-true}
 use Rattle.refusals.specs.declared.Refusal.TheVariants as refusal
 use Rattle.refusals.specs.Refusals.{number}
-use Rattle.bundle.specs.declared.BundleCheck.{BundleCheck}
-use Rattle.bundle.specs.declared.BundleCheck.TheVariants as check
-use Rattle.bundle.specs.Bundle.{packet_count, packets_offset, packet_end, check_bundle}
+use Rattle.bundle.specs.declared.BundleRefusal.{BundleRefusal}
+use Rattle.bundle.specs.declared.BundleRefusal.TheVariants as check
+use Rattle.bundle.specs.Bundle.{packet_count, packets_offset, packet_end, as_refusal, check_bundle}
 use Rattle.flow.specs.declared.Mode.{Mode}
 use Rattle.bundle.specs.Answers.{answer_at, packet_lies, answers_from, after_bundle_check, bundle_answer}
 use Rattle.report.specs.Text.{packets_word, refused_word, line_of, head_line, refused_line}
@@ -108,15 +109,14 @@ first_and_rest mode b true = append-nil (refused_line (number refusal.BundleDoes
 first_and_rest mode b false = by_check (check_bundle b)
   where
     by_check
-        : (c : BundleCheck)
+        : (c : Result (Unit {0}) BundleRefusal)
         → (first_of mode c b).text ++ rest mode b (first_of mode c b)
         ≡ text_of (after_bundle_check mode c b).check (packet_count b) (after_bundle_check mode c b).answers
-    by_check check.Good =
+    by_check (Ok tt) =
         let n = packet_count b in
         append_assoc (head_line n) _ _
         ∙ ap (λ (t : List ℕ). head_line n ++ t) (page_and_rest mode b (length (head_line n)) (packets_offset b) n)
-    by_check check.DoesNotFit = append-nil (refused_line (number refusal.BundleDoesNotFit))
-    by_check (check.List r) = append-nil (refused_line (number (refusal.List r)))
+    by_check (Err r) = append-nil (refused_line (number (as_refusal r)))
 
 -- What a program writes that follows the pages is the output: nothing is lost, doubled or moved.
 pub all_pages_lem : (mode : Mode) (b : List ℕ) (longer : Bool) → all_pages mode b longer ≡ output_of_input_in mode b longer
@@ -172,14 +172,14 @@ unfolding first_page_in
 first_page_within mode b true = omega (arith, refused_length (number refusal.BundleDoesNotFit))
 first_page_within mode b false = by_check (check_bundle b)
   where
-    by_check : (c : BundleCheck) → length (first_of mode c b).text ≤ page_size
-    by_check check.Good =
+    by_check : (c : Result (Unit {0}) BundleRefusal) → length (first_of mode c b).text ≤ page_size
+    by_check (Ok tt) =
         let n = packet_count b in
         let lines-behind = (page_from mode b (length (head_line n)) (packets_offset b) n).text in
         let fits = within mode b (length (head_line n)) (packets_offset b) n (omega (arith, head_length n)) in
         omega (arith, length-append (head_line n) lines-behind, fits)
-    by_check check.DoesNotFit = omega (arith, refused_length (number refusal.BundleDoesNotFit))
-    by_check (check.List r) = omega (arith, refused_length (number (refusal.List r)))
+    by_check (Err check.DoesNotFit) = omega (arith, refused_length (number refusal.BundleDoesNotFit))
+    by_check (Err (check.List r)) = omega (arith, refused_length (number (refusal.List r)))
 
 -- ---- a page that was filled is a page
 

@@ -1,4 +1,5 @@
 -- How long the lines are.
+use Rattle.std.specs.Prelude.{Result, Ok, Err}
 use mathlib.Core.List.{List, ◌++◌}
 use Prim.Native.Nat.{ℕ, ◌+◌, ◌-◌, ◌≤◌}
 use native.Mathlib.Omega.{arith}
@@ -7,7 +8,9 @@ use Rattle.text.specs.Decimal.{decimal, newline}
 use Rattle.text.specs.Written.{PutAll, Put}
 use Rattle.text.proofs.Decimal.{decimal_length}
 use Rattle.text.proofs.Writing.{put_all}
+use Rattle.refusals.specs.declared.PacketRefusal.{PacketRefusal}
 use Rattle.refusals.specs.Refusals.{packet_number}
+use Rattle.flow.specs.declared.Kind.TheVariants as kind
 use Rattle.found.specs.declared.Found.{Found}
 use Rattle.found.specs.declared.Found.TheVariants as found
 use Rattle.packet_answer.specs.declared.PacketAnswer.{PacketAnswer}
@@ -22,14 +25,14 @@ found_length (found.Exact hit) = omega (arith, length-append exact_word (decimal
 found_length (found.Fuzzy hit reason) =
     omega (arith, length-append fuzzy_word (decimal hit.label), decimal_length hit.label)
 
-pub answer_length : (a : PacketAnswer) → length (answer_text a) ≤ 18
+pub answer_length : (a : Result PacketAnswer PacketRefusal) → length (answer_text a) ≤ 18
 unfolding answer_text
-answer_length (packet.Syn s) = omega (arith, length-append syn_word (found_text s.found), found_length s.found)
-answer_length (packet.SynAck s) = omega (arith, length-append synack_word (found_text s.found), found_length s.found)
-answer_length packet.Nothing = omega arith
-answer_length (packet.Refused r) = omega (arith, length-append refused_word (decimal (packet_number r)), decimal_length (packet_number r))
+answer_length (Ok (packet.Opening kind.Syn s)) = omega (arith, length-append syn_word (found_text s.found), found_length s.found)
+answer_length (Ok (packet.Opening kind.SynAck s)) = omega (arith, length-append synack_word (found_text s.found), found_length s.found)
+answer_length (Ok packet.Nothing) = omega arith
+answer_length (Err r) = omega (arith, length-append refused_word (decimal (packet_number r)), decimal_length (packet_number r))
 
-pub line_length : (a : PacketAnswer) → length (line_of a) ≤ 19
+pub line_length : (a : Result PacketAnswer PacketRefusal) → length (line_of a) ≤ 19
 unfolding line_of
 line_length a = omega (arith, length-append (answer_text a) newline, answer_length a)
 

@@ -1,30 +1,29 @@
 -- The output of a bundle, and how it is cut into pages of one size.
-use Rattle.std.specs.Prelude.{◌≡◌, ℕ, zero, suc, ◌+◌, Bool, cond, List, [], ◌∷◌, ◌++◌, leb, length}
+use Rattle.std.specs.Prelude.{◌≡◌, ℕ, zero, suc, ◌+◌, Bool, cond, List, [], ◌∷◌, ◌++◌, leb, length, Result, Ok, Err}
 use Rattle.text.specs.Written.{written, PutAll}
+use Rattle.refusals.specs.declared.PacketRefusal.{PacketRefusal}
 use Rattle.refusals.specs.declared.Refusal.{Refusal}
 use Rattle.refusals.specs.declared.Refusal.TheVariants as refusal
 use Rattle.refusals.specs.Refusals.{number}
 use Rattle.flow.specs.declared.Mode.{Mode}
 use Rattle.flow.specs.Modes.{plain_mode}
-use Rattle.bundle.specs.declared.BundleCheck.{BundleCheck}
-use Rattle.bundle.specs.declared.BundleCheck.TheVariants as check
+use Rattle.bundle.specs.declared.BundleRefusal.{BundleRefusal}
 use Rattle.packet_answer.specs.declared.PacketAnswer.{PacketAnswer}
 use Rattle.report.specs.declared.Progress.{Progress}
-use Rattle.bundle.specs.Bundle.{packet_count, packets_offset, packet_end, check_bundle}
+use Rattle.bundle.specs.Bundle.{packet_count, packets_offset, packet_end, as_refusal, check_bundle}
 use Rattle.bundle.specs.Answers.{answer_at, packet_lies, bundle_answer}
 use Rattle.report.specs.Text.{line_of, head_line, refused_line}
 
 -- ---- the whole output
 
-unfoldable pub lines_of : List PacketAnswer → List ℕ
+unfoldable pub lines_of : List (Result PacketAnswer PacketRefusal) → List ℕ
 lines_of [] = []
 lines_of (a ∷ rest) = line_of a ++ lines_of rest
 
 -- "Output: `packets N`, then a line each. A refused bundle or list prints only `refused N`."
-abbrev pub text_of : BundleCheck → ℕ → List PacketAnswer → List ℕ
-text_of check.Good n answers = head_line n ++ lines_of answers
-text_of check.DoesNotFit n answers = refused_line (number refusal.BundleDoesNotFit)
-text_of (check.List r) n answers = refused_line (number (refusal.List r))
+abbrev pub text_of : Result (Unit {0}) BundleRefusal → ℕ → List (Result PacketAnswer PacketRefusal) → List ℕ
+text_of (Ok tt) n answers = head_line n ++ lines_of answers
+text_of (Err r) n answers = refused_line (number (as_refusal r))
 
 unfoldable pub output_in : Mode → List ℕ → List ℕ
 output_in mode b = text_of (bundle_answer mode b).check (packet_count b) (bundle_answer mode b).answers
@@ -77,10 +76,9 @@ abbrev pub head_page : Mode → List ℕ → Page
 head_page mode b =
     behind (head_line (packet_count b)) (page_from mode b (length (head_line (packet_count b))) (packets_offset b) (packet_count b))
 
-abbrev pub first_of : Mode → BundleCheck → List ℕ → Page
-first_of mode check.Good b = head_page mode b
-first_of mode check.DoesNotFit b = refused_page refusal.BundleDoesNotFit
-first_of mode (check.List r) b = refused_page (refusal.List r)
+abbrev pub first_of : Mode → Result (Unit {0}) BundleRefusal → List ℕ → Page
+first_of mode (Ok tt) b = head_page mode b
+first_of mode (Err r) b = refused_page (as_refusal r)
 
 unfoldable pub first_page_in : Mode → List ℕ → Bool → Page
 first_page_in mode b longer = cond longer (refused_page refusal.BundleDoesNotFit) (first_of mode (check_bundle b) b)

@@ -1,7 +1,10 @@
 -- The text of the answers (document 01, "The bundle program"): each line as bytes.
-use Rattle.std.specs.Prelude.{ℕ, List, [], ◌∷◌, ◌++◌}
+use Rattle.std.specs.Prelude.{ℕ, List, [], ◌∷◌, ◌++◌, Result, Ok, Err}
 use Rattle.text.specs.Decimal.{newline, decimal}
+use Rattle.refusals.specs.declared.PacketRefusal.{PacketRefusal}
 use Rattle.refusals.specs.Refusals.{packet_number}
+use Rattle.flow.specs.declared.Kind.{Kind}
+use Rattle.flow.specs.declared.Kind.TheVariants as kind
 use Rattle.found.specs.declared.Found.{Found}
 use Rattle.found.specs.declared.Found.TheVariants as found
 use Rattle.packet_answer.specs.declared.PacketAnswer.{PacketAnswer}
@@ -29,6 +32,10 @@ syn_word = 115 ∷ 121 ∷ 110 ∷ 32 ∷ []
 abbrev pub synack_word : List ℕ
 synack_word = 115 ∷ 121 ∷ 110 ∷ 97 ∷ 99 ∷ 107 ∷ 32 ∷ []
 
+abbrev pub kind_word : Kind → List ℕ
+kind_word kind.Syn = syn_word
+kind_word kind.SynAck = synack_word
+
 -- "none"
 abbrev pub none_word : List ℕ
 none_word = 110 ∷ 111 ∷ 110 ∷ 101 ∷ []
@@ -49,13 +56,12 @@ found_text (found.Exact hit) = exact_word ++ decimal hit.label
 found_text (found.Fuzzy hit reason) = fuzzy_word ++ decimal hit.label
 
 -- `syn exact 7`, `synack none`, `nothing`, `refused 2`, ..
-unfoldable pub answer_text : PacketAnswer → List ℕ
-answer_text (packet.Syn s) = syn_word ++ found_text s.found
-answer_text (packet.SynAck s) = synack_word ++ found_text s.found
-answer_text packet.Nothing = nothing_word
-answer_text (packet.Refused r) = refused_word ++ decimal (packet_number r)
+unfoldable pub answer_text : Result PacketAnswer PacketRefusal → List ℕ
+answer_text (Ok (packet.Opening k s)) = kind_word k ++ found_text s.found
+answer_text (Ok packet.Nothing) = nothing_word
+answer_text (Err r) = refused_word ++ decimal (packet_number r)
 
-unfoldable pub line_of : PacketAnswer → List ℕ
+unfoldable pub line_of : Result PacketAnswer PacketRefusal → List ℕ
 line_of a = answer_text a ++ newline
 
 -- `packets N`

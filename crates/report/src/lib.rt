@@ -2,14 +2,14 @@
 // A page is an array of one size, so that no caller can lend one in which no line finds room.
 #![tactic(auto)]
 
-ghost use Rattle.std.specs.Prelude.{◌≤◌, length};
+ghost use Rattle.std.specs.Prelude.{◌≤◌};
 ghost use Rattle.report.specs.Pages.{FilledAfter, Paged, page_size, refused_page, head_page};
 ghost use Rattle.report.specs.Pages.{first_page_in, page_after_in, first_page, page_after};
 
-use bundle::{BundleCheck, PacketAt, check_bundle, packet_at_in};
+use bundle::{PacketAt, check_bundle, packet_at_in};
 use flow::Mode;
 use lines::{put_line, put_numbered};
-use numbers::be16;
+use numbers::be16_at;
 use refusals::{Refusal, refusal_number};
 
 pub mod lines;
@@ -35,13 +35,16 @@ fn put_lines(bundle: &[u8], progress: Progress, page: &mut [u8; PAGE], mode: Mod
     ensures { FilledAfter mode page.old bundle.now progress result page.new }
 {
     let mut filled = progress.filled;
-    let mut left = progress.left;
     let mut at = progress.at;
-    while 0 < left {
+    for done in 0..progress.left {
         if PAGE - filled < LINE {
-            return Progress { filled, left, at };
+            return Progress {
+                filled,
+                left: progress.left - done,
+                at,
+            };
         }
-        let PacketAt::Packet(answer, end) = packet_at_in(bundle, at, mode) else {
+        let Some(PacketAt { answer, end }) = packet_at_in(bundle, at, mode) else {
             return Progress {
                 filled,
                 left: 0,
@@ -50,7 +53,6 @@ fn put_lines(bundle: &[u8], progress: Progress, page: &mut [u8; PAGE], mode: Mod
         };
         filled = put_line(page, filled, answer);
         at = end;
-        left -= 1;
     }
     Progress {
         filled,
@@ -63,7 +65,7 @@ fn put_lines(bundle: &[u8], progress: Progress, page: &mut [u8; PAGE], mode: Mod
 fn refused_page(page: &mut [u8; PAGE], refusal: Refusal) -> Progress
     ensures { Paged page.old (refused_page refusal) result page.new }
 {
-    let filled = put_numbered(page, 0, b"refused ", refusal_number(refusal) as u16);
+    let filled = put_numbered(page, 0, b"refused ", u16::from(refusal_number(refusal)));
     Progress {
         filled,
         left: 0,
@@ -73,21 +75,21 @@ fn refused_page(page: &mut [u8; PAGE], refusal: Refusal) -> Progress
 
 // The first page of a bundle that passed its check.
 fn head_page(bundle: &[u8], page: &mut [u8; PAGE], mode: Mode) -> Progress
-    requires { 8 ≤ length bundle.now }
     ensures { Paged page.old (head_page mode bundle.now) result page.new }
 {
-    let count = be16(bundle[0], bundle[1]);
+    let count = be16_at(bundle, 0);
     let filled = put_numbered(page, 0, b"packets ", count);
     let progress = Progress {
         filled,
         left: count as usize,
-        at: be16(bundle[2], bundle[3]) as usize,
+        at: be16_at(bundle, 2) as usize,
     };
     put_lines(bundle, progress, page, mode)
 }
 
 // The first page of a bundle's output, in any mode; `longer`: the input goes on past the bundle. A page takes a line while 19 bytes are
 // left, the longest line.
+#[tactic(auto, unfolding(crate::specs::Pages::first_page_in))]
 pub fn first_page_in(bundle: &[u8], longer: bool, page: &mut [u8; PAGE], mode: Mode) -> Progress
     ensures { Paged page.old (first_page_in mode bundle.now longer) result page.new }
 {
@@ -95,13 +97,13 @@ pub fn first_page_in(bundle: &[u8], longer: bool, page: &mut [u8; PAGE], mode: M
         return refused_page(page, Refusal::BundleDoesNotFit);
     }
     match check_bundle(bundle) {
-        BundleCheck::Good => head_page(bundle, page, mode),
-        BundleCheck::DoesNotFit => refused_page(page, Refusal::BundleDoesNotFit),
-        BundleCheck::List(refusal) => refused_page(page, Refusal::List(refusal)),
+        Ok(()) => head_page(bundle, page, mode),
+        Err(why) => refused_page(page, why.into()),
     }
 }
 
 // The next page of a bundle's output, in any mode, after the progress that the page before it left.
+#[tactic(auto, using(crate::proofs::Turns::paged))]
 pub fn next_page_in(
     bundle: &[u8],
     progress: Progress,
@@ -110,21 +112,14 @@ pub fn next_page_in(
 ) -> Progress
     ensures { Paged page.old (page_after_in mode bundle.now progress) result page.new }
 {
-    let left = progress.left;
-    let at = progress.at;
-    put_lines(
-        bundle,
-        Progress {
-            filled: 0,
-            left,
-            at,
-        },
-        page,
-        mode,
-    )
+    let from = Progress {
+        filled: 0,
+        ..progress
+    };
+    put_lines(bundle, from, page, mode)
 }
 
-// ---- the plain mode, in which the program asks
+// ---- the plain mode, in which the program asks: public functions, which docs/ANSWERS.md names
 
 pub fn first_page(bundle: &[u8], longer: bool, page: &mut [u8; PAGE]) -> Progress
     ensures { Paged page.old (first_page bundle.now longer) result page.new }

@@ -1,12 +1,14 @@
-// The lines of the answers, put into a page from a place on; each function hands back the place behind what it put.
+// The lines of the answers, put into a page from a place on; each function hands back the place behind what it put. Page and place travel
+// as two, as the public functions of the crate `text` take them.
 ghost use Rattle.std.specs.Prelude.{◌++◌};
 ghost use Rattle.text.specs.Decimal.{decimal, newline};
 ghost use Rattle.text.specs.Written.{Put};
-ghost use Rattle.report.specs.Text.{found_text, answer_text, line_of};
+ghost use Rattle.report.specs.Text.{kind_word, found_text, answer_text, line_of};
 
+use flow::Kind;
 use found::Found;
 use packet_answer::PacketAnswer;
-use refusals::{Refusal, refusal_number};
+use refusals::{PacketRefusal, refusal_number};
 use text::{put_byte, put_decimal, put_word};
 
 // A word, and a number behind it.
@@ -26,6 +28,7 @@ pub fn put_numbered(page: &mut [u8], at: usize, word: &[u8], n: u16) -> usize
 }
 
 // What was found.
+#[tactic(auto, unfolding(crate::specs::Text::found_text))]
 fn put_found(page: &mut [u8], at: usize, found: Found) -> usize
     ensures { Put page.old at (found_text found) result page.new }
 {
@@ -36,33 +39,42 @@ fn put_found(page: &mut [u8], at: usize, found: Found) -> usize
     }
 }
 
+// The word of a kind.
+fn put_kind(page: &mut [u8], at: usize, kind: Kind) -> usize
+    ensures { Put page.old at (kind_word kind) result page.new }
+{
+    match kind {
+        Kind::Syn => put_word(page, at, b"syn "),
+        Kind::SynAck => put_word(page, at, b"synack "),
+    }
+}
+
 // The words of an answer.
-pub fn put_answer(page: &mut [u8], at: usize, answer: PacketAnswer) -> usize
+#[tactic(auto, unfolding(crate::specs::Text::answer_text))]
+pub fn put_answer(page: &mut [u8], at: usize, answer: Result<PacketAnswer, PacketRefusal>) -> usize
     ensures { Put page.old at (answer_text answer) result page.new }
 {
     match answer {
-        PacketAnswer::Syn(searched) => {
-            let found = searched.found;
-            let next = put_word(page, at, b"syn ");
-            put_found(page, next, found)
+        Ok(PacketAnswer::Opening(kind, searched)) => {
+            let next = put_kind(page, at, kind);
+            put_found(page, next, searched.found)
         }
-        PacketAnswer::SynAck(searched) => {
-            let found = searched.found;
-            let next = put_word(page, at, b"synack ");
-            put_found(page, next, found)
-        }
-        PacketAnswer::Nothing => put_word(page, at, b"nothing"),
-        PacketAnswer::Refused(refusal) => put_number(
+        Ok(PacketAnswer::Nothing) => put_word(page, at, b"nothing"),
+        Err(refusal) => put_number(
             page,
             at,
             b"refused ",
-            refusal_number(Refusal::Packet(refusal)) as u16,
+            u16::from(refusal_number(refusal.into())),
         ),
     }
 }
 
 // An answer, and the end of the line.
-pub(crate) fn put_line(page: &mut [u8], at: usize, answer: PacketAnswer) -> usize
+pub(crate) fn put_line(
+    page: &mut [u8],
+    at: usize,
+    answer: Result<PacketAnswer, PacketRefusal>,
+) -> usize
     ensures { Put page.old at (line_of answer) result page.new }
 {
     let end = put_answer(page, at, answer);

@@ -1,7 +1,7 @@
 -- The search (document 02, Wish 3): "first specific exact, else first generic exact, else first fuzzy of either kind", else none
 -- (document 01, "The signature list"), as the first record of least rank. It goes over a row of record numbers; the plain search takes
 -- 0, 1, .. to the last, and also answers how many records it examined (Wish 6).
-use Rattle.std.specs.Prelude.{ℕ, cond, ◌&&◌, List, ltb}
+use Rattle.std.specs.Prelude.{ℕ, cond, ◌&&◌, List, ltb, Result, Ok, Err}
 use Rattle.observable.specs.declared.TcpObservation.{TcpObservation}
 use Rattle.matching.specs.declared.Features.{Features}
 use Rattle.matching.specs.declared.SignatureFit.{SignatureFit}
@@ -14,12 +14,12 @@ use Rattle.found.specs.declared.Searched.{Searched}
 use Rattle.found.specs.Examined.{searched_in}
 use Rattle.found.specs.Least.{Place, nowhere, at, first_least, numbers_from}
 use Rattle.found.specs.Rank.{found_of, rank_of}
+use Rattle.refusals.specs.declared.Refusal.{Refusal}
 use Rattle.refusals.specs.declared.Refusal.TheVariants as refusal
 use Rattle.refusals.specs.Refusals.{Verdict, list_refused, number_of}
-use Rattle.siglist.specs.declared.ListAnswer.{ListAnswer}
-use Rattle.siglist.specs.declared.ListAnswer.TheVariants as list
-use Rattle.search.specs.declared.SearchAnswer.{SearchAnswer}
-use Rattle.search.specs.declared.SearchAnswer.TheVariants as answer
+use Rattle.refusals.specs.declared.ListRefusal.{ListRefusal}
+use Rattle.search.specs.declared.SearchRefusal.{SearchRefusal}
+use Rattle.search.specs.declared.SearchRefusal.TheVariants as answer
 use Rattle.sigrecord.specs.Record.{signature_of, entry_count, label_of, is_generic}
 use Rattle.siglist.specs.List.{record_count, size_of, list_fits, record_at, entries_of, record_good, check_list}
 
@@ -70,18 +70,23 @@ unfoldable pub searched : TcpObservation → List ℕ → Searched
 searched o l = searched_in (size_of l) (search_all o l)
 
 -- "a search [meets] 11, then 9, then 10"; 11: "observation's layout count over 40"
-abbrev pub after_list_check : ListAnswer → TcpObservation → List ℕ → SearchAnswer
-after_list_check (list.Refused r) o l = answer.List r
-after_list_check list.Good o l = answer.Searched (searched o l)
+abbrev pub after_list_check : Result (Unit {0}) ListRefusal → TcpObservation → List ℕ → Result Searched SearchRefusal
+after_list_check (Err r) o l = Err (answer.List r)
+after_list_check (Ok tt) o l = Ok (searched o l)
 
-unfoldable pub search_list : TcpObservation → List ℕ → SearchAnswer
-search_list o l = cond (ltb 40 o.olayout.count) answer.LayoutTooLong (after_list_check (check_list l) o l)
+unfoldable pub search_list : TcpObservation → List ℕ → Result Searched SearchRefusal
+search_list o l = cond (ltb 40 o.olayout.count) (Err answer.LayoutTooLong) (after_list_check (check_list l) o l)
+
+-- Which refusal of all that is.
+abbrev pub as_refusal : SearchRefusal → Refusal
+as_refusal answer.LayoutTooLong = refusal.LayoutTooLong
+as_refusal (answer.List r) = refusal.List r
 
 -- Which refusal of the table the answer is, if any, and its number; 0 if it is none.
-abbrev pub search_verdict : SearchAnswer → Verdict
-search_verdict (answer.Searched s) = Verdict.accepted
-search_verdict answer.LayoutTooLong = Verdict.refused refusal.LayoutTooLong
-search_verdict (answer.List r) = list_refused r
+abbrev pub search_verdict : Result Searched SearchRefusal → Verdict
+search_verdict (Ok s) = Verdict.accepted
+search_verdict (Err answer.LayoutTooLong) = Verdict.refused refusal.LayoutTooLong
+search_verdict (Err (answer.List r)) = list_refused r
 
-unfoldable pub search_refusal : SearchAnswer → ℕ
+unfoldable pub search_refusal : Result Searched SearchRefusal → ℕ
 search_refusal a = number_of (search_verdict a)

@@ -3,40 +3,38 @@ ghost use Rattle.std.specs.Prelude.{◌≡◌, true, ◌+◌, ◌*◌, ◌≤◌
 ghost use Rattle.matching.specs.Fit.{passes};
 ghost use Rattle.basis.specs.Bytes.{part};
 ghost use Rattle.matching.specs.Asked.{count_and_scale_match};
-ghost use Rattle.siglist.specs.List.{record_at, AreasFit};
+ghost use Rattle.siglist.specs.List.{record_at};
 ghost use Rattle.found.specs.Examined.{searched_in};
 ghost use Rattle.found.specs.Rank.{rank_of};
 ghost use Rattle.search.specs.Candidate.{holds};
 ghost use Rattle.search.specs.Next.{Next, NextOf};
 ghost use Rattle.search.specs.Search.{candidate_at, searched_records};
 
-use found::{Found, Hit, Searched, found_of, rank_of};
+use found::{Found, Hit, Searched, UNRANKED, found_of, rank_of};
 use matching::{Features, count_and_scale_match, olayout_matches, other_gates_match, tolerance};
-use siglist::{Areas, entries_lie, record_at};
+use siglist::{SigList, entries_lie, record_at};
 use sigrecord::{RECORD, entry_count, first_entry, is_generic, label_of, scalars_well_formed};
-use tcp::Wscale;
+use tcp::Layout;
 
 // Whether a record's layout is the observation's, and the record well formed.
-pub(crate) fn record_holds(
-    count: usize,
-    kinds: &[u8],
-    bytes: &[u8],
-    list: &[u8],
-    areas: Areas,
-    raw: &[u8],
-) -> bool
-    requires { AreasFit list.now areas }
-    ensures { result ≡ holds count kinds.now bytes.now list.now raw.now }
+fn record_holds(count: usize, layout: &Layout, list: SigList, raw: &[u8]) -> bool
+    ensures { result ≡ holds count layout.now.kinds layout.now.bytes list.entry.bytes.now raw.now }
 {
     let first = first_entry(raw);
     let declared = entry_count(raw);
-    if !entries_lie(areas, first, declared) {
+    if !entries_lie(list.areas, first, declared) {
         return false;
     }
-    let start = areas.entries_offset as usize + 2 * first as usize;
+    let start = list.areas.entries_offset as usize + 2 * first as usize;
     let end = start + 2 * declared as usize;
-    let entries = &list[start..end];
-    if !olayout_matches(kinds, bytes, count, entries, declared as usize) {
+    let entries = &list.bytes[start..end];
+    if !olayout_matches(
+        &layout.kinds,
+        &layout.bytes,
+        count,
+        entries,
+        declared as usize,
+    ) {
         return false;
     }
     scalars_well_formed(raw)
@@ -44,19 +42,12 @@ pub(crate) fn record_holds(
 
 // What is found in record i alone, which passes the gates: whether its layout is the observation's and it is well formed, then TTL and
 // quirks (docs/DECISIONS.md, 118).
-pub(crate) fn candidate_at(
-    observed: Features,
-    kinds: &[u8; 40],
-    bytes: &[u8; 40],
-    list: &[u8],
-    areas: Areas,
-    i: usize,
-) -> Found
-    requires { AreasFit list.now areas × (i < areas.records) × (passes observed (record_at list.now i) ≡ true) }
-    ensures { result ≡ candidate_at observed kinds.now bytes.now list.now i }
+fn candidate_at(observed: Features, layout: &Layout, list: SigList, i: usize) -> Found
+    requires { (i < list.areas.records) × (passes observed (record_at list.bytes.now i) ≡ true) }
+    ensures { result ≡ candidate_at observed layout.now.kinds layout.now.bytes list.entry.bytes.now i }
 {
-    let raw = record_at(list, areas, i);
-    if !record_holds(observed.count, kinds, bytes, list, areas, raw) {
+    let raw = record_at(list.bytes, list.areas, i);
+    if !record_holds(observed.count, layout, list, raw) {
         return Found::None;
     }
     let fit = tolerance(observed, raw);
@@ -69,7 +60,7 @@ pub(crate) fn candidate_at(
 }
 
 // Whether the record that starts at a place of the list passes the gates of count and scale.
-fn alike_at(count: u8, wscale: Wscale, list: &[u8], at: usize) -> bool
+fn alike_at(count: u8, wscale: Option<u8>, list: &[u8], at: usize) -> bool
     requires { at + 24 ≤ length list.now }
     ensures { result ≡ count_and_scale_match count wscale (part at (at + 24) list.now) }
 {
@@ -78,31 +69,33 @@ fn alike_at(count: u8, wscale: Wscale, list: &[u8], at: usize) -> bool
 }
 
 // The first record from one on that passes these two, or the end. Most records are passed over here, so that four are looked at in a turn.
-fn next_alike(count: u8, wscale: Wscale, list: &[u8], areas: Areas, from: usize) -> usize
-    requires { AreasFit list.now areas × (from ≤ areas.records) }
-    ensures { NextOf (count_and_scale_match count wscale) list.now areas.records from result }
+// Both loops are a `while`: the first steps by four, and where it stops the second goes on, to the record that is the answer.
+fn next_alike(count: u8, wscale: Option<u8>, list: SigList, from: usize) -> usize
+    requires { from ≤ list.areas.records }
+    ensures { NextOf (count_and_scale_match count wscale) list.entry.bytes.now list.entry.areas.records from result }
 {
-    let first = areas.records_offset as usize;
-    let size = areas.records as usize;
+    let bytes = list.bytes;
+    let first = list.areas.records_offset as usize;
+    let size = list.areas.records as usize;
     let mut i = from;
     while i + 4 <= size {
         let at = first + RECORD * i;
-        if alike_at(count, wscale, list, at) {
+        if alike_at(count, wscale, bytes, at) {
             return i;
         }
-        if alike_at(count, wscale, list, at + RECORD) {
+        if alike_at(count, wscale, bytes, at + RECORD) {
             return i + 1;
         }
-        if alike_at(count, wscale, list, at + 2 * RECORD) {
+        if alike_at(count, wscale, bytes, at + 2 * RECORD) {
             return i + 2;
         }
-        if alike_at(count, wscale, list, at + 3 * RECORD) {
+        if alike_at(count, wscale, bytes, at + 3 * RECORD) {
             return i + 3;
         }
         i += 4;
     }
     while i < size {
-        if alike_at(count, wscale, list, first + RECORD * i) {
+        if alike_at(count, wscale, bytes, first + RECORD * i) {
             return i;
         }
         i += 1;
@@ -111,35 +104,25 @@ fn next_alike(count: u8, wscale: Wscale, list: &[u8], areas: Areas, from: usize)
 }
 
 // The first record from one on that passes the gates, or the end. The count of the observation's entries is given as a byte too, as a
-// record has it.
-pub(crate) fn next_candidate(
-    observed: Features,
-    count: u8,
-    list: &[u8],
-    areas: Areas,
-    from: usize,
-) -> usize
-    requires { AreasFit list.now areas × (from ≤ areas.records) × (count ≡ observed.count) }
-    ensures { Next observed list.now areas.records from result }
+// record has it. A `while`: each turn goes on behind the record that `next_alike` found.
+fn next_candidate(observed: Features, count: u8, list: SigList, from: usize) -> usize
+    requires { (from ≤ list.areas.records) × (count ≡ observed.count) }
+    ensures { Next observed list.entry.bytes.now list.entry.areas.records from result }
 {
-    let wscale = observed.wscale;
-    let size = areas.records as usize;
+    let size = list.areas.records as usize;
     let mut i = from;
     while i < size {
-        i = next_alike(count, wscale, list, areas, i);
+        i = next_alike(count, observed.wscale, list, i);
         if size <= i {
             return i;
         }
-        if other_gates_match(observed, record_at(list, areas, i)) {
+        if other_gates_match(observed, record_at(list.bytes, list.areas, i)) {
             return i;
         }
         i += 1;
     }
     i
 }
-
-// Every rank is less.
-const UNRANKED: u8 = 255;
 
 // None, of so many records.
 fn none_of(size: u16) -> Searched
@@ -168,30 +151,24 @@ fn none_ended(held: Found, best: u8, size: u16) -> Searched
 
 // The records in list order, with the first of least rank among those passed; one of rank 0, specific and exact, ends the search, and
 // its position, from one, is the count; else all were examined. No well-formed record has more than forty entries.
-pub(crate) fn search_records(
-    observed: Features,
-    kinds: &[u8; 40],
-    bytes: &[u8; 40],
-    list: &[u8],
-    areas: Areas,
-) -> Searched
-    requires { AreasFit list.now areas }
-    ensures { result ≡ searched_records observed kinds.now bytes.now list.now }
+// A `while`: each turn goes on behind the candidate that was found.
+pub(crate) fn search_records(observed: Features, layout: &Layout, list: SigList) -> Searched
+    ensures { result ≡ searched_records observed layout.now.kinds layout.now.bytes list.entry.bytes.now }
 {
     if 40 < observed.count {
-        return none_of(areas.records);
+        return none_of(list.areas.records);
     }
     let count = (observed.count % 256) as u8;
-    let size = areas.records as usize;
+    let size = list.areas.records as usize;
     let mut held = Found::None;
     let mut best = UNRANKED;
     let mut i = 0;
     while i < size {
-        i = next_candidate(observed, count, list, areas, i);
+        i = next_candidate(observed, count, list, i);
         if size <= i {
-            return none_ended(held, best, areas.records);
+            return none_ended(held, best, list.areas.records);
         }
-        let found = candidate_at(observed, kinds, bytes, list, areas, i);
+        let found = candidate_at(observed, layout, list, i);
         let rank = rank_of(found);
         if rank == 0 {
             return Searched {
@@ -205,5 +182,5 @@ pub(crate) fn search_records(
         }
         i += 1;
     }
-    none_ended(held, best, areas.records)
+    none_ended(held, best, list.areas.records)
 }

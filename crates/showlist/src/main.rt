@@ -4,32 +4,28 @@
 
 use file_writer::{FILE_LINE, put_shown};
 use refusals::ListRefusal;
-use siglist::{Header, ListAnswer, check_list, read_header};
+use siglist::{check_list, read_header};
 use std::io::{Stderr, Stdout};
-use streams::{Ending, ends_as, read_full, say, say_number, tell_cut, tell_unread, write_all};
+use streams::{Cut, Ending, ends_as, read_full, say, say_number, tell_cut, tell_unread, write_all};
 
 // The most bytes of a list that is read.
 const MOST: usize = 65535;
 
-// The lines of so many records; whether all were taken.
-fn write_records(stdout: Stdout, list: &[u8], count: usize) -> bool {
+// The lines of so many records.
+fn write_records(stdout: Stdout, list: &[u8], count: u16) -> Result<(), Cut> {
     let mut line = [0u8; FILE_LINE];
-    let mut i = 0;
-    while i < count {
-        let filled = put_shown(&mut line, 0, list, i);
-        if !write_all(stdout, &line[0..filled]) {
-            return false;
-        }
-        i += 1;
+    for i in 0..count {
+        let filled = put_shown(&mut line, 0, list, i as usize);
+        write_all(stdout, &line[0..filled])?;
     }
-    true
+    Ok(())
 }
 
-fn write_good(stdout: Stdout, list: &[u8]) -> bool {
-    let Header::Fits(areas) = read_header(list) else {
-        return true;
-    };
-    write_records(stdout, list, areas.records as usize)
+fn write_good(stdout: Stdout, list: &[u8]) -> Result<(), Cut> {
+    match read_header(list) {
+        Some(areas) => write_records(stdout, list, areas.records),
+        None => Ok(()),
+    }
 }
 
 // Records are counted from 0, as everywhere.
@@ -52,8 +48,8 @@ fn say_refused(stderr: Stderr, refusal: ListRefusal) {
 
 fn show(stdout: Stdout, stderr: Stderr, list: &[u8]) {
     match check_list(list) {
-        ListAnswer::Good => tell_cut(stderr, b"showlist", write_good(stdout, list)),
-        ListAnswer::Refused(refusal) => say_refused(stderr, refusal),
+        Ok(()) => tell_cut(stderr, b"showlist", write_good(stdout, list)),
+        Err(refusal) => say_refused(stderr, refusal),
     }
 }
 

@@ -1,4 +1,5 @@
 -- Laws of the list: its areas as numbers, and one turn of the loop over its records.
+use Rattle.std.specs.Prelude.{Option, Some, None, Ok, Err}
 use mathlib.Core.Path.{◌≡◌, refl, sym, subst, ◌∙◌, ap}
 use mathlib.Core.Bool.{Bool, true, false, cond, ◌&&◌}
 use mathlib.Core.List.{List, []}
@@ -15,9 +16,6 @@ use Rattle.sigrecord.specs.Record.{first_entry, entry_count}
 use Rattle.sigrecord.specs.WellFormed.{quirks_good, forms_well_formed}
 use Rattle.sigrecord.proofs.Laws.{whole, quirks_last}
 use Rattle.siglist.specs.declared.Areas.{Areas}
-use Rattle.siglist.specs.declared.Header.{Header}
-use Rattle.siglist.specs.declared.Header.TheVariants as header
-use Rattle.siglist.specs.declared.ListAnswer.TheVariants as answer
 use Rattle.refusals.specs.declared.ListRefusal.TheVariants as refusal
 use Rattle.siglist.specs.List.{record_count, records_offset, layout_count, layout_offset, area_fits, list_fits, areas_of, header_of}
 use Rattle.siglist.specs.List.{AreasFit, record_start, record_at, record_of, entries_lie, layout_lies, record_good, records_from}
@@ -66,11 +64,11 @@ module _ (l : List ℕ) (i n : ℕ) (inside : i < n) where
   unfolding records_from
   record_good_turn e = rw (more, e)
 
-  pub record_bad_turn : record_good l i ≡ false → records_from l i (n - i) ≡ answer.Refused (refusal.BadRecord i)
+  pub record_bad_turn : record_good l i ≡ false → records_from l i (n - i) ≡ Err (refusal.BadRecord i)
   unfolding records_from
   record_bad_turn e = rw (more, e)
 
-pub records_end : (l : List ℕ) (i n : ℕ) → n ≤ i → records_from l i (n - i) ≡ answer.Good
+pub records_end : (l : List ℕ) (i n : ℕ) → n ≤ i → records_from l i (n - i) ≡ (Ok tt)
 unfolding records_from
 records_end l i n h = let none : n - i ≡ 0 = omega arith in rw none
 
@@ -90,19 +88,19 @@ list_fits_lem l a fit =
     )
 
 -- What a header says of its list.
-pub header_areas : (l : List ℕ) (a : Areas) → header_of l ≡ header.Fits a → AreasFit l a
+pub header_areas : (l : List ℕ) (a : Areas) → header_of l ≡ Some a → AreasFit l a
 unfolding header_of
 header_areas l a e = by_test (list_fits l) refl e
   where
-    by_test : (t : Bool) → list_fits l ≡ t → cond {A = Header} t (header.Fits (areas_of l)) header.DoesNotFit ≡ header.Fits a → AreasFit l a
+    by_test : (t : Bool) → list_fits l ≡ t → cond {A = (Option Areas)} t (Some (areas_of l)) None ≡ Some a → AreasFit l a
     by_test true fits same = let those : areas_of l ≡ a = cc in areas_fit l a fits (sym those)
     by_test false fits same = let z : ◌≡◌ {A = ℕ} 0 1 = cc in absurd (omega arith)
 
-pub header_none : (l : List ℕ) → header_of l ≡ header.DoesNotFit → list_fits l ≡ false
+pub header_none : (l : List ℕ) → header_of l ≡ None → list_fits l ≡ false
 unfolding header_of
 header_none l e = by_test (list_fits l) e
   where
-    by_test : (t : Bool) → cond {A = Header} t (header.Fits (areas_of l)) header.DoesNotFit ≡ header.DoesNotFit → t ≡ false
+    by_test : (t : Bool) → cond {A = (Option Areas)} t (Some (areas_of l)) None ≡ None → t ≡ false
     by_test true same = let z : ◌≡◌ {A = ℕ} 0 1 = cc in absurd (omega arith)
     by_test false same = refl
 

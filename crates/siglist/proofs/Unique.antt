@@ -1,20 +1,21 @@
 -- Exactly one result meets each public function's own contract.
 -- tools/promises makes this file from the contracts, and the gate holds it to them.
 use Rattle.std.specs.Borrow.{Bor}
-use Rattle.std.specs.Prelude.{ℕ, Bool, List, ◌≡◌}
+use Rattle.std.specs.Prelude.{ℕ, Bool, List, Option, Result, ◌≡◌}
 use contract.Lifetimes.{Lfts}
 use Rattle.basis.specs.Unique.{ExactlyOne}
 use Rattle.basis.proofs.Unique.{equation, part}
+use Rattle.refusals.specs.declared.ListRefusal.{ListRefusal}
 use Rattle.siglist.specs.declared.Areas.{Areas}
-use Rattle.siglist.specs.declared.Header.{Header}
-use Rattle.siglist.specs.declared.ListAnswer.{ListAnswer}
 use Rattle.siglist.specs.List.{check_list, entries_lie, header_of, record_of}
 use Rattle.siglist.proofs.check_list.Reads as check_list'
 use Rattle.siglist.proofs.entries_lie.Reads as entries_lie'
 use Rattle.siglist.proofs.read_header.Reads as read_header'
 use Rattle.siglist.proofs.record_at.Reads as record_at'
 
-pub read_header_one : (κs : Lfts 1) (list : Bor (List ℕ)) → ExactlyOne Header (λ (r : Header). read_header'.Post κs (list, tt) r (list, tt))
+pub read_header_one
+    : (κs : Lfts 1) (list : Bor (List ℕ))
+    → ExactlyOne (Option Areas) (λ (r : Option Areas). read_header'.Post κs (list, tt) r (list, tt))
 read_header_one κs list = equation (header_of list.now)
 
 pub record_at_one
@@ -30,5 +31,5 @@ entries_lie_one areas first count = equation (entries_lie areas.entries first co
 
 pub check_list_one
     : (κs : Lfts 1) (list : Bor (List ℕ))
-    → ExactlyOne ListAnswer (λ (r : ListAnswer). check_list'.Post κs (list, tt) r (list, tt))
+    → ExactlyOne (Result (Unit {0}) ListRefusal) (λ (r : Result (Unit {0}) ListRefusal). check_list'.Post κs (list, tt) r (list, tt))
 check_list_one κs list = equation (check_list list.now)

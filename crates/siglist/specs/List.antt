@@ -1,11 +1,9 @@
 -- The signature list (document 01, "The signature list"): its header, its areas, its records and their layouts.
-use Rattle.std.specs.Prelude.{◌≡◌, ℕ, zero, suc, ◌+◌, ◌*◌, ◌≤◌, Bool, cond, ◌&&◌, List, [], leb, ltb, length}
+use Rattle.std.specs.Prelude.{◌≡◌, ℕ, zero, suc, ◌+◌, ◌*◌, ◌≤◌, Bool, cond, ◌&&◌, List, [], leb, ltb, length, Option, Some, None, Result}
+use Rattle.std.specs.Prelude.{Ok, Err}
 use Rattle.basis.specs.Bytes.{be16, part}
 use Rattle.siglist.specs.declared.Areas.{Areas}
-use Rattle.siglist.specs.declared.Header.{Header}
-use Rattle.siglist.specs.declared.Header.TheVariants as header
-use Rattle.siglist.specs.declared.ListAnswer.{ListAnswer}
-use Rattle.siglist.specs.declared.ListAnswer.TheVariants as answer
+use Rattle.refusals.specs.declared.ListRefusal.{ListRefusal}
 use Rattle.refusals.specs.declared.ListRefusal.TheVariants as refusal
 use Rattle.refusals.specs.Refusals.{Verdict, list_refused, number_of}
 use Rattle.sigrecord.specs.Layout.{entries_good}
@@ -43,8 +41,8 @@ areas_of l =
     record { records = record_count l; records_offset = records_offset l; entries = layout_count l; entries_offset = layout_offset l }
 
 -- The header of a list that fits.
-unfoldable pub header_of : List ℕ → Header
-header_of l = cond (list_fits l) (header.Fits (areas_of l)) header.DoesNotFit
+unfoldable pub header_of : List ℕ → Option Areas
+header_of l = cond (list_fits l) (Some (areas_of l)) None
 
 -- These are the numbers of a list's header, and its areas fit.
 pub record AreasFit (l : List ℕ) (a : Areas) : Type 0 where
@@ -91,22 +89,22 @@ unfoldable pub record_good : List ℕ → ℕ → Bool
 record_good l i = scalars_good (record_at l i) && layout_lies l (first_entry (record_at l i)) (entry_count (record_at l i))
 
 -- Of so many records from this one on: all well formed, or the index of the first that is bad.
-unfoldable pub records_from : List ℕ → ℕ → ℕ → ListAnswer
-records_from l i zero = answer.Good
-records_from l i (suc n) = cond (record_good l i) (records_from l (i + 1) n) (answer.Refused (refusal.BadRecord i))
+unfoldable pub records_from : List ℕ → ℕ → ℕ → Result (Unit {0}) ListRefusal
+records_from l i zero = (Ok tt)
+records_from l i (suc n) = cond (record_good l i) (records_from l (i + 1) n) (Err (refusal.BadRecord i))
 
 -- Refusals 9 and 10, in this order.
-unfoldable pub check_list : List ℕ → ListAnswer
-check_list l = cond (list_fits l) (records_from l 0 (record_count l)) (answer.Refused refusal.DoesNotFit)
+unfoldable pub check_list : List ℕ → Result (Unit {0}) ListRefusal
+check_list l = cond (list_fits l) (records_from l 0 (record_count l)) (Err refusal.DoesNotFit)
 
 -- Which refusal of the table an answer is, if any, and its number; 0 if it is none.
-abbrev pub header_verdict : Header → Verdict
-header_verdict (header.Fits areas) = Verdict.accepted
-header_verdict header.DoesNotFit = list_refused refusal.DoesNotFit
+abbrev pub header_verdict : Option Areas → Verdict
+header_verdict (Some areas) = Verdict.accepted
+header_verdict None = list_refused refusal.DoesNotFit
 
-abbrev pub list_verdict : ListAnswer → Verdict
-list_verdict answer.Good = Verdict.accepted
-list_verdict (answer.Refused r) = list_refused r
+abbrev pub list_verdict : Result (Unit {0}) ListRefusal → Verdict
+list_verdict (Ok tt) = Verdict.accepted
+list_verdict (Err r) = list_refused r
 
-unfoldable pub list_refusal : ListAnswer → ℕ
+unfoldable pub list_refusal : Result (Unit {0}) ListRefusal → ℕ
 list_refusal a = number_of (list_verdict a)

@@ -10,13 +10,6 @@ use numbers::be16_at;
 use refusals::ListRefusal;
 use sigrecord::{RECORD, entries_good, entry_count, first_entry, forms_well_formed, quirks_good};
 
-// A list is well formed, or refused.
-#[derive(Clone, Copy)]
-pub enum ListAnswer {
-    Good,
-    Refused(ListRefusal),
-}
-
 const HEADER: usize = 8;
 
 // The numbers of a list's header.
@@ -28,13 +21,47 @@ pub struct Areas {
     pub entries_offset: u16,
 }
 
-// A list's header and its areas fit, or do not.
+// A list that fits: its bytes, and the numbers of its header.
 #[derive(Clone, Copy)]
-pub enum Header {
-    Fits(Areas),
-    DoesNotFit,
+pub struct SigList<'a> {
+    pub bytes: &'a [u8],
+    pub areas: Areas,
+    ghost fits: { AreasFit bytes.now areas },
 }
 
+impl SigList<'_> {
+    #[tactic(auto, using(crate::proofs::List::lie_within, crate::proofs::List::row_of_lem), unfolding(crate::specs::List::layout_lies))]
+    fn layout_good(self, first: u16, count: u8) -> bool
+        ensures { result ≡ layout_lies self.entry.bytes.now first count }
+    {
+        if !entries_lie(self.areas, first, count) {
+            return false;
+        }
+        let start = self.areas.entries_offset as usize + 2 * first as usize;
+        let end = start + 2 * count as usize;
+        entries_good(&self.bytes[start..end])
+    }
+
+    // A record's layout is walked over only where not all entries of the list are good.
+    fn record_good(self, all_good: bool, i: usize) -> bool
+        requires { (i < self.areas.records) × (all_good ≡ all_entries_good self.bytes.now) }
+        ensures { result ≡ record_good self.entry.bytes.now i }
+    {
+        let raw = record_at(self.bytes, self.areas, i);
+        if !forms_well_formed(raw) {
+            return false;
+        }
+        if !quirks_good(raw) {
+            return false;
+        }
+        if all_good {
+            return entries_lie(self.areas, first_entry(raw), entry_count(raw));
+        }
+        self.layout_good(first_entry(raw), entry_count(raw))
+    }
+}
+
+#[tactic(auto, unfolding(crate::specs::List::areas_of))]
 fn areas_of(list: &[u8]) -> Areas
     ensures { result ≡ areas_of list.now }
 {
@@ -53,6 +80,7 @@ fn records_fit(list: &[u8], areas: Areas) -> bool
     areas.records_offset as usize + RECORD * areas.records as usize <= list.len()
 }
 
+#[tactic(auto, unfolding(crate::specs::List::list_fits, crate::specs::List::areas_of))]
 fn list_fits(list: &[u8]) -> bool
     ensures { result ≡ list_fits list.now }
 {
@@ -60,23 +88,23 @@ fn list_fits(list: &[u8]) -> bool
         return false;
     }
     let areas = areas_of(list);
-    if !records_fit(list, areas) {
-        return false;
-    }
-    areas.entries_offset as usize + 2 * areas.entries as usize <= list.len()
+    records_fit(list, areas)
+        && areas.entries_offset as usize + 2 * areas.entries as usize <= list.len()
 }
 
-// A list's header, if it and its areas fit.
-pub fn read_header(list: &[u8]) -> Header
+// A list's header, if it and its areas fit. By `then_some`, tried, a search costs 43 instructions more.
+#[tactic(auto, unfolding(crate::specs::List::header_of))]
+pub fn read_header(list: &[u8]) -> Option<Areas>
     ensures { result ≡ header_of list.now }
 {
     if !list_fits(list) {
-        return Header::DoesNotFit;
+        return None;
     }
-    Header::Fits(areas_of(list))
+    Some(areas_of(list))
 }
 
 // The bytes of record i of a list, and none if its header's numbers do not have it in the list.
+#[tactic(auto, unfolding(crate::specs::List::record_of))]
 pub fn record_at<'a>(list: &'a [u8], areas: Areas, i: usize) -> &'a [u8]
     ensures { result.now ≡ record_of list.now areas i }
 {
@@ -95,61 +123,25 @@ pub fn record_at<'a>(list: &'a [u8], areas: Areas, i: usize) -> &'a [u8]
 pub fn entries_lie(areas: Areas, first: u16, count: u8) -> bool
     ensures { result ≡ entries_lie areas.entries first count }
 {
-    if 40 < count {
-        return false;
-    }
-    first as usize + count as usize <= areas.entries as usize
-}
-
-fn layout_good(list: &[u8], areas: Areas, first: u16, count: u8) -> bool
-    requires { AreasFit list.now areas }
-    ensures { result ≡ layout_lies list.now first count }
-{
-    if !entries_lie(areas, first, count) {
-        return false;
-    }
-    let start = areas.entries_offset as usize + 2 * first as usize;
-    let end = start + 2 * count as usize;
-    entries_good(&list[start..end])
-}
-
-// A record's layout is walked over only where not all entries of the list are good.
-fn record_good(list: &[u8], areas: Areas, all_good: bool, i: usize) -> bool
-    requires { AreasFit list.now areas × (i < areas.records) × (all_good ≡ all_entries_good list.now) }
-    ensures { result ≡ record_good list.now i }
-{
-    let raw = record_at(list, areas, i);
-    if !forms_well_formed(raw) {
-        return false;
-    }
-    if !quirks_good(raw) {
-        return false;
-    }
-    if all_good {
-        return entries_lie(areas, first_entry(raw), entry_count(raw));
-    }
-    layout_good(list, areas, first_entry(raw), entry_count(raw))
+    count <= 40 && first as usize + count as usize <= areas.entries as usize
 }
 
 // A list is well formed, or refused by 9, or by 10 with the index of its first bad record. Its layout area is walked over once, and
 // record by record only where that finds a bad entry: layouts may share entries, which record by record are walked over again and again.
-pub fn check_list(list: &[u8]) -> ListAnswer
+pub fn check_list(list: &[u8]) -> Result<(), ListRefusal>
     ensures { result ≡ check_list list.now }
 {
-    if !list_fits(list) {
-        return ListAnswer::Refused(ListRefusal::DoesNotFit);
-    }
-    let areas = areas_of(list);
+    let Some(areas) = read_header(list) else {
+        return Err(ListRefusal::DoesNotFit);
+    };
+    let checked = SigList { bytes: list, areas };
     let start = areas.entries_offset as usize;
     let end = start + 2 * areas.entries as usize;
     let all_good = entries_good(&list[start..end]);
-    let count = areas.records as usize;
-    let mut i = 0;
-    while i < count {
-        if !record_good(list, areas, all_good, i) {
-            return ListAnswer::Refused(ListRefusal::BadRecord(i));
+    for i in 0..areas.records as usize {
+        if !checked.record_good(all_good, i) {
+            return Err(ListRefusal::BadRecord(i));
         }
-        i += 1;
     }
-    ListAnswer::Good
+    Ok(())
 }

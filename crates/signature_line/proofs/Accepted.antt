@@ -1,20 +1,22 @@
 -- What is read, and where a line is refused: exactly the grammar.
 use Prim.Native.Nat.{ℕ, ◌+◌, ◌<◌, ◌≤◌}
 use mathlib.Core.Path.{◌≡◌, refl, sym, ◌∙◌, ap, subst}
-use mathlib.Core.Logic.{◌↔◌}
+use mathlib.Core.Logic.{◌↔◌, inl, inr}
 use mathlib.Core.List.{List}
 use native.Mathlib.Omega.{arith}
 use native.Mathlib.Decide.{dec_le}
 use lib.ListN.{length, take}
 use borrow.Author.Tests.{lt-ltb, le-ltb}
-use Rattle.tcp.specs.declared.Layout.{Layout}
+use Rattle.std.specs.Prelude.{◌⊎◌, Result, Ok, Err}
+use Rattle.refusals.specs.declared.Refusal.TheVariants as refusal
+use Rattle.refusals.specs.Refusals.{Verdict}
 use Rattle.grammar.specs.Language.{GoesOn, Refused}
 use Rattle.grammar.specs.Reading.{Judgement, means, refused, judgement}
 use Rattle.grammar.proofs.Judged.{Holds, judged}
-use Rattle.signature_line.specs.declared.LineAnswer.TheVariants as answer
+use Rattle.signature_line.specs.declared.BadLine.{BadLine}
 use Rattle.signature_line.specs.declared.SignatureRead.{SignatureRead}
 use Rattle.signature_line.specs.Line.{LineSays, SignatureLine, longest, LineRefused, too_long, goes_on_no_more}
-use Rattle.signature_line.specs.Answer.{refused_at, read_of}
+use Rattle.signature_line.specs.Answer.{refused_at, read_of, line_verdict}
 use Rattle.signature_line.specs.LineReader.{fields_read, read_as, answered, read_line}
 use Rattle.signature_line.specs.Meaning.{Fields, LineMeaning, meaning_of}
 use Rattle.signature_line.proofs.Line.{line_field}
@@ -38,32 +40,26 @@ pub short : (s : List ℕ) → length s ≤ longest → read_line s ≡ answered
 unfolding read_line
 short s h = rw (le-ltb longest (length s) h)
 
-read_not_refused : (m : LineMeaning) (k : ℕ) → refused_at k ≡ read_of m → ⊥
-unfolding refused_at
-read_not_refused m k e =
-    let q : answer.Refused k ≡ answer.Read = ap (λ (r : SignatureRead). r.answer) e in
-    let z : ◌≡◌ {A = ℕ} 0 1 = cc in omega arith
-
-refused_so : (j k : ℕ) → (refused_at j).answer ≡ answer.Refused k → j ≡ k
-unfolding refused_at
-refused_so j k e = cc
-
--- What was read is not refused, and what was refused is not read.
-read_answer : (f : Fields) (k : ℕ) → (read_as f).answer ≡ answer.Refused k → ⊥
-unfolding read_as
-read_answer f k e = let z : ◌≡◌ {A = ℕ} 0 1 = cc in omega arith
-
 read_as_lem : (f : Fields) → read_as f ≡ read_of (meaning_of f)
 unfolding read_as
 read_as_lem f = refl
 
+-- What was read is not refused, and what was refused is not read.
+read_not_refused : (m : LineMeaning) (k : ℕ) → refused_at k ≡ read_of m → ⊥
+read_not_refused m k e = let z : ◌≡◌ {A = ℕ} 0 1 = cc in omega arith
+
+abbrev said_by : Result SignatureRead BadLine → ℕ ⊎ LineMeaning
+said_by (Ok read) = inr (record { raw = read.raw; layout = read.layout })
+said_by (Err bad) = inl bad.offset
+
+refused_so : (j k : ℕ) → refused_at j ≡ refused_at k → j ≡ k
+refused_so j k e = let q : ◌≡◌ {A = ℕ ⊎ LineMeaning} (inl j) (inl k) = ap said_by e in cc
+
+read_answer : (f : Fields) (k : ℕ) → read_as f ≡ refused_at k → ⊥
+read_answer f k e = read_not_refused (meaning_of f) k (sym e ∙ read_as_lem f)
+
 same_meaning : (m n : LineMeaning) → read_of m ≡ read_of n → m ≡ n
-same_meaning m n e =
-    parts m.raw n.raw m.layout n.layout (ap (λ (r : SignatureRead). r.raw) e) (ap (λ (r : SignatureRead). r.layout) e)
-  where
-    parts : (a b : List ℕ) (c d : Layout) → a ≡ b → c ≡ d
-        → ◌≡◌ {A = LineMeaning} (record { raw = a; layout = c }) (record { raw = b; layout = d })
-    parts a b c d p q = cc
+same_meaning m n e = let q : ◌≡◌ {A = ℕ ⊎ LineMeaning} (inr m) (inr n) = ap said_by e in cc
 
 -- ---- accepted exactly
 
@@ -130,29 +126,26 @@ refusal_gives s k (too_long h) = long s h
 refusal_gives s k (goes_on_no_more h r) = short s h ∙ ap answered ((line_judged s (refused k)).1 ((refused_alike s k).1 r))
 
 module _ (s : List ℕ) (k : ℕ) where
-  stopped_so : length s ≤ longest → (read_line s).answer ≡ answer.Refused k → (o : Judgement Fields) → judgement s (fields_read s) ≡ o
-      → LineRefused s k
-  stopped_so h e (means f) q =
-      absurd (read_answer f k (ap (λ (r : SignatureRead). r.answer) (sym (short s h ∙ ap answered q)) ∙ e))
+  stopped_so : length s ≤ longest → read_line s ≡ refused_at k → (o : Judgement Fields) → judgement s (fields_read s) ≡ o → LineRefused s k
+  stopped_so h e (means f) q = absurd (read_answer f k (sym (short s h ∙ ap answered q) ∙ e))
   stopped_so h e (refused j) q =
-      let same : j ≡ k = refused_so j k (ap (λ (r : SignatureRead). r.answer) (sym (short s h ∙ ap answered q)) ∙ e) in
+      let same : j ≡ k = refused_so j k (sym (short s h ∙ ap answered q) ∙ e) in
       goes_on_no_more h ((refused_alike s k).0 ((line_judged s (refused k)).0 (rw same at q)))
 
-  refused_only : (read_line s).answer ≡ answer.Refused k → LineRefused s k
+  refused_only : read_line s ≡ refused_at k → LineRefused s k
   refused_only e = by (dec_le (length s) longest)
     where
       by : Dec (length s ≤ longest) → LineRefused s k
       by (yes h) = stopped_so h e (judgement s (fields_read s)) refl
       by (no h) =
-          let same : longest ≡ k = refused_so longest k (ap (λ (r : SignatureRead). r.answer) (sym (long s (omega arith))) ∙ e) in
+          let same : longest ≡ k = refused_so longest k (sym (long s (omega arith)) ∙ e) in
           subst (LineRefused s) same (too_long (omega arith))
 
-  refused_all : LineRefused s k → (read_line s).answer ≡ answer.Refused k
-  unfolding refused_at
-  refused_all r = ap (λ (x : SignatureRead). x.answer) (refusal_gives s k r)
+  pub refused_exactly : (read_line s ≡ refused_at k) ↔ LineRefused s k
+  refused_exactly = (refused_only, refusal_gives s k)
 
-  pub refused_exactly : ((read_line s).answer ≡ answer.Refused k) ↔ LineRefused s k
-  refused_exactly = (refused_only, refused_all)
-
-  pub nothing_beside : (read_line s).answer ≡ answer.Refused k → read_line s ≡ refused_at k
-  nothing_beside e = refusal_gives s k (refused_only e)
+-- Beside refusal 13 nothing but its offset is given.
+pub nothing_beside
+    : (r : Result SignatureRead BadLine) (k : ℕ) → line_verdict r ≡ Verdict.refused (refusal.BadLine k) → r ≡ refused_at k
+nothing_beside (Ok read) k e = let z : ◌≡◌ {A = ℕ} 0 1 = cc in absurd (omega arith)
+nothing_beside (Err bad) k e = let q : bad.offset ≡ k = cc in ap refused_at q

@@ -7,7 +7,7 @@ use Rattle.basis.specs.Ascii.{ascii}
 use Rattle.quirks.specs.Quirks.{place_of, bit_of}
 use Rattle.grammar.specs.Numeral.{any}
 use Rattle.grammar.specs.States.{fits, after, done, run, left, states_read}
-use Rattle.signature_line.specs.Answer.{read_of, refused_at}
+use Rattle.signature_line.specs.Answer.{read_of}
 use Rattle.signature_line.specs.LineReader.{ttl_read, layout_read, quirks_read, parts_read, fields_read, read_as, read_line}
 use Rattle.signature_line.specs.LineValues.{nops, forty_nops, LinesRead, QuirkNames, LinesRefused, LineValues}
 use Rattle.signature_line.specs.Meaning.{kind_said, byte_said, layout_of, union_from, raw_of}
@@ -20,13 +20,13 @@ abbrev forty_line : List ℕ
 forty_line = ascii "*:64:0:*:*,*:nop" ++ nops 39 ++ ascii "::0"
 
 forty : read_line forty_line ≡ read_of forty_nops
-unfolding read_line refused_at fields_read parts_read ttl_read layout_read quirks_read read_as raw_of layout_of kind_said byte_said
+unfolding read_line fields_read parts_read ttl_read layout_read quirks_read read_as raw_of layout_of kind_said byte_said
     union_from version bare_byte ttl_form mss window scale unnamed entry quirk_word payload any fits after done run left states_read
     bit_of place_of
 forty = refl
 
 lines_read : LinesRead
-unfolding read_line refused_at fields_read parts_read ttl_read layout_read quirks_read read_as raw_of layout_of kind_said byte_said
+unfolding read_line fields_read parts_read ttl_read layout_read quirks_read read_as raw_of layout_of kind_said byte_said
     union_from version bare_byte ttl_form mss window scale unnamed entry quirk_word payload any fits after done run left states_read
     bit_of place_of
 lines_read =
@@ -53,7 +53,7 @@ lines_read =
     }
 
 quirk_names : QuirkNames
-unfolding read_line refused_at fields_read parts_read ttl_read layout_read quirks_read read_as raw_of layout_of kind_said byte_said
+unfolding read_line fields_read parts_read ttl_read layout_read quirks_read read_as raw_of layout_of kind_said byte_said
     union_from version bare_byte ttl_form mss window scale unnamed entry quirk_word payload any fits after done run left states_read
     bit_of place_of
 quirk_names =
@@ -78,7 +78,7 @@ quirk_names =
     }
 
 lines_refused : LinesRefused
-unfolding read_line refused_at fields_read parts_read ttl_read layout_read quirks_read read_as raw_of layout_of kind_said byte_said
+unfolding read_line fields_read parts_read ttl_read layout_read quirks_read read_as raw_of layout_of kind_said byte_said
     union_from version bare_byte ttl_form mss window scale unnamed entry quirk_word payload any fits after done run left states_read
     bit_of place_of
 lines_refused =

@@ -1,4 +1,5 @@
 -- What a line means is well formed.
+use Rattle.std.specs.Prelude.{Ok}
 use Prim.Native.Nat.{ℕ, ◌+◌, ◌*◌, ◌/◌, ◌%◌, ◌-◌}
 use mathlib.Core.Path.{◌≡◌, refl, ◌∙◌}
 use mathlib.Core.Bool.{true}
@@ -12,7 +13,6 @@ use Rattle.basis.specs.Bytes.{be16, be32}
 use Rattle.sigrecord.specs.Record.{first_entry, entry_count}
 use Rattle.sigrecord.specs.WellFormed.{scalars_good}
 use Rattle.sigrecord.proofs.Laws.{all_good}
-use Rattle.siglist.specs.declared.ListAnswer.TheVariants as answer
 use Rattle.siglist.specs.List.{record_count, records_offset, layout_count, layout_offset, list_fits}
 use Rattle.siglist.specs.List.{record_at, entries_from, layout_lies, record_good}
 use Rattle.siglist.specs.List.{records_from, check_list}
@@ -147,7 +147,7 @@ module _ (f : Fields) (g : FieldsGood f) where
   unfolding record_good
   record_good_lem = rw (record_there, scalars) lies_there
 
-  pub list_good : check_list l ≡ answer.Good
+  pub list_good : check_list l ≡ (Ok tt)
   unfolding check_list records_from
   list_good = rw (fits, one_record, record_good_lem)
 

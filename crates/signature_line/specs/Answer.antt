@@ -1,21 +1,23 @@
--- What reading a line gives: a record and its layout, or refusal 13 and nothing beside its offset (document 02, Wish 1).
-use Rattle.std.specs.Prelude.{ℕ, [], replicate}
+-- What reading a line gives: a record and its layout, or refusal 13 with its offset (document 02, Wish 1).
+use Rattle.std.specs.Prelude.{ℕ, Result, Ok, Err}
 use Rattle.refusals.specs.declared.Refusal.TheVariants as refusal
 use Rattle.refusals.specs.Refusals.{Verdict}
-use Rattle.signature_line.specs.declared.LineAnswer.{LineAnswer}
-use Rattle.signature_line.specs.declared.LineAnswer.TheVariants as answer
+use Rattle.signature_line.specs.declared.BadLine.{BadLine}
 use Rattle.signature_line.specs.declared.SignatureRead.{SignatureRead}
-use Rattle.signature_line.specs.Meaning.{layout_of, LineMeaning}
+use Rattle.signature_line.specs.Meaning.{LineMeaning}
 
--- Beside a refusal the record and the layout are empty.
-unfoldable pub refused_at : ℕ → SignatureRead
-refused_at at = record { answer = answer.Refused at; raw = replicate 24 0; layout = layout_of [] }
+-- Refused at this place, whatever would have been read.
+abbrev pub bad_at : {A : Type 0} → ℕ → Result A BadLine
+bad_at at = Err (record { offset = at })
+
+abbrev pub refused_at : ℕ → Result SignatureRead BadLine
+refused_at = bad_at
 
 -- A record and a layout that were read.
-abbrev pub read_of : LineMeaning → SignatureRead
-read_of m = record { answer = answer.Read; raw = m.raw; layout = m.layout }
+abbrev pub read_of : LineMeaning → Result SignatureRead BadLine
+read_of m = Ok (record { raw = m.raw; layout = m.layout })
 
 -- Which refusal of the table an answer is, if any.
-abbrev pub line_verdict : LineAnswer → Verdict
-line_verdict answer.Read = Verdict.accepted
-line_verdict (answer.Refused at) = Verdict.refused (refusal.BadLine at)
+abbrev pub line_verdict : Result SignatureRead BadLine → Verdict
+line_verdict (Ok read) = Verdict.accepted
+line_verdict (Err bad) = Verdict.refused (refusal.BadLine bad.offset)

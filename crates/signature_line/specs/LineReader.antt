@@ -1,9 +1,10 @@
 -- The reading of a line, as readings put together; the functions of the code are equal to its parts. That it accepts exactly the
 -- grammar, and refuses exactly where no line goes on, is proved (proofs/Accepted.antt).
-use Rattle.std.specs.Prelude.{ℕ, cond, List, ltb, length}
+use Rattle.std.specs.Prelude.{ℕ, cond, List, ltb, length, Result}
 use Rattle.grammar.specs.Reading.{Read, join_read, then_read, map_read, listed_read, any_listed_read, Judgement, means, refused, judgement}
 use Rattle.grammar.specs.States.{table_read}
 use Rattle.grammar.specs.Table.{Said}
+use Rattle.signature_line.specs.declared.BadLine.{BadLine}
 use Rattle.signature_line.specs.declared.SignatureRead.{SignatureRead}
 use Rattle.signature_line.specs.Answer.{read_of, refused_at}
 use Rattle.signature_line.specs.Line.{colon, comma, Parts, fields, longest}
@@ -36,13 +37,13 @@ fields_read s = map_read fields (parts_read s)
 
 -- ---- the answer
 
-unfoldable pub read_as : Fields → SignatureRead
+unfoldable pub read_as : Fields → Result SignatureRead BadLine
 read_as f = read_of (meaning_of f)
 
-abbrev pub answered : Judgement Fields → SignatureRead
+abbrev pub answered : Judgement Fields → Result SignatureRead BadLine
 answered (means f) = read_as f
 answered (refused at) = refused_at at
 
 -- "a line over 512 bytes first, with 512"
-unfoldable pub read_line : List ℕ → SignatureRead
+unfoldable pub read_line : List ℕ → Result SignatureRead BadLine
 read_line s = cond (ltb longest (length s)) (refused_at longest) (answered (judgement s (fields_read s)))

@@ -1,9 +1,8 @@
 -- The readings of a signature line that were decided (document 02, Wish 1), each by a line: what is read, and where a line is refused.
 -- `LineValues` is the statement; every case is computed.
-use Rattle.std.specs.Prelude.{◌≡◌, List, [], ◌∷◌, ◌++◌, ℕ, zero, suc, length, replicate}
+use Rattle.std.specs.Prelude.{◌≡◌, List, [], ◌∷◌, ◌++◌, ℕ, zero, suc, length, replicate, Ok}
 use Prim.Native.String.{String}
 use Rattle.basis.specs.Ascii.{ascii}
-use Rattle.siglist.specs.declared.ListAnswer.TheVariants as list
 use Rattle.siglist.specs.List.{check_list}
 use Rattle.signature_line.specs.Answer.{read_of, refused_at}
 use Rattle.signature_line.specs.LineReader.{read_line}
@@ -175,7 +174,7 @@ pub record LinesRead : Type 0 where
   -- a line of 512 bytes
   pub bytes_512 : read_line (zeros_line 498) ≡ read_of zero_record
   -- what is read makes a good list of one record
-  pub good_list_lem : check_list (list_of_one forty_nops) ≡ list.Good
+  pub good_list_lem : check_list (list_of_one forty_nops) ≡ (Ok tt)
 
 -- Each of the seventeen names, by its quirk's bit.
 pub record QuirkNames : Type 0 where

@@ -1,10 +1,9 @@
 -- The record of a line beside the records of a list: the list of this one record, what makes a record well formed, and that a record of
 -- a list has a line (document 02, Wish 1).
-use Rattle.std.specs.Prelude.{ℕ, ◌/◌, ◌%◌, ◌<◌, ◌≤◌, ◌≡◌, List, [], ◌∷◌, ◌++◌, length, take}
+use Rattle.std.specs.Prelude.{ℕ, ◌/◌, ◌%◌, ◌<◌, ◌≤◌, ◌≡◌, List, [], ◌∷◌, ◌++◌, length, take, Ok}
 use Rattle.basis.specs.Bytes.{byte_at}
 use Rattle.tcp.specs.declared.Layout.{Layout}
 use Rattle.sigrecord.specs.Record.{signature_of}
-use Rattle.siglist.specs.declared.ListAnswer.TheVariants as answer
 use Rattle.siglist.specs.List.{record_at, entries_of, check_list}
 use Rattle.signature_line.specs.Line.{SignatureLine, longest}
 use Rattle.signature_line.specs.Meaning.{LineMeaning}
@@ -31,7 +30,7 @@ list_of_one m = two_bytes 1 ++ two_bytes 8 ++ two_bytes m.layout.count ++ two_by
 -- What a line means is well formed.
 pub record WellFormedLine (m : LineMeaning) : Type 0 where
   -- No condition of document 01 makes the record bad, on the list that holds it and its entries alone.
-  pub good : check_list (list_of_one m) ≡ answer.Good
+  pub good : check_list (list_of_one m) ≡ (Ok tt)
   -- A whole record.
   pub whole : length m.raw ≡ 24
   -- "18 first layout entry": 0.

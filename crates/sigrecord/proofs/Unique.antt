@@ -1,13 +1,11 @@
 -- Exactly one result meets each public function's own contract.
 -- tools/promises makes this file from the contracts, and the gate holds it to them.
 use Rattle.std.specs.Borrow.{Bor}
-use Rattle.std.specs.Prelude.{ℕ, Bool, List, length, ◌/◌}
+use Rattle.std.specs.Prelude.{ℕ, Bool, List, Option, length, ◌/◌}
 use contract.Lifetimes.{Lfts}
 use Rattle.basis.specs.Bytes.{be32}
 use Rattle.basis.specs.Unique.{ExactlyOne}
 use Rattle.basis.proofs.Unique.{equation}
-use Rattle.tcp.specs.declared.Mss.{Mss}
-use Rattle.tcp.specs.declared.Wscale.{Wscale}
 use Rattle.quirks.specs.declared.QuirkSet.{QuirkSet}
 use Rattle.ttl.specs.declared.Ttl.{Ttl}
 use Rattle.sigrecord.specs.declared.SigVersion.{SigVersion}
@@ -41,7 +39,7 @@ version_of_one κs raw = equation ((signature_of raw.now).version)
 pub ttl_of_one : (κs : Lfts 1) (raw : Bor (List ℕ)) → ExactlyOne Ttl (λ (r : Ttl). ttl_of'.Post κs (raw, tt) r (raw, tt))
 ttl_of_one κs raw = equation ((signature_of raw.now).ittl)
 
-pub mss_of_one : (κs : Lfts 1) (raw : Bor (List ℕ)) → ExactlyOne Mss (λ (r : Mss). mss_of'.Post κs (raw, tt) r (raw, tt))
+pub mss_of_one : (κs : Lfts 1) (raw : Bor (List ℕ)) → ExactlyOne (Option ℕ) (λ (r : Option ℕ). mss_of'.Post κs (raw, tt) r (raw, tt))
 mss_of_one κs raw = equation ((signature_of raw.now).mss)
 
 pub window_of_one
@@ -49,7 +47,7 @@ pub window_of_one
     → ExactlyOne WindowSize (λ (r : WindowSize). window_of'.Post κs (raw, tt) r (raw, tt))
 window_of_one κs raw = equation ((signature_of raw.now).wsize)
 
-pub scale_of_one : (κs : Lfts 1) (raw : Bor (List ℕ)) → ExactlyOne Wscale (λ (r : Wscale). scale_of'.Post κs (raw, tt) r (raw, tt))
+pub scale_of_one : (κs : Lfts 1) (raw : Bor (List ℕ)) → ExactlyOne (Option ℕ) (λ (r : Option ℕ). scale_of'.Post κs (raw, tt) r (raw, tt))
 scale_of_one κs raw = equation ((signature_of raw.now).wscale)
 
 pub quirks_of_one : (κs : Lfts 1) (raw : Bor (List ℕ)) → ExactlyOne QuirkSet (λ (r : QuirkSet). quirks_of'.Post κs (raw, tt) r (raw, tt))

@@ -1,3 +1,4 @@
 pub mod Layout
 pub mod Record
+pub mod Seen
 pub mod WellFormed

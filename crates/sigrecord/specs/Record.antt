@@ -1,11 +1,7 @@
 -- What a record of the signature list means (document 01, "The signature list"; document 02, Wish 3). A record is its 24 bytes.
-use Rattle.std.specs.Prelude.{ℕ, ◌%◌, Bool, cond, List, eqb}
+use Rattle.std.specs.Prelude.{ℕ, ◌%◌, Bool, cond, List, eqb, Option, Some, None}
 use Rattle.basis.specs.Bytes.{byte_at, be16, be32}
 use Rattle.quirks.specs.Quirks.{set_of}
-use Rattle.tcp.specs.declared.Mss.{Mss}
-use Rattle.tcp.specs.declared.Mss.TheVariants as mss
-use Rattle.tcp.specs.declared.Wscale.{Wscale}
-use Rattle.tcp.specs.declared.Wscale.TheVariants as wscale
 use Rattle.ttl.specs.declared.Ttl.{Ttl}
 use Rattle.ttl.specs.declared.Ttl.TheVariants as ttl
 use Rattle.sigrecord.specs.declared.Signature.{Signature}
@@ -25,11 +21,11 @@ unfoldable pub ttl_of : ℕ → ℕ → ℕ → Ttl
 ttl_of form t d = cond (eqb form 0) (ttl.Value t) (cond (eqb form 1) (ttl.Distance t d) (cond (eqb form 2) (ttl.Guess t) (ttl.Bad t)))
 
 -- "5 MSS present; 6 MSS", "11 scale present; 12 scale"
-unfoldable pub mss_of : ℕ → ℕ → Mss
-mss_of present n = cond (eqb present 0) mss.Absent (mss.Present n)
+unfoldable pub mss_of : ℕ → ℕ → Option ℕ
+mss_of present n = cond (eqb present 0) None (Some n)
 
-unfoldable pub scale_of : ℕ → ℕ → Wscale
-scale_of present n = cond (eqb present 0) wscale.Absent (wscale.Present n)
+unfoldable pub scale_of : ℕ → ℕ → Option ℕ
+scale_of present n = cond (eqb present 0) None (Some n)
 
 -- "8 window form (0 any, 1 value, 2 modulus, 3 MSS, 4 MTU); 9 number". A multiple is one byte: more makes the record bad.
 unfoldable pub window_of : ℕ → ℕ → WindowSize

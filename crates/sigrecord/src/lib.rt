@@ -11,10 +11,10 @@ ghost use Rattle.sigrecord.specs.WellFormed.{quirks_good, forms_well_formed, sca
 use conditions::forms_good;
 use numbers::{be16_at, be32, byte_at};
 use quirks::QuirkSet;
-use tcp::{Mss, Wscale};
 use ttl::Ttl;
 
 mod conditions;
+mod seen;
 
 // The bytes of a record.
 pub const RECORD: usize = 24;
@@ -93,15 +93,16 @@ pub struct Signature {
     pub version: SigVersion,
     pub ittl: Ttl,
     pub olen: u8,
-    pub mss: Mss,
+    pub mss: Option<u16>,
     pub wsize: WindowSize,
-    pub wscale: Wscale,
+    pub wscale: Option<u8>,
     pub pclass: SigPayload,
     pub quirks: QuirkSet,
 }
 
 // ---- what the bytes of a record mean, on every byte string
 
+#[tactic(auto, unfolding(crate::specs::Record::signature_of, crate::specs::Record::version_of))]
 pub fn version_of(raw: &[u8]) -> SigVersion
     ensures { result ≡ (signature_of raw.now).version }
 {
@@ -112,6 +113,7 @@ pub fn version_of(raw: &[u8]) -> SigVersion
     }
 }
 
+#[tactic(auto, unfolding(crate::specs::Record::signature_of, crate::specs::Record::ttl_of))]
 pub fn ttl_of(raw: &[u8]) -> Ttl
     ensures { result ≡ (signature_of raw.now).ittl }
 {
@@ -125,15 +127,15 @@ pub fn ttl_of(raw: &[u8]) -> Ttl
     }
 }
 
-pub fn mss_of(raw: &[u8]) -> Mss
+// Two functions, this and `scale_of`: they read other bytes, a number of two and one of one.
+#[tactic(auto, unfolding(crate::specs::Record::signature_of, crate::specs::Record::mss_of))]
+pub fn mss_of(raw: &[u8]) -> Option<u16>
     ensures { result ≡ (signature_of raw.now).mss }
 {
-    if byte_at(raw, MSS_PRESENT) == 0 {
-        return Mss::Absent;
-    }
-    Mss::Present(be16_at(raw, MSS))
+    (byte_at(raw, MSS_PRESENT) != 0).then_some(be16_at(raw, MSS))
 }
 
+#[tactic(auto, unfolding(crate::specs::Record::signature_of, crate::specs::Record::window_of))]
 pub fn window_of(raw: &[u8]) -> WindowSize
     ensures { result ≡ (signature_of raw.now).wsize }
 {
@@ -148,15 +150,14 @@ pub fn window_of(raw: &[u8]) -> WindowSize
     }
 }
 
-pub fn scale_of(raw: &[u8]) -> Wscale
+#[tactic(auto, unfolding(crate::specs::Record::signature_of, crate::specs::Record::scale_of))]
+pub fn scale_of(raw: &[u8]) -> Option<u8>
     ensures { result ≡ (signature_of raw.now).wscale }
 {
-    if byte_at(raw, SCALE_PRESENT) == 0 {
-        return Wscale::Absent;
-    }
-    Wscale::Present(byte_at(raw, SCALE))
+    (byte_at(raw, SCALE_PRESENT) != 0).then_some(byte_at(raw, SCALE))
 }
 
+#[tactic(auto, unfolding(crate::specs::Record::signature_of, crate::specs::Record::payload_of))]
 fn payload_of(raw: &[u8]) -> SigPayload
     ensures { result ≡ (signature_of raw.now).pclass }
 {
@@ -167,6 +168,7 @@ fn payload_of(raw: &[u8]) -> SigPayload
     }
 }
 
+#[tactic(auto, unfolding(crate::specs::Record::signature_of, basis::specs::Bytes::be32))]
 pub fn quirks_of(raw: &[u8]) -> QuirkSet
     ensures { result ≡ (signature_of raw.now).quirks }
 {
@@ -174,6 +176,7 @@ pub fn quirks_of(raw: &[u8]) -> QuirkSet
 }
 
 // The signature of a record, its layout apart.
+#[tactic(auto, unfolding(crate::specs::Record::signature_of))]
 pub fn signature_of(raw: &[u8]) -> Signature
     ensures { result ≡ signature_of raw.now }
 {
@@ -218,26 +221,23 @@ pub fn is_generic(raw: &[u8]) -> bool
 // ---- when a record is well formed
 
 // A record, given as its bytes, is well formed but for its layout.
+#[tactic(auto, using(crate::proofs::Laws::quirks_last))]
 pub fn scalars_well_formed(raw: &[u8]) -> bool
     ensures { result ≡ scalars_well_formed raw.now }
 {
-    if !forms_well_formed(raw) {
-        return false;
-    }
-    quirks_good(raw)
+    forms_well_formed(raw) && quirks_good(raw)
 }
 
 // The same but for its quirks. The check of a list asks for both one after the other: as one function they are more than this compiler
 // sets in place (docs/DECISIONS.md, 116).
+#[tactic(auto, unfolding(crate::specs::WellFormed::forms_well_formed))]
 pub fn forms_well_formed(raw: &[u8]) -> bool
     ensures { result ≡ forms_well_formed raw.now }
 {
-    if raw.len() != RECORD {
-        return false;
-    }
-    forms_good(raw)
+    raw.len() == RECORD && forms_good(raw)
 }
 
+#[tactic(auto, using(crate::proofs::Bits::known), unfolding(crate::specs::WellFormed::quirks_good, crate::specs::Record::signature_of))]
 pub fn quirks_good(raw: &[u8]) -> bool
     ensures { result ≡ quirks_good (be32 raw.now 14) }
 {
@@ -245,13 +245,11 @@ pub fn quirks_good(raw: &[u8]) -> bool
 }
 
 // A layout entry is an option kind and a byte: bytes left after kind 0, else 0. Most bytes are 0, so the byte is tested first.
+#[tactic(auto, unfolding(crate::specs::Layout::entry_good))]
 pub fn entry_good(kind: u8, byte: u8) -> bool
     ensures { result ≡ entry_good kind byte }
 {
-    if byte == 0 {
-        return true;
-    }
-    kind == 0
+    byte == 0 || kind == 0
 }
 
 // Every entry of a row of entries, kind before byte: the test of `entry_good` as two branches, which this compiler leaves apart (five
@@ -259,17 +257,11 @@ pub fn entry_good(kind: u8, byte: u8) -> bool
 pub fn entries_good(entries: &[u8]) -> bool
     ensures { result ≡ entries_good entries.now (length entries.now / 2) }
 {
-    let count = entries.len() / 2;
-    let mut i = 0;
-    while i < count {
-        let at = 2 * i;
-        let byte = entries[at + 1];
-        if byte != 0 {
-            if entries[at] != 0 {
-                return false;
-            }
+    for i in 0..entries.len() / 2 {
+        let byte = entries[2 * i + 1];
+        if byte != 0 && entries[2 * i] != 0 {
+            return false;
         }
-        i += 1;
     }
     true
 }

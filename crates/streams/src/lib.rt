@@ -18,19 +18,21 @@ pub enum Ending {
     Failed,
 }
 
-// Reads until the buffer is full, the input ends or a read fails: how many bytes came.
+// The error of a text that standard output did not take whole: the output ends early.
+#[derive(Clone, Copy)]
+pub struct Cut;
+
+// Reads until the buffer is full, the input ends or a read fails: how many bytes came. (A `while`: each turn goes as far as the read says.
+// `read_exact` of the library does not say how many bytes came.)
 pub fn read_full(mut stdin: Stdin, buffer: &mut [u8]) -> usize
     ensures { result ≤ length buffer.new }
 {
     let mut count = 0;
     while count < buffer.len() {
-        let Ok(more) = stdin.read(&mut buffer[count..]) else {
-            return count;
-        };
-        if more == 0 {
-            return count;
+        match stdin.read(&mut buffer[count..]) {
+            Ok(0) | Err(_) => break,
+            Ok(more) => count += more,
         }
-        count += more;
     }
     count
 }
@@ -40,31 +42,24 @@ pub fn ends_as(mut stdin: Stdin, full: bool) -> Ending
     ensures { LongerIfFull full result }
 {
     let mut one = [0u8; 1];
-    let Ok(got) = stdin.read(&mut one) else {
-        return Ending::Failed;
-    };
-    if got == 0 {
-        return Ending::Whole;
+    match stdin.read(&mut one) {
+        Ok(0) => Ending::Whole,
+        Ok(_) if full => Ending::Longer,
+        Ok(_) | Err(_) => Ending::Failed,
     }
-    if full {
-        return Ending::Longer;
-    }
-    Ending::Failed
 }
 
-// Writes until all of a text is taken, or a write takes nothing or fails. Whether all of it was taken.
-pub fn write_all(mut stdout: Stdout, text: &[u8]) -> bool {
-    let mut done = 0;
-    while done < text.len() {
-        let Ok(more) = stdout.write(&text[done..]) else {
-            return false;
-        };
-        if more == 0 {
-            return false;
+// Writes until all of a text is taken, or a write takes nothing or fails. (A `while`: `write_all` of the library tries a write again that
+// was interrupted; here it has failed, as README says.)
+pub fn write_all(mut stdout: Stdout, text: &[u8]) -> Result<(), Cut> {
+    let mut rest = text;
+    while !rest.is_empty() {
+        match stdout.write(rest) {
+            Ok(0) | Err(_) => return Err(Cut),
+            Ok(more) => rest = &rest[more..],
         }
-        done += more;
     }
-    true
+    Ok(())
 }
 
 // A message, on standard error. One that is not taken is lost.
@@ -78,8 +73,8 @@ pub fn say_number(stderr: Stderr, n: usize) {
 }
 
 // What a program of this name says if its output was not taken whole.
-pub fn tell_cut(stderr: Stderr, name: &[u8], whole: bool) {
-    if !whole {
+pub fn tell_cut(stderr: Stderr, name: &[u8], written: Result<(), Cut>) {
+    if let Err(Cut) = written {
         say(stderr, name);
         say(
             stderr,

@@ -1,4 +1,5 @@
 -- Laws of a walk's layout: at most forty entries, and entries past the count are 0.
+use Rattle.std.specs.Prelude.{Option, Some, None, Result, Ok, Err}
 use mathlib.Core.Path.{◌≡◌, refl, ◌∙◌}
 use mathlib.Core.Bool.{Bool, true, false, cond, ◌&&◌}
 use mathlib.Core.List.{List, [], ◌∷◌}
@@ -11,19 +12,13 @@ use lib.Seq.{get_or-set_other}
 use Rattle.basis.specs.Bytes.{byte_at}
 use Rattle.quirks.specs.declared.QuirkSet.{QuirkSet}
 use Rattle.tcp.specs.declared.Layout.{Layout}
-use Rattle.quirks.specs.Named.{empty}
-use Rattle.syn_options.specs.declared.OptionsAnswer.TheVariants as answer
-use Rattle.syn_options.specs.declared.OptionsRead.{OptionsRead}
-use Rattle.syn_options.specs.declared.Place.{Place}
-use Rattle.syn_options.specs.declared.Place.TheVariants as place
+use Rattle.refusals.specs.declared.OptionsTooLong.{OptionsTooLong}
 use Rattle.syn_options.specs.declared.StopBefore.{StopBefore}
 use Rattle.syn_options.specs.Places.{first_of}
-use Rattle.syn_options.specs.Stops.{stops_before, walk_up_to, walk_to, walk_options, refused_walk, read_options}
-use Rattle.syn_options.specs.declared.OptionWalk.{OptionWalk}
-use Rattle.syn_options.specs.declared.WalkRead.{WalkRead}
+use Rattle.syn_options.specs.Stops.{stops_before, walk_up_to, walk_to, walk_options, read_options}
 use Rattle.one_option.specs.Options.{Opt, asked, runs_past, options_after, options_of}
 use Rattle.syn_options.specs.Walk.{Walked, put_entry, put_option, walk_from, start_walk, walk_of}
-use Rattle.syn_options.specs.Walk.{parsed_of, parse_options_raw, options_refusal}
+use Rattle.syn_options.specs.Walk.{parse_options_raw, too_long, options_refusal}
 
 -- A string has no more options than bytes.
 pub options_few : (skip : ℕ) (s : List ℕ) → length (options_after skip s) ≤ length s
@@ -96,15 +91,15 @@ past_count stop syn quirks s =
     (record { kinds = λ i h. zero_row i; bytes = λ i h. zero_row i })
 
 -- The same of the walk, wherever it stops.
-up_to_forty : (k : Place) (syn : Bool) (quirks : QuirkSet) (s : List ℕ) → (walk_up_to k syn quirks s).olayout.count ≤ 40
+up_to_forty : (k : Option ℕ) (syn : Bool) (quirks : QuirkSet) (s : List ℕ) → (walk_up_to k syn quirks s).olayout.count ≤ 40
 unfolding walk_up_to
-up_to_forty place.None syn quirks s = at_most_forty false syn quirks s
-up_to_forty (place.At k) syn quirks s = at_most_forty false syn quirks _
+up_to_forty None syn quirks s = at_most_forty false syn quirks s
+up_to_forty (Some k) syn quirks s = at_most_forty false syn quirks _
 
-up_to_tidy : (k : Place) (syn : Bool) (quirks : QuirkSet) (s : List ℕ) → Tidy (walk_up_to k syn quirks s).olayout
+up_to_tidy : (k : Option ℕ) (syn : Bool) (quirks : QuirkSet) (s : List ℕ) → Tidy (walk_up_to k syn quirks s).olayout
 unfolding walk_up_to
-up_to_tidy place.None syn quirks s = past_count false syn quirks s
-up_to_tidy (place.At k) syn quirks s = past_count false syn quirks _
+up_to_tidy None syn quirks s = past_count false syn quirks s
+up_to_tidy (Some k) syn quirks s = past_count false syn quirks _
 
 module _ (stop : StopBefore) (syn : Bool) (quirks : QuirkSet) (s : List ℕ) where
   pub walk_at_most_forty : (walk_options stop syn quirks s).olayout.count ≤ 40
@@ -116,29 +111,19 @@ module _ (stop : StopBefore) (syn : Bool) (quirks : QuirkSet) (s : List ℕ) whe
   walk_past_count = up_to_tidy (first_of (stops_before stop) (take 40 s)) syn quirks (take 40 s)
 
 -- Refusal 8 is given exactly when the option string is over 40 bytes.
-pub refused_over_forty : (s : List ℕ) → options_refusal (parse_options_raw s).answer ≡ cond (ltb 40 (length s)) 8 0
-unfolding parse_options_raw options_refusal
-refused_over_forty s = by_length (ltb 40 (length s))
-  where
-    by_length
-        : (t : Bool)
-        → options_refusal
-        (cond {A = OptionsRead} t
-        (record { answer = answer.Refused; options = parsed_of (start_walk empty) })
-        (record { answer = answer.Parsed; options = parsed_of (walk_of true false empty s) })).answer
-        ≡ cond t 8 0
-    by_length true = refl
-    by_length false = refl
+eight_or_none
+    : {A : Type 0} (t : Bool) (a : A) → options_refusal (cond {A = Result A OptionsTooLong} t (Err too_long) (Ok a)) ≡ cond t 8 0
+unfolding options_refusal
+eight_or_none true a = refl
+eight_or_none false a = refl
+
+pub refused_over_forty : (s : List ℕ) → options_refusal (parse_options_raw s) ≡ cond (ltb 40 (length s)) 8 0
+unfolding parse_options_raw
+refused_over_forty s = eight_or_none (ltb 40 (length s)) _
 
 -- So it is for the walk of a string.
 pub walk_refused_over_forty
     : (stop : StopBefore) (syn : Bool) (quirks : QuirkSet) (s : List ℕ)
-    → options_refusal (read_options stop syn quirks s).answer ≡ cond (ltb 40 (length s)) 8 0
-unfolding read_options options_refusal
-walk_refused_over_forty stop syn quirks s = by_length (ltb 40 (length s)) (walk_options stop syn quirks s)
-  where
-    by_length
-        : (t : Bool) (walk : OptionWalk)
-        → options_refusal (cond {A = WalkRead} t refused_walk (record { answer = answer.Parsed; walk = walk })).answer ≡ cond t 8 0
-    by_length true walk = refl
-    by_length false walk = refl
+    → options_refusal (read_options stop syn quirks s) ≡ cond (ltb 40 (length s)) 8 0
+unfolding read_options
+walk_refused_over_forty stop syn quirks s = eight_or_none (ltb 40 (length s)) _

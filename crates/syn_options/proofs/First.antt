@@ -1,4 +1,5 @@
 -- Laws of places: the first option that meets a test is the first, and where a walk stops.
+use Rattle.std.specs.Prelude.{Option, Some, None}
 use mathlib.Core.Path.{◌≡◌, refl, sym, ◌∙◌}
 use mathlib.Core.Bool.{Bool, true, false, cond, true≢false}
 use mathlib.Core.List.{List, [], ◌∷◌}
@@ -8,16 +9,14 @@ use lib.ListN.{length, drop, length-take, length-drop}
 use Rattle.one_option.specs.Options.{Opt, asked, option_of, options_after, options_of, option_at, OptionBegins}
 use Rattle.one_option.proofs.Options.{skipped}
 use Rattle.one_option.proofs.Begins.{none_begins, followed, option_behind}
-use Rattle.syn_options.specs.declared.Place.{Place}
-use Rattle.syn_options.specs.declared.Place.TheVariants as place
 use Rattle.syn_options.specs.Places.{size_of, first_from, first_of, TheFirst}
 
 -- ---- the first is the first
 
 -- So many bytes further on.
-abbrev ahead : ℕ → Place → Place
-ahead n place.None = place.None
-ahead n (place.At k) = place.At (n + k)
+abbrev ahead : ℕ → Option ℕ → Option ℕ
+ahead n None = None
+ahead n (Some k) = Some (n + k)
 
 first_ahead : (test : Opt → Bool) (n at : ℕ) (os : List Opt) → first_from test (n + at) os ≡ ahead n (first_from test at os)
 unfolding first_from
@@ -26,7 +25,7 @@ first_ahead test n at (o ∷ os) =
     let on : n + at + size_of o ≡ n + (at + size_of o) = omega arith in
     rw on (by_test (test o) _ _ (first_ahead test n (at + size_of o) os))
   where
-    by_test : (t : Bool) (far near : Place) → far ≡ ahead n near → cond t (place.At (n + at)) far ≡ ahead n (cond t (place.At at) near)
+    by_test : (t : Bool) (far near : Option ℕ) → far ≡ ahead n near → cond t (Some (n + at)) far ≡ ahead n (cond t (Some at) near)
     by_test true far near h = refl
     by_test false far near h = h
 
@@ -34,7 +33,7 @@ module _ (test : Opt → Bool) (b : ℕ) (rest : List ℕ) where
   -- What is the first behind the first option, if that does not meet the test.
   goes_on
       : test (option_of b rest) ≡ false
-      → {later : Place}
+      → {later : Option ℕ}
       → TheFirst test (drop (asked b rest) rest) later
       → TheFirst test (b ∷ rest) (ahead (size_of (option_of b rest)) later)
   goes_on not-here (TheFirst.none nowhere) = TheFirst.none no_more
@@ -66,7 +65,7 @@ module _ (test : Opt → Bool) (b : ℕ) (rest : List ℕ) where
           : (t : Bool)
           → test (option_of b rest) ≡ t
           → TheFirst test (b ∷ rest)
-          (cond t (place.At 0) (ahead (size_of (option_of b rest)) (first_of test (drop (asked b rest) rest))))
+          (cond t (Some 0) (ahead (size_of (option_of b rest)) (first_of test (drop (asked b rest) rest))))
       by_test true e = TheFirst.at OptionBegins.first e (λ j r f. omega arith)
       by_test false e = goes_on e later
 

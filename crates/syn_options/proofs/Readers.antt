@@ -1,4 +1,5 @@
 -- The walks of the two readers of document 01 are the walk that stops before nothing, and the one that stops before what runs past the end.
+use Rattle.std.specs.Prelude.{Option, Some, None, Result, Ok, Err}
 use mathlib.Core.Path.{◌≡◌, refl, sym, ◌∙◌}
 use mathlib.Core.Bool.{Bool, true, false, cond, ◌||◌}
 use mathlib.Core.List.{List, [], ◌∷◌}
@@ -10,22 +11,19 @@ use lib.Seq.{take_all, take-take}
 use Rattle.quirks.specs.declared.QuirkSet.{QuirkSet}
 use Rattle.quirks.specs.Named.{empty}
 use Rattle.one_option.specs.Options.{Opt, runs_past, options_of}
-use Rattle.syn_options.specs.declared.Place.{Place}
-use Rattle.syn_options.specs.declared.Place.TheVariants as place
 use Rattle.syn_options.specs.declared.Places.{Places}
 use Rattle.syn_options.specs.declared.OptionWalk.{OptionWalk}
-use Rattle.syn_options.specs.declared.WalkRead.{WalkRead}
-use Rattle.syn_options.specs.declared.OptionsAnswer.TheVariants as answer
-use Rattle.syn_options.specs.declared.OptionsRead.{OptionsRead}
-use Rattle.syn_options.specs.Walk.{Walked, put_option, walk_from, start_walk, walk_of, parsed_of, parse_options_raw}
+use Rattle.syn_options.specs.declared.ParsedTcpOptions.{ParsedTcpOptions}
+use Rattle.refusals.specs.declared.OptionsTooLong.{OptionsTooLong}
+use Rattle.syn_options.specs.Walk.{Walked, put_option, walk_from, start_walk, walk_of, parsed_of, too_long, parse_options_raw}
 use Rattle.syn_options.specs.Places.{size_of, first_from, places_of, no_places}
 use Rattle.syn_options.specs.Stops.{nothing, past_the_end, stops_before, stopped, walk_up_to, walk_with, walked_of, came_to}
-use Rattle.syn_options.specs.Stops.{walk_to, walk_options, refused_walk, read_options}
+use Rattle.syn_options.specs.Stops.{walk_to, walk_options, read_options}
 use Rattle.syn_options.proofs.Rows.{noted, row_walk, row_is_walk}
 
 -- ---- the packet reader's
 
-never_stops : (at : ℕ) (os : List Opt) → first_from (stops_before nothing) at os ≡ place.None
+never_stops : (at : ℕ) (os : List Opt) → first_from (stops_before nothing) at os ≡ None
 unfolding first_from stops_before
 never_stops at [] = refl
 never_stops at (o ∷ os) = never_stops (at + size_of o) os
@@ -70,7 +68,7 @@ unfolding first_from stops_before
 past_stops at [] = refl
 past_stops at (o ∷ os) = by_test (runs_past o) _ _ (past_stops (at + size_of o) os)
   where
-    by_test : (t : Bool) (a b : Place) → a ≡ b → cond (t || false) (place.At at) a ≡ cond t (place.At at) b
+    by_test : (t : Bool) (a b : Option ℕ) → a ≡ b → cond (t || false) (Some at) a ≡ cond t (Some at) b
     by_test true a b h = refl
     by_test false a b h = h
 
@@ -81,8 +79,9 @@ string_up_to s few =
     sym (string_walk false empty s) ∙ rw (take_all 40 s few, past_stops 0 (options_of s))
 
 -- What `parse_options_raw` draws from the walk of a string.
-abbrev drawn : WalkRead → OptionsRead
-drawn read = record { answer = read.answer; options = parsed_of (walked_of read.walk) }
+abbrev drawn : Result OptionWalk OptionsTooLong → Result ParsedTcpOptions OptionsTooLong
+drawn (Ok walk) = Ok (parsed_of (walked_of walk))
+drawn (Err why) = Err why
 
 -- It is its answer, refusal 8 included.
 pub parsed_of_walk : (s : List ℕ) → drawn (read_options past_the_end false empty s) ≡ parse_options_raw s
@@ -91,8 +90,7 @@ parsed_of_walk s = by_length (ltb 40 (length s))
   where
     by_length
         : (t : Bool)
-        → drawn (cond t refused_walk (record { answer = answer.Parsed; walk = walk_options past_the_end false empty s }))
-        ≡ cond t (record { answer = answer.Refused; options = parsed_of (start_walk empty) })
-        (record { answer = answer.Parsed; options = parsed_of (walk_of true false empty s) })
+        → drawn (cond t (Err too_long) (Ok (walk_options past_the_end false empty s)))
+        ≡ cond t (Err too_long) (Ok (parsed_of (walk_of true false empty s)))
     by_length true = refl
     by_length false = rw (← string_walk false empty s)

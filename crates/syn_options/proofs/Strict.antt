@@ -1,4 +1,5 @@
 -- The strict entry's walk: where it stops, and what it shows.
+use Rattle.std.specs.Prelude.{Option, Some, None}
 use mathlib.Core.Path.{◌≡◌, refl, ◌∙◌, ap}
 use mathlib.Core.Bool.{Bool, true, false, cond, ◌||◌}
 use mathlib.Core.List.{List, [], ◌∷◌}
@@ -11,8 +12,6 @@ use Rattle.quirks.specs.declared.QuirkSet.{QuirkSet}
 use Rattle.quirks.specs.Quirks.{contains}
 use Rattle.quirks.proofs.Laws.{contains_with_same}
 use Rattle.one_option.specs.Options.{Opt, runs_past, short_length, options_of}
-use Rattle.syn_options.specs.declared.Place.{Place}
-use Rattle.syn_options.specs.declared.Place.TheVariants as place
 use Rattle.syn_options.specs.declared.Places.{Places}
 use Rattle.syn_options.specs.Walk.{walk_of}
 use Rattle.syn_options.specs.Places.{size_of, first_from, first_of, places_of, no_places, earlier}
@@ -31,22 +30,22 @@ either_first p q at (o ∷ os) =
     by_tests (p o) (q o) (first_from p (at + size_of o) os) (first_from q (at + size_of o) os)
     (first_from_lem p (at + size_of o) os) (first_from_lem q (at + size_of o) os) (either_first p q (at + size_of o) os)
   where
-    left : (later : Place) → From (at + size_of o) later → place.At at ≡ earlier (place.At at) later
-    left place.None h = refl
-    left (place.At k) h = let least : at ≡ min at k = omega arith in ap place.At least
+    left : (later : Option ℕ) → From (at + size_of o) later → Some at ≡ earlier (Some at) later
+    left None h = refl
+    left (Some k) h = let least : at ≡ min at k = omega arith in ap Some least
 
-    right : (later : Place) → From (at + size_of o) later → place.At at ≡ earlier later (place.At at)
-    right place.None h = refl
-    right (place.At k) h = let least : at ≡ min k at = omega arith in ap place.At least
+    right : (later : Option ℕ) → From (at + size_of o) later → Some at ≡ earlier later (Some at)
+    right None h = refl
+    right (Some k) h = let least : at ≡ min k at = omega arith in ap Some least
 
     by_tests
-        : (t u : Bool) (first second : Place)
+        : (t u : Bool) (first second : Option ℕ)
         → From (at + size_of o) first
         → From (at + size_of o) second
         → first_from (λ (o : Opt). p o || q o) (at + size_of o) os ≡ earlier first second
-        → cond (t || u) (place.At at) (first_from (λ (o : Opt). p o || q o) (at + size_of o) os)
-        ≡ earlier (cond t (place.At at) first) (cond u (place.At at) second)
-    by_tests true true first second h k rest = let least : at ≡ min at at = omega arith in ap place.At least
+        → cond (t || u) (Some at) (first_from (λ (o : Opt). p o || q o) (at + size_of o) os)
+        ≡ earlier (cond t (Some at) first) (cond u (Some at) second)
+    by_tests true true first second h k rest = let least : at ≡ min at at = omega arith in ap Some least
     by_tests true false first second h k rest = left second k
     by_tests false true first second h k rest = right first h
     by_tests false false first second h k rest = rest
@@ -64,24 +63,24 @@ pub sound_walk
     → walked_of (walk_options damage syn quirks s) ≡ walk_of false syn quirks s
 unfolding walk_options walk_to walk_up_to walk_of earlier
 sound_walk syn quirks s sound =
-    let none : first_of (stops_before damage) (take 40 s) ≡ place.None =
+    let none : first_of (stops_before damage) (take 40 s) ≡ None =
     stop_place (take 40 s) ∙ ap (λ (p : Places). earlier p.past p.short) sound in
     rw (none, take-take 40 40 s (omega arith))
 
 module _ (syn : Bool) (quirks : QuirkSet) (s : List ℕ) where
-  stopped_shows : (k : ℕ) → contains (walk_up_to (place.At k) syn quirks s).seen.quirks quirk.OptBad ≡ true
+  stopped_shows : (k : ℕ) → contains (walk_up_to (Some k) syn quirks s).seen.quirks quirk.OptBad ≡ true
   unfolding walk_up_to
   stopped_shows k = contains_with_same _ quirk.OptBad
 
   by_places
-      : (past short : Place)
+      : (past short : Option ℕ)
       → (◌≡◌ {A = Places} (record { past = past; short = short }) no_places → ⊥)
       → contains (walk_up_to (earlier past short) syn quirks s).seen.quirks quirk.OptBad ≡ true
   unfolding earlier
-  by_places place.None place.None damaged = absurd (damaged refl)
-  by_places place.None (place.At n) damaged = stopped_shows n
-  by_places (place.At m) place.None damaged = stopped_shows m
-  by_places (place.At m) (place.At n) damaged = stopped_shows (min m n)
+  by_places None None damaged = absurd (damaged refl)
+  by_places None (Some n) damaged = stopped_shows n
+  by_places (Some m) None damaged = stopped_shows m
+  by_places (Some m) (Some n) damaged = stopped_shows (min m n)
 
 pub damaged_walk
     : (syn : Bool) (quirks : QuirkSet) (s : List ℕ)

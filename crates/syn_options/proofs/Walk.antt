@@ -1,4 +1,5 @@
 -- The walk place by place: one turn of the loop, where it stops and where it ends.
+use Rattle.std.specs.Prelude.{Option, Some, None}
 use mathlib.Core.Path.{◌≡◌, refl, sym, ◌∙◌, ap}
 use mathlib.Core.Bool.{Bool, true, false, cond}
 use mathlib.Core.List.{List, [], ◌∷◌}
@@ -14,8 +15,6 @@ use Rattle.one_option.specs.Options.{options_after, options_of, option_at, step_
 use Rattle.one_option.specs.See.{see_option}
 use Rattle.one_option.proofs.Options.{take_clipped, own_part, step_kind, step_lies, options_from}
 use Rattle.one_option.proofs.See.{opt}
-use Rattle.syn_options.specs.declared.Place.{Place}
-use Rattle.syn_options.specs.declared.Place.TheVariants as place
 use Rattle.syn_options.specs.declared.Places.{Places}
 use Rattle.syn_options.specs.declared.StopBefore.{StopBefore}
 use Rattle.syn_options.specs.Walk.{Walked, entry_byte, put_entry, put_option}
@@ -33,15 +32,15 @@ abbrev pub noted_at : Places → OptionStep → ℕ → Places
 noted_at p step at = record { past = noted_if step.past p.past at; short = noted_if step.short p.short at }
 
 -- The code's two cases of it.
-pub damaged_known : {damaged : Bool} (known : Place) (at : ℕ) → damaged ≡ true → first_known known at ≡ noted_if damaged known at
+pub damaged_known : {damaged : Bool} (known : Option ℕ) (at : ℕ) → damaged ≡ true → first_known known at ≡ noted_if damaged known at
 unfolding first_known noted_if
-damaged_known place.None at e = rw e
-damaged_known (place.At n) at e = refl
+damaged_known None at e = rw e
+damaged_known (Some n) at e = refl
 
-pub sound_known : {damaged : Bool} (known : Place) (at : ℕ) → damaged ≡ false → known ≡ noted_if damaged known at
+pub sound_known : {damaged : Bool} (known : Option ℕ) (at : ℕ) → damaged ≡ false → known ≡ noted_if damaged known at
 unfolding noted_if
-sound_known place.None at e = rw e
-sound_known (place.At n) at e = refl
+sound_known None at e = rw e
+sound_known (Some n) at e = refl
 
 -- ---- the entry
 

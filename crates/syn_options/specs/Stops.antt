@@ -1,21 +1,17 @@
 -- The walk that may stop (document 02, Wish 5): one walk, of which the packet reader, the option-string reader and the strict entry draw
 -- their answers.
-use Rattle.std.specs.Prelude.{ℕ, Bool, true, false, cond, ◌&&◌, ◌||◌, List, ltb, length, take}
+use Rattle.std.specs.Prelude.{ℕ, Bool, true, false, cond, ◌&&◌, ◌||◌, List, ltb, length, take, Option, Some, None, Result, Ok, Err}
 use Rattle.quirks.specs.declared.Quirk.TheVariants as quirk
 use Rattle.quirks.specs.declared.QuirkSet.{QuirkSet}
 use Rattle.quirks.specs.Quirks.{with}
-use Rattle.quirks.specs.Named.{empty}
-use Rattle.syn_options.specs.declared.Place.{Place}
-use Rattle.syn_options.specs.declared.Place.TheVariants as place
+use Rattle.refusals.specs.declared.OptionsTooLong.{OptionsTooLong}
 use Rattle.syn_options.specs.declared.StopBefore.{StopBefore}
 use Rattle.syn_options.specs.declared.Places.{Places}
 use Rattle.syn_options.specs.declared.OptionWalk.{OptionWalk}
-use Rattle.syn_options.specs.declared.WalkRead.{WalkRead}
-use Rattle.syn_options.specs.declared.OptionsAnswer.TheVariants as answer
 use Rattle.one_option.specs.declared.OptionStep.{OptionStep}
 use Rattle.one_option.specs.Options.{Opt, runs_past, short_length}
-use Rattle.syn_options.specs.Walk.{Walked, start_walk, walk_of}
-use Rattle.syn_options.specs.Places.{first_of, places_of, no_places}
+use Rattle.syn_options.specs.Walk.{Walked, walk_of, too_long}
+use Rattle.syn_options.specs.Places.{first_of, places_of}
 
 -- ---- which options a walk stops before
 
@@ -44,9 +40,9 @@ stopped w =
     }
 
 -- The walk that stops at a place is that of the bytes before it: no entry, no end-of-options, no quirk from there on.
-unfoldable pub walk_up_to : Place → Bool → QuirkSet → List ℕ → Walked
-walk_up_to place.None syn quirks s = walk_of false syn quirks s
-walk_up_to (place.At k) syn quirks s = stopped (walk_of false syn quirks (take k s))
+unfoldable pub walk_up_to : Option ℕ → Bool → QuirkSet → List ℕ → Walked
+walk_up_to None syn quirks s = walk_of false syn quirks s
+walk_up_to (Some k) syn quirks s = stopped (walk_of false syn quirks (take k s))
 
 -- What the walk says, and the places with it.
 abbrev pub walk_with : Walked → Places → OptionWalk
@@ -56,13 +52,13 @@ abbrev pub walked_of : OptionWalk → Walked
 walked_of walk = record { olayout = walk.olayout; seen = walk.seen; malformed = walk.malformed }
 
 -- A place that the walk comes to: not behind the one where it stops.
-unfoldable pub came_to : Place → Place → Place
-came_to place.None found = found
-came_to (place.At k) place.None = place.None
-came_to (place.At k) (place.At n) = cond (ltb k n) place.None (place.At n)
+unfoldable pub came_to : Option ℕ → Option ℕ → Option ℕ
+came_to None found = found
+came_to (Some k) None = None
+came_to (Some k) (Some n) = cond (ltb k n) None (Some n)
 
 -- The walk of a string, stopping at a place.
-abbrev pub walk_stopping : Place → Bool → QuirkSet → List ℕ → OptionWalk
+abbrev pub walk_stopping : Option ℕ → Bool → QuirkSet → List ℕ → OptionWalk
 walk_stopping stop syn quirks s =
     walk_with (walk_up_to stop syn quirks s)
     (record { past = came_to stop (places_of s).past; short = came_to stop (places_of s).short })
@@ -76,13 +72,9 @@ unfoldable pub walk_options : StopBefore → Bool → QuirkSet → List ℕ → 
 walk_options stop syn quirks s = walk_to stop syn quirks (take 40 s)
 
 -- A string by itself. Over forty bytes it is refused by 8, as the option-string reader refuses it ("option string over 40 bytes", document
--- 01). A refusal gives nothing: beside it stands an empty walk.
-abbrev pub refused_walk : WalkRead
-refused_walk = record { answer = answer.Refused; walk = walk_with (start_walk empty) no_places }
-
-unfoldable pub read_options : StopBefore → Bool → QuirkSet → List ℕ → WalkRead
-read_options stop syn quirks s =
-    cond (ltb 40 (length s)) refused_walk (record { answer = answer.Parsed; walk = walk_options stop syn quirks s })
+-- 01).
+unfoldable pub read_options : StopBefore → Bool → QuirkSet → List ℕ → Result OptionWalk OptionsTooLong
+read_options stop syn quirks s = cond (ltb 40 (length s)) (Err too_long) (Ok (walk_options stop syn quirks s))
 
 -- ---- one option while the walk goes on
 
@@ -91,6 +83,6 @@ abbrev pub stops_at : StopBefore → OptionStep → Bool
 stops_at stop step = stop.past && step.past || stop.short && step.short
 
 -- A place that is known stays.
-unfoldable pub first_known : Place → ℕ → Place
-first_known place.None at = place.At at
-first_known (place.At n) at = place.At n
+unfoldable pub first_known : Option ℕ → ℕ → Option ℕ
+first_known None at = Some at
+first_known (Some n) at = Some n

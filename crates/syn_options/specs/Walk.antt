@@ -1,16 +1,13 @@
 -- The walk over the options: layout, MSS, scale and quirks (document 01, "Headers and options").
 use Rattle.std.specs.Prelude.{◌≡◌, ℕ, ◌+◌, ◌<◌, ◌≤◌, Bool, true, false, cond, ◌&&◌, List, [], ◌∷◌, eqb, ltb, length, take, replicate, set}
+use Rattle.std.specs.Prelude.{None, Result, Ok, Err}
 use Rattle.quirks.specs.declared.QuirkSet.{QuirkSet}
 use Rattle.quirks.specs.Named.{empty}
 use Rattle.tcp.specs.declared.Layout.{Layout}
-use Rattle.tcp.specs.declared.Mss.TheVariants as mss
-use Rattle.tcp.specs.declared.Wscale.TheVariants as wscale
+use Rattle.refusals.specs.declared.OptionsTooLong.{OptionsTooLong}
 use Rattle.refusals.specs.declared.Refusal.TheVariants as refusal
 use Rattle.refusals.specs.Refusals.{Verdict, number_of}
 use Rattle.syn_options.specs.declared.ParsedTcpOptions.{ParsedTcpOptions}
-use Rattle.syn_options.specs.declared.OptionsAnswer.{OptionsAnswer}
-use Rattle.syn_options.specs.declared.OptionsAnswer.TheVariants as answer
-use Rattle.syn_options.specs.declared.OptionsRead.{OptionsRead}
 use Rattle.one_option.specs.declared.OptionStep.{OptionStep}
 use Rattle.one_option.specs.declared.Seen.{Seen}
 use Rattle.one_option.specs.Options.{Opt, runs_past, options_of, step_of}
@@ -65,7 +62,7 @@ abbrev pub start_walk : QuirkSet → Walked
 start_walk quirks =
     record {
       olayout = record { kinds = replicate 40 0; bytes = replicate 40 0; count = 0 };
-      seen = record { mss = mss.Absent; wscale = wscale.Absent; quirks = quirks };
+      seen = record { mss = None; wscale = None; quirks = quirks };
       malformed = false;
     }
 
@@ -74,6 +71,10 @@ unfoldable pub walk_of : Bool → Bool → QuirkSet → List ℕ → Walked
 walk_of stop syn quirks s = walk_from stop syn (start_walk quirks) (options_of (take 40 s))
 
 -- ---- parse_options_raw
+
+-- The refusal says no more than that it is one.
+abbrev pub too_long : OptionsTooLong
+too_long = record {}
 
 -- What a walk says of layout, MSS and scale.
 abbrev pub parsed_of : Walked → ParsedTcpOptions
@@ -85,17 +86,15 @@ parsed_of w =
       malformed = w.malformed;
     }
 
--- Refusal 8, "option string over 40 bytes", gives nothing: beside it stands an empty answer.
-unfoldable pub parse_options_raw : List ℕ → OptionsRead
+-- Refusal 8, "option string over 40 bytes", gives nothing.
+unfoldable pub parse_options_raw : List ℕ → Result ParsedTcpOptions OptionsTooLong
 parse_options_raw s =
-    cond (ltb 40 (length s))
-    (record { answer = answer.Refused; options = parsed_of (start_walk empty) })
-    (record { answer = answer.Parsed; options = parsed_of (walk_of true false empty s) })
+    cond (ltb 40 (length s)) (Err too_long) (Ok (parsed_of (walk_of true false empty s)))
 
 -- Which refusal of the table the answer is, if any, and its number; 0 if it is none.
-abbrev pub options_verdict : OptionsAnswer → Verdict
-options_verdict answer.Parsed = Verdict.accepted
-options_verdict answer.Refused = Verdict.refused refusal.OptionsTooLong
+abbrev pub options_verdict : {A : Type 0} → Result A OptionsTooLong → Verdict
+options_verdict (Ok _) = Verdict.accepted
+options_verdict (Err _) = Verdict.refused refusal.OptionsTooLong
 
-unfoldable pub options_refusal : OptionsAnswer → ℕ
+unfoldable pub options_refusal : {A : Type 0} → Result A OptionsTooLong → ℕ
 options_refusal a = number_of (options_verdict a)

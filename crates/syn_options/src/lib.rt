@@ -10,7 +10,8 @@ ghost use Rattle.syn_options.specs.Walk.{StepInside, start_walk, parsed_of, pars
 use numbers::least;
 use one_option::{OptionStep, Seen, later_mss, later_quirks, later_scale, option_step};
 use quirks::{Quirk, QuirkSet};
-use tcp::{Layout, Mss, Wscale};
+use refusals::OptionsTooLong;
+use tcp::Layout;
 
 // End of Option List.
 const EOL: u8 = 0;
@@ -18,18 +19,11 @@ const EOL: u8 = 0;
 // The most bytes that options take: a data offset of 15 words, less the header's five.
 const MOST_OPTIONS: usize = 40;
 
-// The place of an option: the offset of its kind byte in the string, from 0.
-#[derive(Clone, Copy)]
-pub enum Place {
-    None,
-    At(usize),
-}
-
 // The places of damage: of the first option that runs past the end, and of the first whose length byte is 0 or 1.
 #[derive(Clone, Copy)]
 pub struct Places {
-    pub past: Place,
-    pub short: Place,
+    pub past: Option<usize>,
+    pub short: Option<usize>,
 }
 
 // Which options a walk stops before: the packet reader's before none, going on after clipping; the strict entry's before both.
@@ -61,28 +55,9 @@ pub struct OptionWalk {
 #[derive(Clone, Copy)]
 pub struct ParsedTcpOptions {
     pub olayout: Layout,
-    pub mss: Mss,
-    pub wscale: Wscale,
+    pub mss: Option<u16>,
+    pub wscale: Option<u8>,
     pub malformed: bool,
-}
-
-// An option string is parsed, or refused (number 8) with empty options, or an empty walk, beside.
-#[derive(Clone, Copy)]
-pub enum OptionsAnswer {
-    Parsed,
-    Refused,
-}
-
-#[derive(Clone, Copy)]
-pub struct WalkRead {
-    pub answer: OptionsAnswer,
-    pub walk: OptionWalk,
-}
-
-#[derive(Clone, Copy)]
-pub struct OptionsRead {
-    pub answer: OptionsAnswer,
-    pub options: ParsedTcpOptions,
 }
 
 // ---- the walk
@@ -96,13 +71,10 @@ fn step_inside(options: &[u8], at: usize) -> OptionStep
 }
 
 // A place that is known stays.
-fn first_place(known: Place, at: usize) -> Place
+fn first_place(known: Option<usize>, at: usize) -> Option<usize>
     ensures { result ≡ first_known known at }
 {
-    match known {
-        Place::None => Place::At(at),
-        Place::At(first) => Place::At(first),
-    }
+    known.or(Some(at))
 }
 
 fn empty_layout() -> Layout
@@ -115,6 +87,7 @@ fn empty_layout() -> Layout
     }
 }
 
+// Joined by `&` and `|`, which take no branch.
 fn stops(stop: StopBefore, step: OptionStep) -> bool
     ensures { result ≡ stops_at stop step }
 {
@@ -123,19 +96,20 @@ fn stops(stop: StopBefore, step: OptionStep) -> bool
 
 // The walk of at most forty bytes. Each option fills one entry of the layout, so that the entries never outnumber the bytes; its byte is 0
 // already but for an end-of-options. MSS, scale and quirks are variables of their own: one struct of them is packed and unpacked at every
-// turn (30 instructions). The entry is written last, which the compiler makes the least of (docs/DECISIONS.md, 89).
+// turn (30 instructions). The entry is written last, which the compiler makes the least of (docs/DECISIONS.md, 89). It is a `while`: each
+// option says itself where the next begins.
 fn walk_part(options: &[u8], stop: StopBefore, syn: bool, quirks: QuirkSet) -> OptionWalk
     requires { length options.now ≤ 40 }
     ensures { result ≡ walk_to stop syn quirks options.now }
 {
     let mut olayout = empty_layout();
     let mut count = 0;
-    let mut mss = Mss::Absent;
-    let mut wscale = Wscale::Absent;
+    let mut mss = None;
+    let mut wscale = None;
     let mut shown = quirks;
     let mut malformed = false;
-    let mut past = Place::None;
-    let mut short = Place::None;
+    let mut past = None;
+    let mut short = None;
     let mut at = 0;
     while at < options.len() {
         let step = step_inside(options, at);
@@ -185,31 +159,19 @@ pub fn walk_options(options: &[u8], stop: StopBefore, syn: bool, quirks: QuirkSe
 }
 
 // The walk of an option string by itself; refusal 8 over forty bytes.
-pub fn read_options(buf: &[u8], stop: StopBefore, syn: bool, quirks: QuirkSet) -> WalkRead
+#[tactic(auto, unfolding(crate::specs::Stops::read_options))]
+pub fn read_options(
+    buf: &[u8],
+    stop: StopBefore,
+    syn: bool,
+    quirks: QuirkSet,
+) -> Result<OptionWalk, OptionsTooLong>
     ensures { result ≡ read_options stop syn quirks buf.now }
 {
     if MOST_OPTIONS < buf.len() {
-        return WalkRead {
-            answer: OptionsAnswer::Refused,
-            walk: OptionWalk {
-                olayout: empty_layout(),
-                seen: Seen {
-                    mss: Mss::Absent,
-                    wscale: Wscale::Absent,
-                    quirks: QuirkSet::EMPTY,
-                },
-                malformed: false,
-                places: Places {
-                    past: Place::None,
-                    short: Place::None,
-                },
-            },
-        };
+        return Err(OptionsTooLong);
     }
-    WalkRead {
-        answer: OptionsAnswer::Parsed,
-        walk: walk_options(buf, stop, syn, quirks),
-    }
+    Ok(walk_options(buf, stop, syn, quirks))
 }
 
 // ---- parse_options_raw
@@ -217,27 +179,18 @@ pub fn read_options(buf: &[u8], stop: StopBefore, syn: bool, quirks: QuirkSet) -
 fn parsed(walk: OptionWalk) -> ParsedTcpOptions
     ensures { result ≡ parsed_of (walked_of walk) }
 {
-    let olayout = walk.olayout;
-    let seen = walk.seen;
-    let mss = seen.mss;
-    let wscale = seen.wscale;
     ParsedTcpOptions {
-        olayout,
-        mss,
-        wscale,
+        olayout: walk.olayout,
+        mss: walk.seen.mss,
+        wscale: walk.seen.wscale,
         malformed: walk.malformed,
     }
 }
 
 // Layout, MSS and scale of an option string, up to the first option that runs past the end; refusal 8 over forty bytes.
-pub fn parse_options_raw(buf: &[u8]) -> OptionsRead
+pub fn parse_options_raw(buf: &[u8]) -> Result<ParsedTcpOptions, OptionsTooLong>
     ensures { result ≡ parse_options_raw buf.now }
 {
-    let read = read_options(buf, StopBefore::PAST, false, QuirkSet::EMPTY);
-    let answer = read.answer;
-    let walk = read.walk;
-    OptionsRead {
-        answer,
-        options: parsed(walk),
-    }
+    let walk = read_options(buf, StopBefore::PAST, false, QuirkSet::EMPTY)?;
+    Ok(parsed(walk))
 }

@@ -1,27 +1,13 @@
 // The data types of tcp/mod.rs that more than one module shares. An observation's IP version is 4 or 6 and its payload is
 // empty or not; the wildcards of a signature are types of their own (the crate `distances`).
 
-// The IP version of an observed packet.
 #![tactic(auto)]
 
+// The IP version of an observed packet.
 #[derive(Clone, Copy)]
 pub enum IpVersion {
     V4,
     V6,
-}
-
-// A maximum segment size, present or absent: `Option<u16>`.
-#[derive(Clone, Copy)]
-pub enum Mss {
-    Absent,
-    Present(u16),
-}
-
-// A window scale, present or absent: `Option<u8>`.
-#[derive(Clone, Copy)]
-pub enum Wscale {
-    Absent,
-    Present(u8),
 }
 
 // Whether an observed segment carries data.
@@ -32,7 +18,7 @@ pub enum PayloadSize {
 }
 
 // The options of a segment in their order: `Vec<TcpOption>`. An entry is an option's kind and, for kind 0, the bytes left after
-// it, else 0; entries from `count` on are 0.
+// it, else 0; entries from `count` on are 0. It is two arrays and a count, since there is no heap: memory is fixed.
 #[derive(Clone, Copy)]
 pub struct Layout {
     pub kinds: [u8; 40],

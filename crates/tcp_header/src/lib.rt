@@ -1,4 +1,5 @@
 // flow.rs: what the numbers of a TCP header say, its type, whether its flags are valid, and the quirks that they show.
+// Tests are joined by `&` and `|`, which take no branch.
 #![tactic(auto)]
 
 ghost use Rattle.std.specs.Prelude.{◌≡◌, not};

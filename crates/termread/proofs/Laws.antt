@@ -1,6 +1,6 @@
 -- What of an output is still to be taken, piece by piece and page by page.
 use mathlib.Core.Path.{◌≡◌, sym, ◌∙◌, ap, subst}
-use mathlib.Core.Bool.{Bool, true, false, true≢false}
+use mathlib.Core.Bool.{Bool}
 use mathlib.Core.List.{List, ◌++◌}
 use Prim.Native.Nat.{ℕ, ◌+◌, ◌-◌, ◌≤◌}
 use native.Mathlib.Omega.{arith}
@@ -13,7 +13,7 @@ use Rattle.text.specs.Written.{written}
 use Rattle.report.specs.Pages.{Paged, page_size, lines_of, first_page, next_page, all_pages, output_of_input}
 use Rattle.report.specs.declared.Progress.{Progress}
 use Rattle.report.proofs.Whole.{page_and_rest, later_pages_lem, all_pages_lem, first_page_within, next_page_within}
-use Rattle.termread.specs.Reached.{Reached, ReachedIf}
+use Rattle.termread.specs.Reached.{Reached}
 use Rattle.termread.specs.Sending.{Follows}
 
 -- ---- any output
@@ -64,10 +64,9 @@ Left b longer taken page p =
 pub part_length : (page : List ℕ) (filled : ℕ) → filled ≤ length page → length (take (filled - 0) (drop 0 page)) ≡ filled
 part_length page filled h = rw (sub-zero filled) (length-take-le filled page h)
 
-pub page_reached : (all : Bool) (taken : ℕ) (page : List ℕ) (filled : ℕ) → filled ≤ length page → all ≡ true
-    → ReachedIf all (taken + length (take (filled - 0) (drop 0 page))) → Reached (taken + filled)
-page_reached true taken page filled fits e reached = subst (λ (n : ℕ). Reached (taken + n)) (part_length page filled fits) reached
-page_reached false taken page filled fits e reached = absurd (true≢false (sym e))
+pub page_reached : (taken : ℕ) (page : List ℕ) (filled : ℕ) → filled ≤ length page
+    → Reached (taken + length (take (filled - 0) (drop 0 page))) → Reached (taken + filled)
+page_reached taken page filled fits reached = subst (λ (n : ℕ). Reached (taken + n)) (part_length page filled fits) reached
 
 pub page_follows : (b : List ℕ) (longer : Bool) (taken : ℕ) (page : List ℕ) (p : Progress) → Left b longer taken page p
     → Follows (output_of_input b longer) taken (take (p.filled - 0) (drop 0 page))

@@ -2,7 +2,7 @@
 -- `took` alone. Nothing proves these two of the machine: they are what the calls of `write` mean here. The gate asks that `took` stands in
 -- the proof of the one function that calls `write` on standard output, `none_yet` in that of the one that begins, and neither anywhere
 -- else. A write does not use a `Reached` up, so it does not say that nothing is written twice from one place.
-use Rattle.std.specs.Prelude.{Bool, true, false, ℕ, ◌+◌, Result}
+use Rattle.std.specs.Prelude.{ℕ, ◌+◌, Result}
 use Rattle.std.specs.declared.io.Error.{Error}
 use Rattle.termread.specs.Moved.{clamp_len}
 
@@ -19,8 +19,3 @@ none_yet = tt
 pub took : (taken size : ℕ) (got : Result ℕ Error) → Reached taken → Reached (taken + clamp_len got size)
 unfolding Reached
 took taken size got reached = tt
-
--- Where the answer is yes, so many bytes were taken.
-abbrev pub ReachedIf : Bool → ℕ → Type 0
-ReachedIf true taken = Reached taken
-ReachedIf false taken = Unit {0}

@@ -1,12 +1,13 @@
 // termread: a bundle on standard input, its answers on standard output (document 01, "The bundle program"). What is read and what is
-// written is the library's: this program only moves bytes.
+// written is the library's: this program only moves bytes. What is known of a call stands in its clauses, not in a type: the gate and
+// docs/ANSWERS.md hold each of these functions to its own.
 #![tactic(auto)]
 
-ghost use Rattle.std.specs.Prelude.{◌≡◌, true, ◌+◌, ◌≤◌, length};
+ghost use Rattle.std.specs.Prelude.{◌≡◌, true, ◌+◌, ◌≤◌, length, OnOk};
 ghost use Rattle.report.specs.Pages.{output_of_input};
 ghost use Rattle.termread.specs.Moved.{clamp_len};
 ghost use Rattle.termread.specs.Came.{Came, ReadAt, AgainAt, EndsAs, InputCame, InputEnds};
-ghost use Rattle.termread.specs.Reached.{Reached, ReachedIf};
+ghost use Rattle.termread.specs.Reached.{Reached};
 ghost use Rattle.termread.specs.Sending.{Follows, CutAt};
 
 use report::{PAGE, Progress, first_page, next_page};
@@ -27,15 +28,14 @@ fn pause(clock: &impl Clock) {
 
 // Whether a call that failed may be tried again: it was interrupted, or it would have had to wait, which is done here.
 fn goes_on(clock: &impl Clock, error: io::Error) -> bool {
-    let kind = error.kind();
-    if kind == ErrorKind::Interrupted {
-        return true;
+    match error.kind() {
+        ErrorKind::Interrupted => true,
+        ErrorKind::WouldBlock => {
+            pause(clock);
+            true
+        }
+        _ => false,
     }
-    if kind == ErrorKind::WouldBlock {
-        pause(clock);
-        return true;
-    }
-    false
 }
 
 // How many bytes of a text a call moved that was handed it, by what it answered: none if it failed.
@@ -69,10 +69,10 @@ fn read_once(
 fn reads_again(clock: &impl Clock, got: io::Result<usize>) -> bool
     ensures { AgainAt got result }
 {
-    let Err(error) = got else {
-        return false;
-    };
-    goes_on(clock, error)
+    match got {
+        Ok(_) => false,
+        Err(error) => goes_on(clock, error),
+    }
 }
 
 // A read, made again as long as that may help: what the last one answered.
@@ -83,18 +83,17 @@ fn read_some(stdin: Stdin, clock: &impl Clock, count: usize, buffer: &mut [u8]) 
 {
     let none = Err(io::Error::from(ErrorKind::Interrupted));
     let mut got = read_once(stdin, count, none, buffer);
-    let mut turn = 1;
-    while turn < PATIENCE {
+    for _ in 1..PATIENCE {
         if !reads_again(clock, got) {
-            return got;
+            break;
         }
         got = read_once(stdin, count, got, buffer);
-        turn += 1;
     }
     got
 }
 
-// How the reading of the input ended.
+// How the reading of the input ended. (Not the type of `streams`, which reads and writes too: the gate holds this crate alone to one line
+// that reads and one that writes.)
 #[derive(Clone, Copy)]
 enum Ending {
     // The input ended.
@@ -118,40 +117,29 @@ fn after_full(stdin: Stdin, clock: &impl Clock, count: usize) -> Ending
     ensures { EndsAs result count count }
 {
     let mut one = [0u8; 1];
-    let Ok(got) = read_some(stdin, clock, count, &mut one) else {
-        return Ending::Failed;
-    };
-    if got == 0 {
-        return Ending::Whole;
+    match read_some(stdin, clock, count, &mut one) {
+        Ok(0) => Ending::Whole,
+        Ok(_) => Ending::Longer,
+        Err(_) => Ending::Failed,
     }
-    Ending::Longer
 }
 
-// Reads until the buffer is full, the input ends or a read fails.
+// Reads until the buffer is full, the input ends or a read fails. (A `loop`: each turn goes as far as the read says.)
 fn read_input(stdin: Stdin, clock: &impl Clock, buffer: &mut [u8]) -> Input
     ensures { InputCame result.count result.ending (length buffer.new) }
 {
     let mut count = 0;
-    while count < buffer.len() {
-        let rest = &mut buffer[count..];
-        let Ok(more) = read_some(stdin, clock, count, rest) else {
-            return Input {
-                count,
-                ending: Ending::Failed,
-            };
-        };
-        if more == 0 {
-            return Input {
-                count,
-                ending: Ending::Whole,
-            };
+    let ending = loop {
+        if count == buffer.len() {
+            break after_full(stdin, clock, count);
         }
-        count += more;
-    }
-    Input {
-        count,
-        ending: after_full(stdin, clock, count),
-    }
+        match read_some(stdin, clock, count, &mut buffer[count..]) {
+            Ok(0) => break Ending::Whole,
+            Ok(more) => count += more,
+            Err(_) => break Ending::Failed,
+        }
+    };
+    Input { count, ending }
 }
 
 // One write, the program's only one to standard output. It is handed the output from a place on that the writes before it reached, and what
@@ -180,8 +168,10 @@ fn ends_at(clock: &impl Clock, got: io::Result<usize>) -> bool
     }
 }
 
-// Writes until all of the text is taken or the output is cut. Whether all of it was taken. (The bound is one page more than PAGES: no sum
-// wraps.)
+// The error of a text that was not taken whole. (Not that of `streams`, as above.)
+struct Cut;
+
+// Writes until all of the text is taken or the output is cut. (The bound is one page more than PAGES: no sum wraps.)
 fn send(
     stdout: Stdout,
     clock: &impl Clock,
@@ -189,51 +179,45 @@ fn send(
     longer: bool,
     taken: usize,
     text: &[u8],
-) -> bool
+) -> Result<(), Cut>
     requires reached { Reached taken }
     requires follows { Follows (output_of_input bundle.now longer) taken text.now }
     requires text_bound { taken + length text.now ≤ 268439552 }
-    ensures { ReachedIf result (taken + length text.now) }
+    ensures { OnOk result (Reached (taken + length text.now)) }
 {
     let mut from = 0;
-    let mut turn = 0;
-    while turn < PATIENCE {
+    for _ in 0..PATIENCE {
         if from == text.len() {
-            return true;
+            return Ok(());
         }
         let rest = &text[from..];
         let got = write_once(stdout, bundle, longer, taken + from, rest);
         if ends_at(clock, got) {
-            return false;
+            break;
         }
         from += count_of(got, rest);
-        turn += 1;
     }
-    false
+    Err(Cut)
 }
 
-// The pages of the output, each behind the one before. Whether all of the output was taken.
-fn write_output(stdout: Stdout, clock: &impl Clock, bundle: &[u8], longer: bool) -> bool
+// The pages of the output, each behind the one before.
+fn write_output(stdout: Stdout, clock: &impl Clock, bundle: &[u8], longer: bool) -> Result<(), Cut>
     requires { InputEnds longer (length bundle.now) }
-    ensures { ReachedIf result (length (output_of_input bundle.now longer)) }
+    ensures { OnOk result (Reached (length (output_of_input bundle.now longer))) }
 {
     let mut page = [0u8; PAGE];
     let mut progress = first_page(bundle, longer, &mut page);
     let mut taken = 0;
-    let mut turn = 0;
-    while turn < PAGES {
+    for _ in 0..PAGES {
         let filled = progress.filled;
-        if !send(stdout, clock, bundle, longer, taken, &page[0..filled]) {
-            return false;
-        }
+        send(stdout, clock, bundle, longer, taken, &page[0..filled])?;
         if progress.left == 0 {
-            return true;
+            return Ok(());
         }
         taken += filled;
         progress = next_page(bundle, progress, &mut page);
-        turn += 1;
     }
-    false
+    Err(Cut)
 }
 
 // A message, on standard error. One that is not taken is lost.
@@ -241,8 +225,8 @@ fn say(mut stderr: Stderr, text: &[u8]) {
     let _ = stderr.write_all(text);
 }
 
-fn tell(stderr: Stderr, whole: bool) {
-    if !whole {
+fn tell(stderr: Stderr, written: Result<(), Cut>) {
+    if let Err(Cut) = written {
         say(
             stderr,
             b"termread: standard output could not be written, and ends early\n",
@@ -264,7 +248,11 @@ fn answer(stdout: Stdout, stderr: Stderr, clock: &impl Clock, bundle: &[u8], end
 fn main(rt: HostRuntime) {
     let mut buffer = [0u8; 65535];
     let input = read_input(rt.stdin(), &rt, &mut buffer);
-    let count = input.count;
-    let ending = input.ending;
-    answer(rt.stdout(), rt.stderr(), &rt, &buffer[0..count], ending);
+    answer(
+        rt.stdout(),
+        rt.stderr(),
+        &rt,
+        &buffer[0..input.count],
+        input.ending,
+    );
 }

@@ -1,14 +1,13 @@
 -- Laws of decimals: how long they are, how they begin, that they are read back, and that their digits are put.
-use mathlib.Core.Path.{◌≡◌, refl, sym, ◌∙◌, ap, subst}
+use mathlib.Core.Path.{◌≡◌, refl, sym, ◌∙◌, ap}
 use mathlib.Core.Bool.{Bool, true, false, cond, ◌&&◌}
-use mathlib.Core.List.{List, [], ◌∷◌, ◌++◌}
-use Prim.Native.Nat.{ℕ, ◌+◌, ◌*◌, ◌-◌, ◌/◌, ◌%◌, ◌<◌, ◌≤◌}
+use mathlib.Core.List.{List, [], ◌∷◌, ◌++◌, append_assoc, append-nil}
+use Prim.Native.Nat.{ℕ, zero, suc, ◌+◌, ◌*◌, ◌-◌, ◌/◌, ◌%◌, ◌<◌, ◌≤◌}
 use native.Mathlib.Omega.{arith}
 use lib.Dec.{ltb, leb}
-use lib.ListN.{length, drop, length-drop}
-use borrow.Author.Tests.{ltb-true, ltb-false, lt-ltb, le-ltb, le-leb}
+use lib.ListN.{length, get_or, take, drop, length-drop}
+use borrow.Author.Tests.{ltb-true, ltb-false, le-leb, lt-leb}
 use Rattle.basis.specs.Bytes.{byte_at}
-use Rattle.text.specs.Written.{Put}
 use Rattle.text.specs.Decimal.{newline, width, five_digits, decimal}
 
 -- What holds of a number's last digits, as many as it has, holds of its decimal.
@@ -110,68 +109,43 @@ pub decimal_one : (m n : ℕ) → m < 100000 → n < 100000 → decimal m ≡ de
 decimal_one m n hm hn e =
     sym (read_decimal m [] (λ k. refl) hm) ∙ ap (λ (s : List ℕ). digits_read 0 (s ++ [])) e ∙ read_decimal n [] (λ k. refl) hn
 
--- ---- as many digits as a number has, put as a word
+-- ---- a digit for each unit that a number reaches
 
-module _ (buffer buffer' : List ℕ) (at next n : ℕ) where
-  abbrev As : List ℕ → Type 0
-  As digits = Put buffer at digits next buffer'
+-- The digit of a unit, if the number reaches it.
+unfoldable pub reached : ℕ → ℕ → List ℕ
+reached n unit = cond (leb unit n) ((48 + n / unit % 10) ∷ []) []
 
-  pub one_digit : (e : ℕ) → n < 10 → e ≡ 48 + n % 10 → As (e ∷ []) → As (decimal n)
-  unfolding decimal width
-  one_digit e h e-is = subst As (rw (lt-ltb n 10 h, e-is))
+-- Those of the first units of a row.
+unfoldable pub front : ℕ → List ℕ → List ℕ
+front n [] = []
+front n (unit ∷ units) = reached n unit ++ front n units
 
-  pub two_digits : (d e : ℕ) → 10 ≤ n → n < 100 → d ≡ 48 + n / 10 % 10 → e ≡ 48 + n % 10 → As (d ∷ e ∷ []) → As (decimal n)
-  unfolding decimal width
-  two_digits d e l h d-is e-is = subst As (rw (le-ltb n 10 l, lt-ltb n 100 h, d-is, e-is))
+abbrev pub units : List ℕ
+units = 10000 ∷ 1000 ∷ 100 ∷ 10 ∷ []
 
-  pub three_digits
-      : (c d e : ℕ)
-      → 100 ≤ n
-      → n < 1000
-      → c ≡ 48 + n / 100 % 10
-      → d ≡ 48 + n / 10 % 10
-      → e ≡ 48 + n % 10
-      → As (c ∷ d ∷ e ∷ [])
-      → As (decimal n)
-  unfolding decimal width
-  three_digits c d e l h c-is d-is e-is =
-      subst As (rw (le-ltb n 10 (omega arith), le-ltb n 100 l, lt-ltb n 1000 h, c-is, d-is, e-is))
+pub front_more
+    : (n : ℕ) (us : List ℕ) (i : ℕ) → i < length us → front n (take (suc i) us) ≡ front n (take i us) ++ reached n (get_or us i 0)
+unfolding front
+front_more n [] i h = absurd (omega arith)
+front_more n (u ∷ us) zero h = append-nil (reached n u)
+front_more n (u ∷ us) (suc i) h =
+    ap (◌++◌ (reached n u)) (front_more n us i (omega arith))
+    ∙ sym (append_assoc (reached n u) (front n (take i us)) (reached n (get_or us i 0)))
 
-  pub four_digits
-      : (b c d e : ℕ)
-      → 1000 ≤ n
-      → n < 10000
-      → b ≡ 48 + n / 1000 % 10
-      → c ≡ 48 + n / 100 % 10
-      → d ≡ 48 + n / 10 % 10
-      → e ≡ 48 + n % 10
-      → As (b ∷ c ∷ d ∷ e ∷ [])
-      → As (decimal n)
-  unfolding decimal width
-  four_digits b c d e l h b-is c-is d-is e-is =
-      subst As (rw (le-ltb n 10 (omega arith), le-ltb n 100 (omega arith), le-ltb n 1000 l, lt-ltb n 10000 h, b-is, c-is, d-is, e-is))
+pub is_reached : (n unit digit : ℕ) → unit ≤ n → digit ≡ 48 + n / unit % 10 → reached n unit ≡ digit ∷ []
+unfolding reached
+is_reached n unit digit h e = rw (le-leb unit n h, e)
 
-  pub five_digits_lem
-      : (a b c d e : ℕ)
-      → 10000 ≤ n
-      → a ≡ 48 + n / 10000 % 10
-      → b ≡ 48 + n / 1000 % 10
-      → c ≡ 48 + n / 100 % 10
-      → d ≡ 48 + n / 10 % 10
-      → e ≡ 48 + n % 10
-      → As (a ∷ b ∷ c ∷ d ∷ e ∷ [])
-      → As (decimal n)
-  unfolding decimal width
-  five_digits_lem a b c d e l a-is b-is c-is d-is e-is =
-      subst As
-      (rw (
-        le-ltb n 10 (omega arith),
-        le-ltb n 100 (omega arith),
-        le-ltb n 1000 (omega arith),
-        le-ltb n 10000 l,
-        a-is,
-        b-is,
-        c-is,
-        d-is,
-        e-is,
-      ))
+pub not_reached : (n unit : ℕ) → n < unit → reached n unit ≡ []
+unfolding reached
+not_reached n unit h = rw (lt-leb unit n h)
+
+pub front_all : (n : ℕ) → front n units ++ (48 + n % 10) ∷ [] ≡ decimal n
+unfolding front reached
+front_all n =
+    by_width (λ (s : List ℕ). front n units ++ (48 + n % 10) ∷ [] ≡ s) n
+    (λ b. rw (lt-leb 10000 n (omega arith), lt-leb 1000 n (omega arith), lt-leb 100 n (omega arith), lt-leb 10 n (omega arith)))
+    (λ a b. rw (lt-leb 10000 n (omega arith), lt-leb 1000 n (omega arith), lt-leb 100 n (omega arith), le-leb 10 n (omega arith)))
+    (λ a b. rw (lt-leb 10000 n (omega arith), lt-leb 1000 n (omega arith), le-leb 100 n (omega arith), le-leb 10 n (omega arith)))
+    (λ a b. rw (lt-leb 10000 n (omega arith), le-leb 1000 n (omega arith), le-leb 100 n (omega arith), le-leb 10 n (omega arith)))
+    (λ a. rw (le-leb 10000 n (omega arith), le-leb 1000 n (omega arith), le-leb 100 n (omega arith), le-leb 10 n (omega arith)))

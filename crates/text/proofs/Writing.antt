@@ -1,32 +1,15 @@
 -- Laws of writing into a buffer: a copy in a loop, one text behind another, and a text that finds room.
 use mathlib.Core.Path.{◌≡◌, refl, sym, ◌∙◌, ap, ap₂, subst}
 use mathlib.Core.List.{List, [], ◌∷◌, ◌++◌, append_assoc, append-nil}
-use Prim.Native.Nat.{ℕ, zero, suc, ◌+◌, ◌-◌, ◌<◌, ◌≤◌}
+use Prim.Native.Nat.{ℕ, zero, suc, ◌+◌, ◌-◌, ◌<◌, ◌≤◌, min}
+use native.Mathlib.Decide.{dec_le}
 use native.Mathlib.Omega.{arith}
 use native.Mathlib.Numerals.{add-one}
 use native.Mathlib.Nat.{add_assoc, add-zero, sub-zero, zero-sub, suc-sub-suc}
-use lib.ListN.{length, take, drop, get_or, set, length-append, length-drop, length-take, take-append-drop}
-use lib.Seq.{append_snoc, set_split, paste, paste-suc, take_all, take_at, take-nil, drop_at, drop-drop, length-take-le}
+use lib.ListN.{length, take, drop, set, length-append, length-drop, length-take, take-append-drop}
+use lib.Seq.{append_snoc, set_split, take_all, take_at, take-nil, drop_at, drop-drop, length-take-le}
+use borrow.Rule.Slice.PartMut.{put_mid}
 use Rattle.text.specs.Written.{written, room, PutAll, Put}
-
--- ---- a copy in a loop
-
-pub copied : (buffer word : List ℕ) (at i : ℕ) → length word ≤ i → i ≤ length word → paste buffer at word i ≡ written buffer at word
-unfolding written
-copied buffer word at i above below =
-    let same : i ≡ length word = omega arith in
-    rw (same, take_all (length word) word (omega arith))
-
-pub copy_turn
-    : (buffer₀ buffer word : List ℕ) (at i : ℕ)
-    → at + i < length buffer₀
-    → i < length word
-    → buffer ≡ paste buffer₀ at word i
-    → set buffer (at + i) (get_or word i 0) ≡ paste buffer₀ at word (i + 1)
-copy_turn buffer₀ buffer word at i inside more e =
-    ap (λ (b : List ℕ). set b (at + i) (get_or word i 0)) e
-    ∙ paste-suc buffer₀ at word i 0 inside more
-    ∙ ap (paste buffer₀ at word) (sym (add-one i))
 
 -- ---- room
 
@@ -81,24 +64,35 @@ put_one buffer at byte h =
           ∙ ap (λ (k : ℕ). take at buffer ++ (byte ∷ []) ++ drop k buffer) (sym (add-one at)),
     )
 
-module _ (buffer buffer' text : List ℕ) (at next : ℕ) (h : length text ≤ length buffer - at) where
-  pub put_all : Put buffer at text next buffer' → PutAll buffer at text next buffer'
-  put_all = subst (λ (s : List ℕ). PutAll buffer at s next buffer') (fits buffer text at h)
-
-  pub all_put : PutAll buffer at text next buffer' → Put buffer at text next buffer'
-  all_put = subst (λ (s : List ℕ). PutAll buffer at s next buffer') (sym (fits buffer text at h))
-
-pub part_put
-    : (buffer buffer' text : List ℕ) (at next left : ℕ)
-    → left ≡ length buffer - at
-    → PutAll buffer at (take (left - 0) text) next buffer'
+pub put_all
+    : (buffer buffer' text : List ℕ) (at next : ℕ)
+    → length text ≤ length buffer - at
     → Put buffer at text next buffer'
-unfolding room
-part_put buffer buffer' text at next left e = subst (λ (k : ℕ). PutAll buffer at (take k text) next buffer') (sub-zero left ∙ e)
+    → PutAll buffer at text next buffer'
+put_all buffer buffer' text at next h = subst (λ (s : List ℕ). PutAll buffer at s next buffer') (fits buffer text at h)
 
 room_length : (buffer text : List ℕ) (at : ℕ) → length (room buffer at text) ≤ length buffer - at
 unfolding room
 room_length buffer text at = omega (arith, length-take (length buffer - at) text)
+
+-- The part that finds room, copied into its place.
+pub put_part
+    : (buffer word copied : List ℕ) (at size : ℕ)
+    → size ≡ min (length buffer - at) (length word)
+    → copied ≡ take (size - 0) (drop 0 word)
+    → Put buffer at word (at + size) (put_mid at (at + size - at) buffer copied)
+unfolding written room
+put_part buffer word copied at size e part =
+    let same : copied ≡ take (length buffer - at) word =
+    part ∙ elim (dec_le (length word) (length buffer - at)) [
+      | yes h ↦ take_all (size - 0) word (omega arith) ∙ sym (take_all (length buffer - at) word h)
+      | no h ↦ let all : size - 0 ≡ length buffer - at = omega arith in rw all
+    ] in
+    let text = take (length buffer - at) word in
+    let end : at + (at + size - at) ≡ at + length text = omega (arith, length-take (length buffer - at) word) in (
+      omega (arith, length-take (length buffer - at) word),
+      rw (same, drop-drop (at + size - at) at buffer, end) (sym (append_assoc (take at buffer) text (drop (at + length text) buffer))),
+    )
 
 -- ---- a text that finds room, and another behind it
 

@@ -26,6 +26,7 @@ pub enum Ttl {
 
 // What the table holds of a TTL byte: what it is taken for, by the codes of a record's TTL form (0 Value, 1 Distance, 3 Bad), and its
 // guess, which only a Distance claims.
+// The class is a number: the table lies in read-only memory byte by byte (docs/DECISIONS.md, 83), and a record has the same codes.
 #[derive(Clone, Copy)]
 pub struct TtlEntry {
     pub class: u8,
@@ -73,20 +74,18 @@ pub fn ttl_entry(ttl: u8) -> TtlEntry
 {
     let row = table_row(ttl / 8);
     let at = ttl % 8;
-    let classes = row.classes;
-    let guesses = row.guesses;
     TtlEntry {
-        class: byte_in(classes, at),
-        guess: byte_in(guesses, at),
+        class: byte_in(row.classes, at),
+        guess: byte_in(row.guesses, at),
     }
 }
 
 // The hops from the next usual initial TTL.
+#[tactic(auto, unfolding(crate::specs::Table::entry_of))]
 pub fn guess_distance(ttl: u8) -> u8
     ensures { result ≡ guess_of ttl }
 {
-    let entry = ttl_entry(ttl);
-    entry.guess
+    ttl_entry(ttl).guess
 }
 
 // The reading of a TTL byte, by its class in the codes of a record. That the codes are four, and that the guess is read whatever the class,
@@ -95,11 +94,9 @@ pub fn calculate_ttl(ttl_observed: u8) -> Ttl
     ensures { result ≡ reading_of ttl_observed }
 {
     let entry = ttl_entry(ttl_observed);
-    let class = entry.class;
-    let guess = entry.guess;
-    match class % 4 {
+    match entry.class % 4 {
         0 => Ttl::Value(ttl_observed),
-        1 => Ttl::Distance(ttl_observed, guess),
+        1 => Ttl::Distance(ttl_observed, entry.guess),
         2 => Ttl::Guess(ttl_observed),
         _ => Ttl::Bad(ttl_observed),
     }

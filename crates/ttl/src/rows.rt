@@ -16,22 +16,19 @@ fn both(classes: &[[u8; 8]; 32], guesses: &[[u8; 8]; 32], row: usize) -> TtlRow
     requires { row < 32 }
     ensures { result ≡ rows_at classes.now guesses.now row }
 {
-    let of_classes = classes[row];
-    let of_guesses = guesses[row];
     TtlRow {
-        classes: of_classes,
-        guesses: of_guesses,
+        classes: classes[row],
+        guesses: guesses[row],
     }
 }
 
+#[tactic(auto, using(crate::proofs::TableLaws::picked))]
 pub(crate) fn table_row(row: u8) -> TtlRow
     requires { row < 32 }
     ensures { result ≡ both_rows row }
 {
-    let all_classes = ttl_classes();
-    let all_guesses = ttl_guesses();
-    let classes = &all_classes;
-    let guesses = &all_guesses;
+    let classes = &ttl_classes();
+    let guesses = &ttl_guesses();
     match row {
         0 => both(classes, guesses, 0),
         1 => both(classes, guesses, 1),

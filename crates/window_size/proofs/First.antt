@@ -1,5 +1,6 @@
 -- The multiplier in the words of demand 2: given exactly if one of the twelve divisors applies, is nonzero and divides the
 -- window; then it is the window over the first such, of the MTU exactly where that divisor is one of the MTU's.
+use Rattle.std.specs.Prelude.{Option, Some, None}
 use mathlib.Core.Path.{◌≡◌, refl, sym, ◌∙◌}
 use mathlib.Core.Bool.{Bool, true, false, cond, not, ◌&&◌, false≢true}
 use mathlib.Core.Logic.{◌↔◌}
@@ -10,12 +11,8 @@ use lib.Dec.{eqb}
 use lib.ListN.{length}
 use borrow.Author.Tests.{eq-eqb, ne_eqb, le-ltb, eqb-true}
 use Rattle.basis.proofs.Tests.{and_left, and_right}
-use Rattle.tcp.specs.declared.Mss.{Mss}
-use Rattle.tcp.specs.declared.Mss.TheVariants as mss
 use Rattle.tcp.specs.declared.IpVersion.{IpVersion}
 use Rattle.window_size.specs.declared.WindowMultiplier.{WindowMultiplier}
-use Rattle.window_size.specs.declared.Multiplier.{Multiplier}
-use Rattle.window_size.specs.declared.Multiplier.TheVariants.{Absent, Present}
 use Rattle.window_size.specs.Divisors.{Candidate, candidate_at, Divides, FirstAt, SomeOf, divides, is_v6, peer_size, twelve}
 use Rattle.window_size.specs.Multiplier.{quotient, first_multiple, multiplier_of, FirstOf}
 use Rattle.window_size.proofs.Laws.{divides_nonzero}
@@ -42,15 +39,15 @@ divides_test window c h = rw (h.applies, ne_eqb c.size 0 h.nonzero, eq-eqb (wind
 -- ---- a row gives the quotient by its first such candidate, or nothing if there is none
 
 -- What a row answers: the place of its first such candidate, or that there is none.
-data Answer (window : ℕ) (cs : List Candidate) : Multiplier → Type 0 where
+data Answer (window : ℕ) (cs : List Candidate) : Option WindowMultiplier → Type 0 where
   first
       : (i : ℕ)
       → FirstAt window cs i
-      → Answer window cs (Present (quotient window (candidate_at cs i).size (candidate_at cs i).of_mtu))
-  none : ((i : ℕ) → i < length cs → Divides window (candidate_at cs i) → ⊥) → Answer window cs Absent
+      → Answer window cs (Some (quotient window (candidate_at cs i).size (candidate_at cs i).of_mtu))
+  none : ((i : ℕ) → i < length cs → Divides window (candidate_at cs i) → ⊥) → Answer window cs None
 
 later
-    : (window : ℕ) (c : Candidate) (cs : List Candidate) {m : Multiplier}
+    : (window : ℕ) (c : Candidate) (cs : List Candidate) {m : Option WindowMultiplier}
     → test window c ≡ false
     → Answer window cs m
     → Answer window (c ∷ cs) m
@@ -75,32 +72,32 @@ answer window (c ∷ cs) = by_test (test window c) refl (answer window cs)
         : (t : Bool)
         → test window c ≡ t
         → Answer window cs (first_multiple window cs)
-        → Answer window (c ∷ cs) (cond t (Present (quotient window c.size c.of_mtu)) (first_multiple window cs))
+        → Answer window (c ∷ cs) (cond t (Some (quotient window c.size c.of_mtu)) (first_multiple window cs))
     by_test true hit rest =
         first zero (record { within = omega arith; here = test_divides window c hit; before = λ j h d. omega arith })
     by_test false miss rest = later window c cs miss rest
 
 first_of
-    : (window : ℕ) (cs : List Candidate) {a : Multiplier} (m : WindowMultiplier)
+    : (window : ℕ) (cs : List Candidate) {a : Option WindowMultiplier} (m : WindowMultiplier)
     → Answer window cs a
-    → a ≡ Present m
+    → a ≡ Some m
     → FirstOf window cs m
 first_of window cs m (first i at) e = record { place = i; is_first = at; is_quotient = cc }
 first_of window cs m (none no_one) e = let z : ◌≡◌ {A = ℕ} 0 1 = cc in absurd (omega arith)
 
 some_of
-    : (window : ℕ) (cs : List Candidate) {a : Multiplier}
+    : (window : ℕ) (cs : List Candidate) {a : Option WindowMultiplier}
     → Answer window cs a
     → SomeOf window cs
-    → (m : WindowMultiplier) × (a ≡ Present m)
+    → (m : WindowMultiplier) × (a ≡ Some m)
 some_of window cs (first i at) s = (quotient window (candidate_at cs i).size (candidate_at cs i).of_mtu, refl)
 some_of window cs (none no_one) s = absurd (no_one s.place s.within s.here)
 
 -- ---- the multiplier of a nonzero window and an MSS of at least 100
 
-module _ (window own headers : ℕ) (stamped : Bool) (version : IpVersion) (peer : Mss) (some : 0 < window) (useful : 100 ≤ own) where
+module _ (window own headers : ℕ) (stamped : Bool) (version : IpVersion) (peer : Option ℕ) (some : 0 < window) (useful : 100 ≤ own) where
   of_row
-      : multiplier_of window (mss.Present own) headers stamped version peer
+      : multiplier_of window (Some own) headers stamped version peer
       ≡ first_multiple window (twelve own headers stamped (is_v6 version) (peer_size peer))
   unfolding multiplier_of
   of_row = rw (ne_eqb window 0 (omega arith), le-ltb own 100 useful)
@@ -108,18 +105,18 @@ module _ (window own headers : ℕ) (stamped : Bool) (version : IpVersion) (peer
   -- "it is the window over the first such", of the MTU exactly where that divisor is one of the MTU's
   pub the_first
       : (m : WindowMultiplier)
-      → multiplier_of window (mss.Present own) headers stamped version peer ≡ Present m
+      → multiplier_of window (Some own) headers stamped version peer ≡ Some m
       → FirstOf window (twelve own headers stamped (is_v6 version) (peer_size peer)) m
   the_first m e = first_of window _ m (answer window _) (sym of_row ∙ e)
 
   -- "a multiplier is given exactly if one of the twelve divisors applies, is nonzero and divides the window"
   pub exactly_if
-      : ((m : WindowMultiplier) × (multiplier_of window (mss.Present own) headers stamped version peer ≡ Present m))
+      : ((m : WindowMultiplier) × (multiplier_of window (Some own) headers stamped version peer ≡ Some m))
       ↔ SomeOf window (twelve own headers stamped (is_v6 version) (peer_size peer))
   exactly_if = (to, from)
     where
       to
-          : (m : WindowMultiplier) × (multiplier_of window (mss.Present own) headers stamped version peer ≡ Present m)
+          : (m : WindowMultiplier) × (multiplier_of window (Some own) headers stamped version peer ≡ Some m)
           → SomeOf window (twelve own headers stamped (is_v6 version) (peer_size peer))
       to given =
           let found = the_first given.0 given.1 in
@@ -127,5 +124,5 @@ module _ (window own headers : ℕ) (stamped : Bool) (version : IpVersion) (peer
 
       from
           : SomeOf window (twelve own headers stamped (is_v6 version) (peer_size peer))
-          → (m : WindowMultiplier) × (multiplier_of window (mss.Present own) headers stamped version peer ≡ Present m)
+          → (m : WindowMultiplier) × (multiplier_of window (Some own) headers stamped version peer ≡ Some m)
       from s = let given = some_of window _ (answer window _) s in (given.0, of_row ∙ given.1)

@@ -1,4 +1,5 @@
 -- The row that the code holds gives the multiplier of the twelve.
+use Rattle.std.specs.Prelude.{Option, Some, None}
 use mathlib.Core.Path.{◌≡◌, refl, sym}
 use mathlib.Core.Bool.{Bool, true, false, cond, not, ◌&&◌, false≢true}
 use mathlib.Core.List.{List, [], ◌∷◌, map}
@@ -10,8 +11,7 @@ use lib.ListN.{length, get_or, drop, drop_of_length-le}
 use lib.Seq.{drop-cons}
 use borrow.Author.Tests.{ne_eqb}
 use Rattle.window_size.specs.declared.Divisor.{Divisor}
-use Rattle.window_size.specs.declared.Multiplier.{Multiplier}
-use Rattle.window_size.specs.declared.Multiplier.TheVariants.{Absent, Present}
+use Rattle.window_size.specs.declared.WindowMultiplier.{WindowMultiplier}
 use Rattle.window_size.specs.Divisors.{Candidate, twelve, held, holding, divides}
 use Rattle.window_size.specs.Multiplier.{quotient, first_multiple}
 
@@ -55,16 +55,16 @@ divides_nonzero (suc size) window e z = omega arith
 -- ---- 0 stands for a divisor that does not apply
 
 one_held
-    : (window : ℕ) (c : Candidate) (rest : Multiplier)
-    → cond (divides (held c).size window) (Present (quotient window (held c).size c.of_mtu)) rest
-    ≡ cond (c.applies && divides c.size window) (Present (quotient window c.size c.of_mtu)) rest
+    : (window : ℕ) (c : Candidate) (rest : Option WindowMultiplier)
+    → cond (divides (held c).size window) (Some (quotient window (held c).size c.of_mtu)) rest
+    ≡ cond (c.applies && divides c.size window) (Some (quotient window c.size c.of_mtu)) rest
 unfolding divides
 one_held window c rest = by_applies c.applies
   where
     by_applies
         : (a : Bool)
-        → cond (divides (cond a c.size 0) window) (Present (quotient window (cond a c.size 0) c.of_mtu)) rest
-        ≡ cond (a && divides c.size window) (Present (quotient window c.size c.of_mtu)) rest
+        → cond (divides (cond a c.size 0) window) (Some (quotient window (cond a c.size 0) c.of_mtu)) rest
+        ≡ cond (a && divides c.size window) (Some (quotient window c.size c.of_mtu)) rest
     by_applies true = refl
     by_applies false = refl
 
@@ -82,7 +82,7 @@ divisor_at ds i = get_or ds i (record { size = 0; of_mtu = false })
 module _ (window : ℕ) (ds : List Divisor) (i : ℕ) (inside : i < length ds) where
   pub turn_hit
       : divides (divisor_at ds i).size window ≡ true
-      → first_multiple window (map holding (drop i ds)) ≡ Present (quotient window (divisor_at ds i).size (divisor_at ds i).of_mtu)
+      → first_multiple window (map holding (drop i ds)) ≡ Some (quotient window (divisor_at ds i).size (divisor_at ds i).of_mtu)
   unfolding first_multiple
   turn_hit e = rw (drop-cons ds i (record { size = 0; of_mtu = false }) inside, e)
 
@@ -92,6 +92,15 @@ module _ (window : ℕ) (ds : List Divisor) (i : ℕ) (inside : i < length ds) w
   unfolding first_multiple
   turn_miss e = rw (drop-cons ds i (record { size = 0; of_mtu = false }) inside, e, add-one)
 
-pub turns_end : (window : ℕ) (ds : List Divisor) (i : ℕ) → length ds ≤ i → first_multiple window (map holding (drop i ds)) ≡ Absent
+pub turns_end : (window : ℕ) (ds : List Divisor) (i : ℕ) → length ds ≤ i → first_multiple window (map holding (drop i ds)) ≡ None
 unfolding first_multiple
 turns_end window ds i h = rw (drop_of_length-le ds h)
+
+-- ---- the first of the twelve
+
+pub own_first
+    : (window own headers peer : ℕ) (stamped v6 : Bool)
+    → divides own window ≡ true
+    → first_multiple window (twelve own headers stamped v6 peer) ≡ Some (quotient window own false)
+unfolding first_multiple twelve
+own_first window own headers peer stamped v6 e = rw e

@@ -1,13 +1,11 @@
 -- Where the own timestamp does not decide, the multiplier is the same with it and without.
+use Rattle.std.specs.Prelude.{Option, Some, None}
 use mathlib.Core.Path.{◌≡◌, refl, sym, ap}
 use mathlib.Core.Bool.{Bool, true, false, cond, not, ◌&&◌, false≢true}
 use Prim.Native.Nat.{ℕ, ◌-◌}
 use lib.Dec.{eqb, ltb}
 use Rattle.basis.proofs.Tests.{and_false}
-use Rattle.tcp.specs.declared.Mss.{Mss}
-use Rattle.tcp.specs.declared.Mss.TheVariants as mss
 use Rattle.tcp.specs.declared.IpVersion.{IpVersion}
-use Rattle.window_size.specs.declared.Multiplier.TheVariants.{Absent}
 use Rattle.window_size.specs.Divisors.{divides, is_v6, peer_size, twelve}
 use Rattle.window_size.specs.Multiplier.{first_multiple, multiplier_of}
 use Rattle.window_size.specs.Stamp.{stamp_may_decide}
@@ -29,17 +27,17 @@ unfolding first_multiple twelve
 row_idle window own headers s t v6 peer idle = second_idle (divides own window) (divides (own - 12) window) s t _ _ _ idle
 
 pub stamp_idle
-    : (window : ℕ) (own : Mss) (headers : ℕ) (s t : Bool) (version : IpVersion) (peer : Mss)
+    : (window : ℕ) (own : Option ℕ) (headers : ℕ) (s t : Bool) (version : IpVersion) (peer : Option ℕ)
     → stamp_may_decide window own ≡ false
     → multiplier_of window own headers s version peer ≡ multiplier_of window own headers t version peer
 unfolding multiplier_of stamp_may_decide
-stamp_idle window mss.Absent headers s t version peer idle = refl
-stamp_idle window (mss.Present own) headers s t version peer idle = ap (cond (eqb window 0) Absent) (by_size (ltb own 100) idle)
+stamp_idle window None headers s t version peer idle = refl
+stamp_idle window (Some own) headers s t version peer idle = ap (cond (eqb window 0) None) (by_size (ltb own 100) idle)
   where
     by_size
         : (small : Bool)
         → not small && not (divides own window) && divides (own - 12) window ≡ false
-        → cond small Absent (first_multiple window (twelve own headers s (is_v6 version) (peer_size peer)))
-        ≡ cond small Absent (first_multiple window (twelve own headers t (is_v6 version) (peer_size peer)))
+        → cond small None (first_multiple window (twelve own headers s (is_v6 version) (peer_size peer)))
+        ≡ cond small None (first_multiple window (twelve own headers t (is_v6 version) (peer_size peer)))
     by_size true idle = refl
     by_size false idle = row_idle window own headers s t (is_v6 version) (peer_size peer) idle

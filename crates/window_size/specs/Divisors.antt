@@ -1,7 +1,6 @@
 -- The twelve divisors of a window (document 01, module 3, and the original's list, which it orders as it stands).
 use Rattle.std.specs.Prelude.{◌≡◌, ℕ, ◌+◌, ◌-◌, ◌%◌, ◌<◌, min, Bool, true, false, cond, not, ◌&&◌, List, [], ◌∷◌, eqb, length, get_or}
-use Rattle.tcp.specs.declared.Mss.{Mss}
-use Rattle.tcp.specs.declared.Mss.TheVariants as mss
+use Rattle.std.specs.Prelude.{Option, Some, None}
 use Rattle.tcp.specs.declared.IpVersion.{IpVersion}
 use Rattle.tcp.specs.declared.IpVersion.TheVariants as version
 use Rattle.window_size.specs.declared.Divisor.{Divisor}
@@ -28,9 +27,9 @@ is_v6 version.V4 = false
 is_v6 version.V6 = true
 
 -- "A zero peer MSS counts as absent": the peer's MSS as a number, 0 where there is none.
-abbrev pub peer_size : Mss → ℕ
-peer_size mss.Absent = 0
-peer_size (mss.Present n) = n
+abbrev pub peer_size : Option ℕ → ℕ
+peer_size None = 0
+peer_size (Some n) = n
 
 -- The twelve, in order: of the own MSS, the bytes of both headers, whether the own timestamp is nonzero,
 -- whether the packet is IPv6, and the peer's MSS. 1500 is Ethernet's MTU, 40 and 60 the least headers over

@@ -2,13 +2,12 @@
 #![tactic(auto)]
 
 ghost use Rattle.std.specs.Prelude.{◌≡◌, cond, map};
-ghost use Rattle.window_size.specs.Divisors.{divides, held, holding, is_v6, peer_size, twelve};
+ghost use Rattle.window_size.specs.Divisors.{divides, held, holding, twelve};
 ghost use Rattle.window_size.specs.Multiplier.{first_multiple, multiplier_of};
-ghost use Rattle.tcp.specs.declared.Mss.TheVariants as mss;
 ghost use Rattle.window_size.specs.Stamp.{stamp_may_decide};
 
 use numbers::{saturating_add, saturating_sub};
-use tcp::{IpVersion, Mss};
+use tcp::IpVersion;
 
 // A window as a multiple of an MSS, or, with of_mtu, of an MTU.
 #[derive(Clone, Copy)]
@@ -16,13 +15,6 @@ pub struct WindowMultiplier {
     // The window over the first divisor that divides it.
     pub multiple: u16,
     pub of_mtu: bool,
-}
-
-// The multiplier of a window, if it has one: `Option<WindowMultiplier>`.
-#[derive(Clone, Copy)]
-pub enum Multiplier {
-    Absent,
-    Present(WindowMultiplier),
 }
 
 // A divisor to try, 0 where it does not apply, and whether it is an MTU.
@@ -47,25 +39,6 @@ fn only_if(applies: bool, divisor: u16) -> u16
     ensures { result ≡ cond applies divisor 0 }
 {
     if applies { divisor } else { 0 }
-}
-
-fn is_v6(version: IpVersion) -> bool
-    ensures { result ≡ is_v6 version }
-{
-    match version {
-        IpVersion::V4 => false,
-        IpVersion::V6 => true,
-    }
-}
-
-// The peer's MSS, 0 where it is absent or says 0.
-fn peer_size(peer_mss: Mss) -> u16
-    ensures { result ≡ peer_size peer_mss }
-{
-    match peer_mss {
-        Mss::Absent => 0,
-        Mss::Present(size) => size,
-    }
 }
 
 // The twelve divisors in p0f's order.
@@ -131,79 +104,61 @@ fn divisors(
 }
 
 // A size of 0 is passed over: it divides nothing.
+#[tactic(auto, unfolding(crate::specs::Divisors::divides))]
 fn divides(size: u16, wsize: u16) -> bool
     ensures { result ≡ divides size wsize }
 {
-    if size == 0 {
-        return false;
-    }
-    wsize % size == 0
+    size != 0 && wsize % size == 0
 }
 
 // The first divisor that is not 0 and divides the window.
-fn first_multiple(wsize: u16, divisors: [Divisor; 12]) -> Multiplier
+fn first_multiple(wsize: u16, divisors: [Divisor; 12]) -> Option<WindowMultiplier>
     ensures { result ≡ first_multiple wsize (map holding divisors) }
 {
-    let mut i = 0;
-    while i < 12 {
-        let divisor = divisors[i];
-        let size = divisor.size;
-        if divides(size, wsize) {
-            return Multiplier::Present(WindowMultiplier {
-                multiple: wsize / size,
+    for divisor in divisors {
+        if divides(divisor.size, wsize) {
+            return Some(WindowMultiplier {
+                multiple: wsize / divisor.size,
                 of_mtu: divisor.of_mtu,
             });
         }
-        i += 1;
     }
-    Multiplier::Absent
+    None
 }
 
 // Whether the own timestamp may decide: the MSS itself, the first of the twelve, does not divide the window, and the second, which applies
 // only with a timestamp, does.
-pub fn stamp_may_decide(wsize: u16, mss: Mss) -> bool
+#[tactic(auto, unfolding(crate::specs::Stamp::stamp_may_decide))]
+pub fn stamp_may_decide(wsize: u16, mss: Option<u16>) -> bool
     ensures { result ≡ stamp_may_decide wsize mss }
 {
-    match mss {
-        Mss::Absent => false,
-        Mss::Present(size) => second_may_decide(size, wsize),
-    }
-}
-
-fn second_may_decide(size: u16, wsize: u16) -> bool
-    ensures { result ≡ stamp_may_decide wsize (mss.Present size) }
-{
-    if size < MIN_USEFUL_MSS {
-        false
-    } else if divides(size, wsize) {
-        false
-    } else {
-        divides(saturating_sub(size, TS_SIZE), wsize)
-    }
+    let Some(size) = mss else {
+        return false;
+    };
+    MIN_USEFUL_MSS <= size && !divides(size, wsize) && divides(saturating_sub(size, TS_SIZE), wsize)
 }
 
 // The multiplier of a window: by the first of the twelve divisors that divides it. The MSS itself is tried before the others are computed.
+#[tactic(auto, using(crate::proofs::Laws::first_held, crate::proofs::Laws::own_first), unfolding(crate::specs::Multiplier::multiplier_of))]
 pub fn detect_win_multi(
     wsize: u16,
-    mss: Mss,
+    mss: Option<u16>,
     tot_hdr: u16,
     own_timestamp_is_nonzero: bool,
     version: IpVersion,
-    peer_mss: Mss,
-) -> Multiplier
+    peer_mss: Option<u16>,
+) -> Option<WindowMultiplier>
     ensures { result ≡ multiplier_of wsize mss tot_hdr own_timestamp_is_nonzero version peer_mss }
 {
     if wsize == 0 {
-        return Multiplier::Absent;
+        return None;
     }
-    let Mss::Present(size) = mss else {
-        return Multiplier::Absent;
-    };
+    let size = mss?;
     if size < MIN_USEFUL_MSS {
-        return Multiplier::Absent;
+        return None;
     }
     if divides(size, wsize) {
-        return Multiplier::Present(WindowMultiplier {
+        return Some(WindowMultiplier {
             multiple: wsize / size,
             of_mtu: false,
         });
@@ -212,8 +167,8 @@ pub fn detect_win_multi(
         size,
         tot_hdr,
         own_timestamp_is_nonzero,
-        is_v6(version),
-        peer_size(peer_mss),
+        matches!(version, IpVersion::V6),
+        peer_mss.unwrap_or(0),
     );
     first_multiple(wsize, row)
 }

@@ -1,14 +1,16 @@
 -- Exactly one result meets each public function's own contract.
 -- tools/promises makes this file from the contracts, and the gate holds it to them.
 use Rattle.std.specs.Borrow.{Bor, MutBor}
-use Rattle.std.specs.Prelude.{ℕ, Bool, List}
+use Rattle.std.specs.Prelude.{ℕ, Bool, List, Option, Result}
 use contract.Lifetimes.{Lfts}
 use Rattle.basis.specs.Unique.{ExactlyOne}
 use Rattle.basis.proofs.Unique.{both, equation}
+use Rattle.refusals.specs.declared.PacketRefusal.{PacketRefusal}
 use Rattle.text.specs.Written.{left_with}
-use Rattle.window_size.specs.declared.Multiplier.{Multiplier}
-use Rattle.flow.specs.declared.Answer.{Answer}
+use Rattle.window_size.specs.declared.WindowMultiplier.{WindowMultiplier}
+use Rattle.observable.specs.declared.TcpObservation.{TcpObservation}
 use Rattle.flow.specs.declared.Reading.{Reading}
+use Rattle.flow.specs.Reading.{observation_read}
 use Rattle.witness.specs.declared.PlainLine.{PlainLine}
 use Rattle.witness.specs.declared.PlainObservation.{PlainObservation}
 use Rattle.witness.specs.declared.PlainOptions.{PlainOptions}
@@ -34,6 +36,7 @@ use Rattle.witness.proofs.witness_search.Reads as witness_search'
 use Rattle.witness.proofs.witness_ttl.Reads as witness_ttl'
 use Rattle.witness.proofs.witness_walk.Reads as witness_walk'
 use Rattle.witness.proofs.written.answer_number.Reads as answer_number'
+use Rattle.witness.proofs.written.observation_read.Reads as observation_read'
 use Rattle.witness.proofs.written.plain_packet.Reads as plain_packet'
 
 pub witness_packet_one
@@ -93,10 +96,17 @@ pub witness_next_page_one
     (bundle, (progress, (left_with page r.1, (bits, tt)))))
 witness_next_page_one κs bundle progress page bits = both _ _
 
-pub answer_number_one : (answer : Answer) → ExactlyOne ℕ (λ (r : ℕ). answer_number'.Post tt (answer, tt) r (answer, tt))
-answer_number_one answer = equation (answer_number answer)
+pub answer_number_one
+    : (reading : Result Reading PacketRefusal)
+    → ExactlyOne ℕ (λ (r : ℕ). answer_number'.Post tt (reading, tt) r (reading, tt))
+answer_number_one reading = equation (answer_number reading)
+
+pub observation_read_one
+    : (reading : Result Reading PacketRefusal)
+    → ExactlyOne TcpObservation (λ (r : TcpObservation). observation_read'.Post tt (reading, tt) r (reading, tt))
+observation_read_one reading = equation (observation_read reading)
 
 pub plain_packet_one
-    : (reading : Reading) (multiplier : Multiplier)
+    : (reading : Result Reading PacketRefusal) (multiplier : Option WindowMultiplier)
     → ExactlyOne PlainPacket (λ (r : PlainPacket). plain_packet'.Post tt (reading, (multiplier, tt)) r (reading, (multiplier, tt)))
 plain_packet_one reading multiplier = equation (plain_packet reading multiplier)

@@ -1,30 +1,31 @@
 -- What is read of a signature line, as a struct of numbers.
-use Rattle.std.specs.Prelude.{ℕ, List}
+use Rattle.std.specs.Prelude.{ℕ, List, replicate, Result, Ok, Err}
 use Rattle.refusals.specs.declared.Refusal.TheVariants as refusal
 use Rattle.refusals.specs.Refusals.{number}
-use Rattle.signature_line.specs.declared.LineAnswer.{LineAnswer}
-use Rattle.signature_line.specs.declared.LineAnswer.TheVariants as answer
+use Rattle.signature_line.specs.declared.BadLine.{BadLine}
 use Rattle.signature_line.specs.declared.SignatureRead.{SignatureRead}
 use Rattle.signature_line.specs.LineReader.{read_line}
 use Rattle.witness.specs.declared.PlainLine.{PlainLine}
 
-abbrev pub line_refusal : LineAnswer → ℕ
-line_refusal answer.Read = 0
-line_refusal (answer.Refused at) = number (refusal.BadLine at)
-
-abbrev pub line_offset : LineAnswer → ℕ
-line_offset answer.Read = 0
-line_offset (answer.Refused at) = at
-
-unfoldable pub plain_line : SignatureRead → PlainLine
-plain_line r =
+-- Beside a refusal and its offset all else is 0.
+unfoldable pub plain_line : Result SignatureRead BadLine → PlainLine
+plain_line (Ok r) =
     record {
       count = r.layout.count;
-      offset = line_offset r.answer;
-      refusal = line_refusal r.answer;
+      offset = 0;
+      refusal = 0;
       raw = r.raw;
       kinds = r.layout.kinds;
       bytes = r.layout.bytes;
+    }
+plain_line (Err bad) =
+    record {
+      count = 0;
+      offset = bad.offset;
+      refusal = number (refusal.BadLine bad.offset);
+      raw = replicate 24 0;
+      kinds = replicate 40 0;
+      bytes = replicate 40 0;
     }
 
 unfoldable pub line_read : List ℕ → PlainLine

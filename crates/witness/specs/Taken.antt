@@ -1,13 +1,9 @@
 -- An observation from its struct of numbers, and a TTL from three bytes (a byte past the end counts as 0).
-use Rattle.std.specs.Prelude.{ℕ, Bool, cond, List, eqb, ltb, length}
+use Rattle.std.specs.Prelude.{ℕ, Bool, cond, List, eqb, ltb, length, Option, Some, None}
 use Rattle.basis.specs.Bytes.{byte_at}
 use Rattle.quirks.specs.Quirks.{set_of}
 use Rattle.tcp.specs.declared.IpVersion.{IpVersion}
 use Rattle.tcp.specs.declared.IpVersion.TheVariants as version
-use Rattle.tcp.specs.declared.Mss.{Mss}
-use Rattle.tcp.specs.declared.Mss.TheVariants as mss
-use Rattle.tcp.specs.declared.Wscale.{Wscale}
-use Rattle.tcp.specs.declared.Wscale.TheVariants as wscale
 use Rattle.tcp.specs.declared.PayloadSize.{PayloadSize}
 use Rattle.tcp.specs.declared.PayloadSize.TheVariants as payload
 use Rattle.ttl.specs.declared.Ttl.{Ttl}
@@ -26,11 +22,9 @@ unfoldable pub ttl_of : ℕ → ℕ → ℕ → Ttl
 ttl_of form t hops =
     cond (eqb form 0) (ttl.Value t) (cond (eqb form 1) (ttl.Distance t hops) (cond (eqb form 2) (ttl.Guess t) (ttl.Bad t)))
 
-unfoldable pub mss_of : Bool → ℕ → Mss
-mss_of absent n = cond absent mss.Absent (mss.Present n)
-
-unfoldable pub scale_of : Bool → ℕ → Wscale
-scale_of absent n = cond absent wscale.Absent (wscale.Present n)
+-- A value that is absent where its `has_` is 0.
+abbrev pub given : ℕ → ℕ → Option ℕ
+given has n = cond (eqb has 0) None (Some n)
 
 abbrev pub payload_of : Bool → PayloadSize
 payload_of empty = cond empty payload.Zero payload.NonZero
@@ -41,14 +35,14 @@ observation_of o =
       version = version_of (eqb o.version 6);
       ittl = ttl_of o.ttl_form o.ttl o.hops;
       olen = o.olen;
-      mss = mss_of (eqb o.has_mss 0) o.mss;
+      mss = given o.has_mss o.mss;
       wsize = o.wsize;
       tot_hdr = o.tot_hdr;
-      wscale = scale_of (eqb o.has_wscale 0) o.wscale;
+      wscale = given o.has_wscale o.wscale;
       olayout = record { kinds = o.kinds; bytes = o.bytes; count = o.count };
       quirks = set_of o.quirks;
       pclass = payload_of (eqb o.pclass 0);
-      peer_mss = mss_of (eqb o.has_peer_mss 0) o.peer_mss;
+      peer_mss = given o.has_peer_mss o.peer_mss;
       tos = o.tos;
     }
 

@@ -1,40 +1,35 @@
 -- The answers as structs of numbers.
-use Rattle.std.specs.Prelude.{◌≡◌, ℕ, ◌%◌, Bool, false, cond, List}
+use Rattle.std.specs.Prelude.{◌≡◌, ℕ, ◌%◌, Bool, false, cond, List, replicate, Option, Some, None, Result, Ok, Err}
 use Rattle.text.specs.Written.{written}
 use Rattle.quirks.specs.Quirks.{bits_of}
 use Rattle.tcp.specs.declared.IpVersion.{IpVersion}
 use Rattle.tcp.specs.declared.IpVersion.TheVariants as version
-use Rattle.tcp.specs.declared.Mss.{Mss}
-use Rattle.tcp.specs.declared.Mss.TheVariants as mss
-use Rattle.tcp.specs.declared.Wscale.{Wscale}
-use Rattle.tcp.specs.declared.Wscale.TheVariants as wscale
 use Rattle.tcp.specs.declared.PayloadSize.{PayloadSize}
 use Rattle.tcp.specs.declared.PayloadSize.TheVariants as payload
 use Rattle.ttl.specs.declared.Ttl.{Ttl}
 use Rattle.ttl.specs.declared.Ttl.TheVariants as ttl
 use Rattle.ttl.specs.Table.{form_of, entry_of}
 use Rattle.ttl.specs.Ttl.{byte_of}
-use Rattle.window_size.specs.declared.Multiplier.{Multiplier}
-use Rattle.window_size.specs.declared.Multiplier.TheVariants as multiplier
+use Rattle.window_size.specs.declared.WindowMultiplier.{WindowMultiplier}
 use Rattle.observable.specs.declared.TcpObservation.{TcpObservation}
 use Rattle.observable.specs.Observation.{window_multiplier}
-use Rattle.syn_options.specs.declared.OptionsAnswer.{OptionsAnswer}
-use Rattle.syn_options.specs.declared.OptionsAnswer.TheVariants as parsing
-use Rattle.syn_options.specs.declared.OptionsRead.{OptionsRead}
+use Rattle.syn_options.specs.declared.ParsedTcpOptions.{ParsedTcpOptions}
 use Rattle.syn_options.specs.Walk.{parse_options_raw}
-use Rattle.flow.specs.declared.Answer.{Answer}
-use Rattle.flow.specs.declared.Answer.TheVariants as answer
+use Rattle.flow.specs.declared.Kind.TheVariants as kind
 use Rattle.flow.specs.declared.Reading.{Reading}
+use Rattle.flow.specs.declared.Reading.TheVariants as reading
+use Rattle.flow.specs.Reading.{observation_read}
 use Rattle.flow.specs.Modes.{mode_of, read_in}
-use Rattle.matching.specs.declared.Hops.{Hops}
-use Rattle.matching.specs.declared.Hops.TheVariants as hops
 use Rattle.found.specs.declared.Found.{Found}
 use Rattle.found.specs.declared.Found.TheVariants as found
 use Rattle.found.specs.declared.Searched.{Searched}
+use Rattle.refusals.specs.declared.OptionsTooLong.{OptionsTooLong}
+use Rattle.refusals.specs.declared.PacketRefusal.{PacketRefusal}
+use Rattle.refusals.specs.declared.Refusal.{Refusal}
 use Rattle.refusals.specs.declared.Refusal.TheVariants as refusal
-use Rattle.refusals.specs.Refusals.{number, packet_value, list_value}
-use Rattle.search.specs.declared.SearchAnswer.{SearchAnswer}
-use Rattle.search.specs.declared.SearchAnswer.TheVariants as search
+use Rattle.refusals.specs.Refusals.{number, packet_value, list_value, by_kind}
+use Rattle.search.specs.declared.SearchRefusal.{SearchRefusal}
+use Rattle.search.specs.Search.{as_refusal}
 use Rattle.packet_answer.specs.Packet.{peer_of}
 use Rattle.report.specs.Pages.{Page, progress_of, first_page_in, next_page_in}
 use Rattle.report.specs.declared.Progress.{Progress}
@@ -57,42 +52,35 @@ ttl_hops (ttl.Distance v hops) = hops
 ttl_hops (ttl.Guess v) = 0
 ttl_hops (ttl.Bad v) = 0
 
-abbrev pub has_mss : Mss → ℕ
-has_mss mss.Absent = 0
-has_mss (mss.Present n) = 1
+-- A value that may be absent: whether it is there, and it, or 0.
+abbrev pub has : {A : Type 0} → Option A → ℕ
+has None = 0
+has (Some x) = 1
 
-abbrev pub mss_number : Mss → ℕ
-mss_number mss.Absent = 0
-mss_number (mss.Present n) = n
-
-abbrev pub has_scale : Wscale → ℕ
-has_scale wscale.Absent = 0
-has_scale (wscale.Present n) = 1
-
-abbrev pub scale_number : Wscale → ℕ
-scale_number wscale.Absent = 0
-scale_number (wscale.Present n) = n
+abbrev pub or_zero : Option ℕ → ℕ
+or_zero None = 0
+or_zero (Some n) = n
 
 abbrev pub payload_number : PayloadSize → ℕ
 payload_number payload.Zero = 0
 payload_number payload.NonZero = 1
 
-abbrev pub multiple_number : Multiplier → ℕ
-multiple_number multiplier.Absent = 0
-multiple_number (multiplier.Present m) = m.multiple
+abbrev pub multiple_number : Option WindowMultiplier → ℕ
+multiple_number None = 0
+multiple_number (Some m) = m.multiple
 
-abbrev pub multiple_of : Multiplier → ℕ
-multiple_of multiplier.Absent = 0
-multiple_of (multiplier.Present m) = cond m.of_mtu 2 1
+abbrev pub multiple_of : Option WindowMultiplier → ℕ
+multiple_of None = 0
+multiple_of (Some m) = cond m.of_mtu 2 1
 
-unfoldable pub plain_observation : TcpObservation → Multiplier → PlainObservation
+unfoldable pub plain_observation : TcpObservation → Option WindowMultiplier → PlainObservation
 plain_observation o m =
     record {
       count = o.olayout.count;
       quirks = bits_of o.quirks;
-      mss = mss_number o.mss;
+      mss = or_zero o.mss;
       wsize = o.wsize;
-      peer_mss = mss_number o.peer_mss;
+      peer_mss = or_zero o.peer_mss;
       tot_hdr = o.tot_hdr;
       multiple = multiple_number m;
       multiple_of = multiple_of m;
@@ -102,11 +90,11 @@ plain_observation o m =
       hops = ttl_hops o.ittl;
       olen = o.olen;
       tos = o.tos;
-      wscale = scale_number o.wscale;
+      wscale = or_zero o.wscale;
       pclass = payload_number o.pclass;
-      has_mss = has_mss o.mss;
-      has_wscale = has_scale o.wscale;
-      has_peer_mss = has_mss o.peer_mss;
+      has_mss = has o.mss;
+      has_wscale = has o.wscale;
+      has_peer_mss = has o.peer_mss;
       kinds = o.olayout.kinds;
       bytes = o.olayout.bytes;
     }
@@ -118,70 +106,68 @@ ttl_read t = record { class = (entry_of t).class; guess = (entry_of t).guess }
 
 -- ---- a packet
 
-abbrev pub answer_number : Answer → ℕ
-answer_number answer.Syn = 1
-answer_number answer.SynAck = 2
-answer_number answer.Nothing = 3
-answer_number (answer.Refused r) = 4
+abbrev pub answer_number : Result Reading PacketRefusal → ℕ
+answer_number (Ok (reading.Opening kind.Syn o)) = 1
+answer_number (Ok (reading.Opening kind.SynAck o)) = 2
+answer_number (Ok reading.Nothing) = 3
+answer_number (Err r) = 4
 
-abbrev pub answer_refusal : Answer → ℕ
-answer_refusal answer.Syn = 0
-answer_refusal answer.SynAck = 0
-answer_refusal answer.Nothing = 0
-answer_refusal (answer.Refused r) = number (refusal.Packet r)
+abbrev pub answer_refusal : Result Reading PacketRefusal → ℕ
+answer_refusal (Ok r) = 0
+answer_refusal (Err r) = number (refusal.Packet r)
 
-abbrev pub answer_flags : Answer → ℕ
-answer_flags answer.Syn = 0
-answer_flags answer.SynAck = 0
-answer_flags answer.Nothing = 0
-answer_flags (answer.Refused r) = packet_value r
+abbrev pub answer_flags : Result Reading PacketRefusal → ℕ
+answer_flags (Ok r) = 0
+answer_flags (Err r) = packet_value r
 
-unfoldable pub plain_packet : Reading → Multiplier → PlainPacket
+-- Beside nothing and a refusal stands the empty observation.
+unfoldable pub plain_packet : Result Reading PacketRefusal → Option WindowMultiplier → PlainPacket
 plain_packet r m =
     record {
-      observation = plain_observation r.observation m;
-      answer = answer_number r.answer;
-      refusal = answer_refusal r.answer;
-      flags = answer_flags r.answer;
+      observation = plain_observation (observation_read r) m;
+      answer = answer_number r;
+      refusal = answer_refusal r;
+      flags = answer_flags r;
     }
 
 unfoldable pub packet_read : ℕ → List ℕ → ℕ → PlainPacket
 packet_read bits p peer =
     let read = read_in (mode_of bits) p (peer_of peer) in
-    plain_packet read (window_multiplier read.observation)
+    plain_packet read (window_multiplier (observation_read read))
 
 -- ---- an option string
 
-abbrev pub options_refusal : OptionsAnswer → ℕ
-options_refusal parsing.Parsed = 0
-options_refusal parsing.Refused = number refusal.OptionsTooLong
-
-unfoldable pub plain_options : OptionsRead → PlainOptions
-plain_options r =
+-- Beside a refusal all else is 0.
+unfoldable pub plain_options : Result ParsedTcpOptions OptionsTooLong → PlainOptions
+plain_options (Ok o) =
     record {
-      count = r.options.olayout.count;
-      mss = mss_number r.options.mss;
-      refusal = options_refusal r.answer;
-      malformed = r.options.malformed;
-      has_mss = has_mss r.options.mss;
-      has_wscale = has_scale r.options.wscale;
-      wscale = scale_number r.options.wscale;
-      kinds = r.options.olayout.kinds;
-      bytes = r.options.olayout.bytes;
+      count = o.olayout.count;
+      mss = or_zero o.mss;
+      refusal = 0;
+      malformed = o.malformed;
+      has_mss = has o.mss;
+      has_wscale = has o.wscale;
+      wscale = or_zero o.wscale;
+      kinds = o.olayout.kinds;
+      bytes = o.olayout.bytes;
+    }
+plain_options (Err r) =
+    record {
+      count = 0;
+      mss = 0;
+      refusal = number refusal.OptionsTooLong;
+      malformed = false;
+      has_mss = 0;
+      has_wscale = 0;
+      wscale = 0;
+      kinds = replicate 40 0;
+      bytes = replicate 40 0;
     }
 
 unfoldable pub options_read : List ℕ → PlainOptions
 options_read s = plain_options (parse_options_raw s)
 
 -- ---- a search
-
-abbrev pub hops_far : Hops → ℕ
-hops_far hops.InRange = 0
-hops_far (hops.OutOfRange n) = 1
-
-abbrev pub hops_number : Hops → ℕ
-hops_number hops.InRange = 0
-hops_number (hops.OutOfRange n) = n
 
 abbrev pub kind_number : Bool → ℕ
 kind_number generic = cond generic 1 0
@@ -216,8 +202,8 @@ plain_found (found.Fuzzy hit reason) examined =
       examined = examined;
       outcome = 2;
       refusal = 0;
-      far = hops_far reason.hops;
-      hops = hops_number reason.hops;
+      far = has reason.hops;
+      hops = or_zero reason.hops;
       generic = kind_number hit.generic;
     }
 
@@ -240,10 +226,13 @@ refused_search refusal bad =
       generic = 0;
     }
 
-unfoldable pub plain_search : SearchAnswer → PlainSearch
-plain_search (search.Searched s) = plain_searched s
-plain_search search.LayoutTooLong = refused_search (number refusal.LayoutTooLong) 0
-plain_search (search.List r) = refused_search (number (refusal.List r)) (list_value r % 4294967296)
+-- The record that refusal 10 names; 0 of any other refusal.
+abbrev pub bad_record : Refusal → ℕ
+bad_record r = by_kind (λ why. 0) (λ why. list_value why % 4294967296) 0 r
+
+unfoldable pub plain_search : Result Searched SearchRefusal → PlainSearch
+plain_search (Ok s) = plain_searched s
+plain_search (Err r) = refused_search (number (as_refusal r)) (bad_record (as_refusal r))
 
 -- ---- the output of a bundle
 

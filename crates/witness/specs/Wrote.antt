@@ -1,24 +1,19 @@
 -- What writing a line answers, as a struct of numbers, and the line.
-use Rattle.std.specs.Prelude.{ℕ, ◌%◌, List}
+use Rattle.std.specs.Prelude.{ℕ, List, Result, Ok, Err}
 use Rattle.refusals.specs.declared.Refusal.{Refusal}
-use Rattle.refusals.specs.Refusals.{number, list_value, by_kind}
+use Rattle.refusals.specs.Refusals.{number}
 use Rattle.text.specs.Written.{Lined}
-use Rattle.written_line.specs.declared.Wrote.{Wrote}
-use Rattle.written_line.specs.declared.Wrote.TheVariants as wrote
 use Rattle.written_line.specs.Writing.{observation_line, record_line}
 use Rattle.witness.specs.declared.PlainObservation.{PlainObservation}
 use Rattle.witness.specs.declared.PlainWrote.{PlainWrote}
+use Rattle.witness.specs.Written.{bad_record}
 use Rattle.witness.specs.Taken.{observation_of}
 
--- The record that refusal 10 names; 0 of any other refusal.
-abbrev pub bad_record : Refusal → ℕ
-bad_record r = by_kind (λ why. 0) (λ why. list_value why % 4294967296) 0 r
+unfoldable pub plain_wrote : Result ℕ Refusal → PlainWrote
+plain_wrote (Ok n) = record { length = n; bad_record = 0; refusal = 0 }
+plain_wrote (Err r) = record { length = 0; bad_record = bad_record r; refusal = number r }
 
-unfoldable pub plain_wrote : Wrote → PlainWrote
-plain_wrote (wrote.Line n) = record { length = n; bad_record = 0; refusal = 0 }
-plain_wrote (wrote.Refused r) = record { length = 0; bad_record = bad_record r; refusal = number r }
-
-abbrev pub plain_lined : Lined Wrote → Lined PlainWrote
+abbrev pub plain_lined : Lined (Result ℕ Refusal) → Lined PlainWrote
 plain_lined l = record { answer = plain_wrote l.answer; line = l.line }
 
 -- The raw line of an observation that is given as numbers, for a buffer of so many bytes.

@@ -19,7 +19,7 @@ use searched::plain_search;
 use taken::{observation_of, ttl_of};
 use ttl::ttl_entry;
 use walked::{plain_walk, stop_of};
-use written::{plain_options, plain_packet};
+use written::{observation_read, plain_options, plain_packet};
 use wrote::plain_wrote;
 
 mod lined;
@@ -28,6 +28,10 @@ mod taken;
 mod walked;
 pub mod written;
 mod wrote;
+
+// The structs below hold numbers for kinds and refusals, a `has_` beside what may be absent, and rows of kinds and bytes with a count: the
+// C interface (tools/witness/witness.h). What makes each is a function that is named as its definition in specs/: a From is no plainer, and
+// public.
 
 // An observation. A value that is absent is 0, and so is its `has_`.
 #[repr(C)]
@@ -151,14 +155,15 @@ pub struct PlainProgress {
 }
 
 // The reading of a packet, in a mode that is given as for C; a peer's MSS of 0 is an absent one.
+#[tactic(auto, unfolding(crate::specs::Written::packet_read))]
 pub fn witness_packet(packet: &[u8], peer: u16, bits: u8) -> PlainPacket
     ensures { result ≡ packet_read bits packet.now peer }
 {
     let reading = flow::read_packet_in(packet, peer_of(peer), mode_of(bits));
-    let observation = reading.observation;
-    plain_packet(reading, observation.window_multiplier())
+    plain_packet(reading, observation_read(reading).window_multiplier())
 }
 
+#[tactic(auto, unfolding(crate::specs::Written::options_read))]
 pub fn witness_options(options: &[u8]) -> PlainOptions
     ensures { result ≡ options_read options.now }
 {
@@ -167,6 +172,7 @@ pub fn witness_options(options: &[u8]) -> PlainOptions
 
 // The walk of an option string as of a SYN or not, from no quirks. It stops before the first option that runs past the end if bit 0 is
 // set, before the first of a short length if bit 1 is; the other bits are not read.
+#[tactic(auto, using(quirks::proofs::Named::empty_bits), unfolding(crate::specs::Walked::walk_read))]
 pub fn witness_walk(options: &[u8], stop: u8, syn: bool) -> PlainWalk
     ensures { result ≡ walk_read stop syn options.now }
 {
@@ -174,6 +180,7 @@ pub fn witness_walk(options: &[u8], stop: u8, syn: bool) -> PlainWalk
 }
 
 // The reading of a line of p0f's text form.
+#[tactic(auto, unfolding(crate::specs::Lined::line_read))]
 pub fn witness_line(line: &[u8]) -> PlainLine
     ensures { result ≡ line_read line.now }
 {
@@ -181,6 +188,7 @@ pub fn witness_line(line: &[u8]) -> PlainLine
 }
 
 // The raw line of an observation, into a lent buffer.
+#[tactic(auto, unfolding(crate::specs::Wrote::raw_line))]
 pub fn witness_raw(buffer: &mut [u8], observation: PlainObservation) -> PlainWrote
     ensures { Writes buffer.old (raw_line observation) result buffer.new }
 {
@@ -188,12 +196,14 @@ pub fn witness_raw(buffer: &mut [u8], observation: PlainObservation) -> PlainWro
 }
 
 // The line of a list's record, by its number from 0, into a lent buffer.
+#[tactic(auto, unfolding(crate::specs::Wrote::line_at))]
 pub fn witness_record(buffer: &mut [u8], list: &[u8], index: usize) -> PlainWrote
     ensures { Writes buffer.old (line_at list.now index) result buffer.new }
 {
     plain_wrote(write_record(buffer, list, index))
 }
 
+#[tactic(auto, unfolding(crate::specs::Taken::search_read))]
 pub fn witness_search(observation: PlainObservation, list: &[u8]) -> PlainSearch
     ensures { result ≡ search_read observation list.now }
 {
@@ -201,6 +211,7 @@ pub fn witness_search(observation: PlainObservation, list: &[u8]) -> PlainSearch
 }
 
 // The entry of a TTL byte in the table: what it is taken for, by the codes of a record, and its guess.
+#[tactic(auto, unfolding(crate::specs::Written::ttl_read))]
 pub fn witness_ttl(ttl: u8) -> PlainTtl
     ensures { result ≡ ttl_read ttl }
 {
@@ -212,6 +223,7 @@ pub fn witness_ttl(ttl: u8) -> PlainTtl
 }
 
 // The hop distance that is reported for two TTLs of three bytes each (form, TTL, distance): an observed one, then a signature's.
+#[tactic(auto, unfolding(crate::specs::Taken::hops_read))]
 pub fn witness_hops(ttls: &[u8]) -> u8
     ensures { result ≡ hops_read ttls.now }
 {

@@ -1,43 +1,37 @@
 // What is read of a signature line, as a struct of numbers.
 ghost use Rattle.std.specs.Prelude.{◌≡◌};
-ghost use Rattle.witness.specs.Lined.{line_refusal, line_offset, plain_line};
+ghost use Rattle.witness.specs.Lined.{plain_line};
 
 use crate::PlainLine;
-use refusals::{Refusal, refusal_number};
-use signature_line::{LineAnswer, SignatureRead};
+use refusals::refusal_number;
+use signature_line::{BadLine, SignatureRead};
 
-fn line_refusal(answer: LineAnswer) -> u8
-    ensures { result ≡ line_refusal answer }
-{
-    match answer {
-        LineAnswer::Read => 0,
-        LineAnswer::Refused(at) => refusal_number(Refusal::BadLine(at)),
-    }
-}
-
-fn line_offset(answer: LineAnswer) -> usize
-    ensures { result ≡ line_offset answer }
-{
-    match answer {
-        LineAnswer::Read => 0,
-        LineAnswer::Refused(at) => at,
-    }
-}
-
-pub(crate) fn plain_line(read: SignatureRead) -> PlainLine
+#[tactic(auto, unfolding(crate::specs::Lined::plain_line))]
+pub(crate) fn plain_line(read: Result<SignatureRead, BadLine>) -> PlainLine
     ensures { result ≡ plain_line read }
 {
-    let answer = read.answer;
-    let raw = read.raw;
-    let layout = read.layout;
-    let kinds = layout.kinds;
-    let bytes = layout.bytes;
-    PlainLine {
-        count: layout.count,
-        offset: line_offset(answer),
-        refusal: line_refusal(answer),
-        raw,
-        kinds,
-        bytes,
+    match read {
+        Ok(read) => {
+            // Arrays go into a literal without calls through variables (a rule of Rattle).
+            let raw = read.raw;
+            let kinds = read.layout.kinds;
+            let bytes = read.layout.bytes;
+            PlainLine {
+                count: read.layout.count,
+                offset: 0,
+                refusal: 0,
+                raw,
+                kinds,
+                bytes,
+            }
+        }
+        Err(bad) => PlainLine {
+            count: 0,
+            offset: bad.offset,
+            refusal: refusal_number(bad.into()),
+            raw: [0; 24],
+            kinds: [0; 40],
+            bytes: [0; 40],
+        },
     }
 }

@@ -1,36 +1,13 @@
 // What a search answers, as a struct of numbers.
 ghost use Rattle.std.specs.Prelude.{◌≡◌};
-ghost use Rattle.witness.specs.Written.{hops_far, hops_number, kind_number, outcome_of, plain_searched, refused_search, plain_search};
+ghost use Rattle.refusals.specs.Refusals.{number};
+ghost use Rattle.witness.specs.Written.{outcome_of, plain_searched, bad_record, refused_search, plain_search};
 
 use crate::PlainSearch;
+use crate::wrote::bad_record;
 use found::{Found, Searched};
-use matching::Hops;
-use refusals::{Refusal, list_value, refusal_number};
-use search::SearchAnswer;
-
-fn hops_far(hops: Hops) -> u8
-    ensures { result ≡ hops_far hops }
-{
-    match hops {
-        Hops::InRange => 0,
-        Hops::OutOfRange(_) => 1,
-    }
-}
-
-fn hops_number(hops: Hops) -> u8
-    ensures { result ≡ hops_number hops }
-{
-    match hops {
-        Hops::InRange => 0,
-        Hops::OutOfRange(far) => far,
-    }
-}
-
-fn kind_number(generic: bool) -> u8
-    ensures { result ≡ kind_number generic }
-{
-    if generic { 1 } else { 0 }
-}
+use refusals::{Refusal, refusal_number};
+use search::SearchRefusal;
 
 // An answer without a reason.
 fn outcome_of(outcome: u8, label: u16, number: u16, generic: u8, examined: u16) -> PlainSearch
@@ -51,68 +28,54 @@ fn outcome_of(outcome: u8, label: u16, number: u16, generic: u8, examined: u16) 
     }
 }
 
+#[tactic(auto, unfolding(crate::specs::Written::plain_searched))]
 fn plain_searched(searched: Searched) -> PlainSearch
     ensures { result ≡ plain_searched searched }
 {
-    let found = searched.found;
-    let examined = searched.examined;
+    let Searched { found, examined } = searched;
     match found {
         Found::None => outcome_of(3, 0, 0, 0, examined),
-        Found::Exact(hit) => outcome_of(
-            1,
-            hit.label,
-            hit.number,
-            kind_number(hit.generic),
+        Found::Exact(hit) => outcome_of(1, hit.label, hit.number, u8::from(hit.generic), examined),
+        Found::Fuzzy(hit, reason) => PlainSearch {
+            added: reason.added.bits(),
+            missing: reason.missing.bits(),
+            bad_record: 0,
+            label: hit.label,
+            number: hit.number,
             examined,
-        ),
-        Found::Fuzzy(hit, reason) => {
-            let hops = reason.hops;
-            let added = reason.added;
-            let missing = reason.missing;
-            PlainSearch {
-                added: added.bits(),
-                missing: missing.bits(),
-                bad_record: 0,
-                label: hit.label,
-                number: hit.number,
-                examined,
-                outcome: 2,
-                refusal: 0,
-                far: hops_far(hops),
-                hops: hops_number(hops),
-                generic: kind_number(hit.generic),
-            }
-        }
+            outcome: 2,
+            refusal: 0,
+            far: u8::from(reason.hops.is_some()),
+            hops: reason.hops.unwrap_or(0),
+            generic: u8::from(hit.generic),
+        },
     }
 }
 
-fn refused_search(refusal: u8, bad_record: u32) -> PlainSearch
-    ensures { result ≡ refused_search refusal bad_record }
+fn refused_search(refusal: Refusal) -> PlainSearch
+    ensures { result ≡ refused_search (number refusal) (bad_record refusal) }
 {
     PlainSearch {
         added: 0,
         missing: 0,
-        bad_record,
+        bad_record: bad_record(refusal),
         label: 0,
         number: 0,
         examined: 0,
         outcome: 5,
-        refusal,
+        refusal: refusal_number(refusal),
         far: 0,
         hops: 0,
         generic: 0,
     }
 }
 
-pub(crate) fn plain_search(answer: SearchAnswer) -> PlainSearch
+#[tactic(auto, unfolding(crate::specs::Written::plain_search))]
+pub(crate) fn plain_search(answer: Result<Searched, SearchRefusal>) -> PlainSearch
     ensures { result ≡ plain_search answer }
 {
     match answer {
-        SearchAnswer::Searched(searched) => plain_searched(searched),
-        SearchAnswer::LayoutTooLong => refused_search(refusal_number(Refusal::LayoutTooLong), 0),
-        SearchAnswer::List(why) => {
-            let refusal = refusal_number(Refusal::List(why));
-            refused_search(refusal, (list_value(why) % 4294967296) as u32)
-        }
+        Ok(searched) => plain_searched(searched),
+        Err(why) => refused_search(why.into()),
     }
 }

@@ -1,10 +1,10 @@
 // A walk over an option string, as a struct of numbers.
 ghost use Rattle.std.specs.Prelude.{◌≡◌};
-ghost use Rattle.witness.specs.Walked.{stop_of, has_place, place_number, plain_walk};
+ghost use Rattle.witness.specs.Walked.{stop_of, plain_walk};
 
 use crate::PlainWalk;
-use crate::written::{has_mss, has_scale, mss_number, options_refusal, scale_number};
-use syn_options::{Place, StopBefore, WalkRead};
+use refusals::{OptionsTooLong, refusal_number};
+use syn_options::{OptionWalk, StopBefore};
 
 pub(crate) fn stop_of(bits: u8) -> StopBefore
     ensures { result ≡ stop_of bits }
@@ -15,53 +15,42 @@ pub(crate) fn stop_of(bits: u8) -> StopBefore
     }
 }
 
-fn has_place(place: Place) -> u8
-    ensures { result ≡ has_place place }
-{
-    match place {
-        Place::None => 0,
-        Place::At(_) => 1,
-    }
-}
-
-fn place_number(place: Place) -> usize
-    ensures { result ≡ place_number place }
-{
-    match place {
-        Place::None => 0,
-        Place::At(at) => at,
-    }
-}
-
-pub(crate) fn plain_walk(read: WalkRead) -> PlainWalk
+#[tactic(auto, unfolding(crate::specs::Walked::plain_walk))]
+pub(crate) fn plain_walk(read: Result<OptionWalk, OptionsTooLong>) -> PlainWalk
     ensures { result ≡ plain_walk read }
 {
-    let answer = read.answer;
-    let walk = read.walk;
-    let places = walk.places;
-    let past = places.past;
-    let short = places.short;
-    let seen = walk.seen;
-    let mss = seen.mss;
-    let wscale = seen.wscale;
-    let quirks = seen.quirks;
-    let layout = walk.olayout;
-    let kinds = layout.kinds;
-    let bytes = layout.bytes;
-    PlainWalk {
-        count: layout.count,
-        past_at: place_number(past),
-        short_at: place_number(short),
-        quirks: quirks.bits(),
-        mss: mss_number(mss),
-        refusal: options_refusal(answer),
-        malformed: walk.malformed,
-        has_past: has_place(past),
-        has_short: has_place(short),
-        has_mss: has_mss(mss),
-        has_wscale: has_scale(wscale),
-        wscale: scale_number(wscale),
-        kinds,
-        bytes,
+    match read {
+        Ok(walk) => PlainWalk {
+            count: walk.olayout.count,
+            past_at: walk.places.past.unwrap_or(0),
+            short_at: walk.places.short.unwrap_or(0),
+            quirks: walk.seen.quirks.bits(),
+            mss: walk.seen.mss.unwrap_or(0),
+            refusal: 0,
+            malformed: walk.malformed,
+            has_past: u8::from(walk.places.past.is_some()),
+            has_short: u8::from(walk.places.short.is_some()),
+            has_mss: u8::from(walk.seen.mss.is_some()),
+            has_wscale: u8::from(walk.seen.wscale.is_some()),
+            wscale: walk.seen.wscale.unwrap_or(0),
+            kinds: walk.olayout.kinds,
+            bytes: walk.olayout.bytes,
+        },
+        Err(why) => PlainWalk {
+            count: 0,
+            past_at: 0,
+            short_at: 0,
+            quirks: 0,
+            mss: 0,
+            refusal: refusal_number(why.into()),
+            malformed: false,
+            has_past: 0,
+            has_short: 0,
+            has_mss: 0,
+            has_wscale: 0,
+            wscale: 0,
+            kinds: [0; 40],
+            bytes: [0; 40],
+        },
     }
 }

@@ -1,18 +1,18 @@
 // A reading, and what is parsed of an option string, as structs of numbers.
 ghost use Rattle.std.specs.Prelude.{◌≡◌};
 ghost use Rattle.ttl.specs.Table.{form_of};
-ghost use Rattle.witness.specs.Written.{version_number, ttl_hops, has_mss, mss_number, has_scale, scale_number, payload_number};
-ghost use Rattle.witness.specs.Written.{multiple_number, multiple_of, plain_observation};
-ghost use Rattle.witness.specs.Written.{answer_number, answer_refusal, answer_flags, plain_packet, options_refusal, plain_options};
+ghost use Rattle.flow.specs.Reading.{observation_read};
+ghost use Rattle.witness.specs.Written.{version_number, ttl_hops, payload_number, multiple_number, multiple_of, plain_observation};
+ghost use Rattle.witness.specs.Written.{answer_number, plain_packet, plain_options};
 
 use crate::{PlainObservation, PlainOptions, PlainPacket};
-use flow::{Answer, Reading};
+use flow::{Kind, Reading};
 use observable::TcpObservation;
-use refusals::{Refusal, packet_value, refusal_number};
-use syn_options::{OptionsAnswer, OptionsRead};
-use tcp::{IpVersion, Mss, PayloadSize, Wscale};
+use refusals::{OptionsTooLong, PacketRefusal, packet_value, refusal_number};
+use syn_options::ParsedTcpOptions;
+use tcp::{IpVersion, PayloadSize};
 use ttl::{Ttl, observed_ttl};
-use window_size::Multiplier;
+use window_size::WindowMultiplier;
 
 // ---- an observation
 
@@ -40,46 +40,8 @@ fn ttl_hops(ttl: Ttl) -> u8
     ensures { result ≡ ttl_hops ttl }
 {
     match ttl {
-        Ttl::Value(_) => 0,
         Ttl::Distance(_, hops) => hops,
-        Ttl::Guess(_) => 0,
-        Ttl::Bad(_) => 0,
-    }
-}
-
-pub(crate) fn has_mss(mss: Mss) -> u8
-    ensures { result ≡ has_mss mss }
-{
-    match mss {
-        Mss::Absent => 0,
-        Mss::Present(_) => 1,
-    }
-}
-
-pub(crate) fn mss_number(mss: Mss) -> u16
-    ensures { result ≡ mss_number mss }
-{
-    match mss {
-        Mss::Absent => 0,
-        Mss::Present(size) => size,
-    }
-}
-
-pub(crate) fn has_scale(wscale: Wscale) -> u8
-    ensures { result ≡ has_scale wscale }
-{
-    match wscale {
-        Wscale::Absent => 0,
-        Wscale::Present(_) => 1,
-    }
-}
-
-pub(crate) fn scale_number(wscale: Wscale) -> u8
-    ensures { result ≡ scale_number wscale }
-{
-    match wscale {
-        Wscale::Absent => 0,
-        Wscale::Present(scale) => scale,
+        _ => 0,
     }
 }
 
@@ -92,141 +54,125 @@ fn payload_number(pclass: PayloadSize) -> u8
     }
 }
 
-fn multiple_number(multiplier: Multiplier) -> u16
+fn multiple_number(multiplier: Option<WindowMultiplier>) -> u16
     ensures { result ≡ multiple_number multiplier }
 {
     match multiplier {
-        Multiplier::Absent => 0,
-        Multiplier::Present(found) => found.multiple,
+        None => 0,
+        Some(found) => found.multiple,
     }
 }
 
-fn multiple_of(multiplier: Multiplier) -> u8
+fn multiple_of(multiplier: Option<WindowMultiplier>) -> u8
     ensures { result ≡ multiple_of multiplier }
 {
     match multiplier {
-        Multiplier::Absent => 0,
-        Multiplier::Present(found) => if found.of_mtu { 2 } else { 1 },
+        None => 0,
+        Some(found) => if found.of_mtu { 2 } else { 1 },
     }
 }
 
-fn plain_observation(o: TcpObservation, multiplier: Multiplier) -> PlainObservation
+#[tactic(auto, unfolding(crate::specs::Written::plain_observation))]
+fn plain_observation(o: TcpObservation, multiplier: Option<WindowMultiplier>) -> PlainObservation
     ensures { result ≡ plain_observation o multiplier }
 {
-    let version = o.version;
-    let ttl = o.ittl;
-    let quirks = o.quirks;
-    let mss = o.mss;
-    let wscale = o.wscale;
-    let pclass = o.pclass;
-    let peer_mss = o.peer_mss;
-    let layout = o.olayout;
-    let kinds = layout.kinds;
-    let bytes = layout.bytes;
     PlainObservation {
-        count: layout.count,
-        quirks: quirks.bits(),
-        mss: mss_number(mss),
+        count: o.olayout.count,
+        quirks: o.quirks.bits(),
+        mss: o.mss.unwrap_or(0),
         wsize: o.wsize,
-        peer_mss: mss_number(peer_mss),
+        peer_mss: o.peer_mss.unwrap_or(0),
         tot_hdr: o.tot_hdr,
         multiple: multiple_number(multiplier),
         multiple_of: multiple_of(multiplier),
-        version: version_number(version),
-        ttl_form: ttl_form(ttl),
-        ttl: observed_ttl(ttl),
-        hops: ttl_hops(ttl),
+        version: version_number(o.version),
+        ttl_form: ttl_form(o.ittl),
+        ttl: observed_ttl(o.ittl),
+        hops: ttl_hops(o.ittl),
         olen: o.olen,
         tos: o.tos,
-        wscale: scale_number(wscale),
-        pclass: payload_number(pclass),
-        has_mss: has_mss(mss),
-        has_wscale: has_scale(wscale),
-        has_peer_mss: has_mss(peer_mss),
-        kinds,
-        bytes,
+        wscale: o.wscale.unwrap_or(0),
+        pclass: payload_number(o.pclass),
+        has_mss: u8::from(o.mss.is_some()),
+        has_wscale: u8::from(o.wscale.is_some()),
+        has_peer_mss: u8::from(o.peer_mss.is_some()),
+        kinds: o.olayout.kinds,
+        bytes: o.olayout.bytes,
     }
 }
 
 // ---- a packet
 
-pub fn answer_number(answer: Answer) -> u8
-    ensures { result ≡ answer_number answer }
+// 1 SYN, 2 SYN+ACK, 3 nothing, 4 refused.
+pub fn answer_number(reading: Result<Reading, PacketRefusal>) -> u8
+    ensures { result ≡ answer_number reading }
 {
-    match answer {
-        Answer::Syn => 1,
-        Answer::SynAck => 2,
-        Answer::Nothing => 3,
-        Answer::Refused(_) => 4,
+    match reading {
+        Ok(Reading::Opening(Kind::Syn, _)) => 1,
+        Ok(Reading::Opening(Kind::SynAck, _)) => 2,
+        Ok(Reading::Nothing) => 3,
+        Err(_) => 4,
     }
 }
 
-fn answer_refusal(answer: Answer) -> u8
-    ensures { result ≡ answer_refusal answer }
+// What was observed; beside nothing and a refusal the empty observation.
+pub fn observation_read(reading: Result<Reading, PacketRefusal>) -> TcpObservation
+    ensures { result ≡ observation_read reading }
 {
-    match answer {
-        Answer::Syn => 0,
-        Answer::SynAck => 0,
-        Answer::Nothing => 0,
-        Answer::Refused(why) => refusal_number(Refusal::Packet(why)),
-    }
-}
-
-fn answer_flags(answer: Answer) -> u8
-    ensures { result ≡ answer_flags answer }
-{
-    match answer {
-        Answer::Syn => 0,
-        Answer::SynAck => 0,
-        Answer::Nothing => 0,
-        Answer::Refused(why) => packet_value(why),
+    match reading {
+        Ok(Reading::Opening(_, observation)) => observation,
+        _ => TcpObservation::empty(),
     }
 }
 
 // A reading; the window's multiplier is the caller's.
-pub fn plain_packet(reading: Reading, multiplier: Multiplier) -> PlainPacket
+#[tactic(auto, unfolding(crate::specs::Written::plain_packet))]
+pub fn plain_packet(
+    reading: Result<Reading, PacketRefusal>,
+    multiplier: Option<WindowMultiplier>,
+) -> PlainPacket
     ensures { result ≡ plain_packet reading multiplier }
 {
-    let answer = reading.answer;
-    let observation = reading.observation;
+    let (refusal, flags) = match reading {
+        Ok(_) => (0, 0),
+        Err(why) => (refusal_number(why.into()), packet_value(why)),
+    };
     PlainPacket {
-        observation: plain_observation(observation, multiplier),
-        answer: answer_number(answer),
-        refusal: answer_refusal(answer),
-        flags: answer_flags(answer),
+        observation: plain_observation(observation_read(reading), multiplier),
+        answer: answer_number(reading),
+        refusal,
+        flags,
     }
 }
 
 // ---- an option string
 
-pub(crate) fn options_refusal(answer: OptionsAnswer) -> u8
-    ensures { result ≡ options_refusal answer }
-{
-    match answer {
-        OptionsAnswer::Parsed => 0,
-        OptionsAnswer::Refused => refusal_number(Refusal::OptionsTooLong),
-    }
-}
-
-pub(crate) fn plain_options(read: OptionsRead) -> PlainOptions
+#[tactic(auto, unfolding(crate::specs::Written::plain_options))]
+pub(crate) fn plain_options(read: Result<ParsedTcpOptions, OptionsTooLong>) -> PlainOptions
     ensures { result ≡ plain_options read }
 {
-    let answer = read.answer;
-    let options = read.options;
-    let mss = options.mss;
-    let wscale = options.wscale;
-    let layout = options.olayout;
-    let kinds = layout.kinds;
-    let bytes = layout.bytes;
-    PlainOptions {
-        count: layout.count,
-        mss: mss_number(mss),
-        refusal: options_refusal(answer),
-        malformed: options.malformed,
-        has_mss: has_mss(mss),
-        has_wscale: has_scale(wscale),
-        wscale: scale_number(wscale),
-        kinds,
-        bytes,
+    match read {
+        Ok(options) => PlainOptions {
+            count: options.olayout.count,
+            mss: options.mss.unwrap_or(0),
+            refusal: 0,
+            malformed: options.malformed,
+            has_mss: u8::from(options.mss.is_some()),
+            has_wscale: u8::from(options.wscale.is_some()),
+            wscale: options.wscale.unwrap_or(0),
+            kinds: options.olayout.kinds,
+            bytes: options.olayout.bytes,
+        },
+        Err(why) => PlainOptions {
+            count: 0,
+            mss: 0,
+            refusal: refusal_number(why.into()),
+            malformed: false,
+            has_mss: 0,
+            has_wscale: 0,
+            wscale: 0,
+            kinds: [0; 40],
+            bytes: [0; 40],
+        },
     }
 }

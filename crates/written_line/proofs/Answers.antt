@@ -1,4 +1,5 @@
 -- What is answered, by the order of the tests; and that a buffer of the longest line's size is long enough.
+use Rattle.std.specs.Prelude.{Result, Ok, Err}
 use Prim.Native.Nat.{ℕ, ◌<◌, ◌≤◌}
 use mathlib.Core.Path.{◌≡◌, refl}
 use mathlib.Core.Bool.{Bool, true, false, cond}
@@ -9,10 +10,9 @@ use borrow.Author.Tests.{ltb-true, ltb-false}
 use Rattle.text.specs.Written.{Lined}
 use Rattle.observable.specs.declared.TcpObservation.{TcpObservation}
 use Rattle.refusals.specs.declared.Refusal.TheVariants as refusal
-use Rattle.siglist.specs.declared.ListAnswer.{ListAnswer}
-use Rattle.siglist.specs.declared.ListAnswer.TheVariants as list
+use Rattle.refusals.specs.declared.ListRefusal.{ListRefusal}
 use Rattle.siglist.specs.List.{record_count, check_list}
-use Rattle.written_line.specs.declared.Wrote.{Wrote}
+use Rattle.refusals.specs.declared.Refusal.{Refusal}
 use Rattle.written_line.specs.Answers.{ObservationAnswer, RecordAnswer}
 use Rattle.written_line.specs.LineText.{record_text, observation_text}
 use Rattle.written_line.specs.RoundTrip.{whole_line}
@@ -20,7 +20,7 @@ use Rattle.written_line.specs.Writing.{refusing, line_into, observation_line, re
 
 -- A line that finds room, or not.
 pub into
-    : (P : Lined Wrote → Type 0) (s : List ℕ) (room : ℕ) → (room < length s → P (refusing refusal.BufferTooShort))
+    : (P : Lined (Result ℕ Refusal) → Type 0) (s : List ℕ) (room : ℕ) → (room < length s → P (refusing refusal.BufferTooShort))
     → (length s ≤ room → P (whole_line s))
     → P (line_into s room)
 unfolding line_into
@@ -48,7 +48,7 @@ unfolding record_line
 record_answer l i room = by (check_list l) refl
   where
     inside
-        : (t : Bool) → ltb i (record_count l) ≡ t → check_list l ≡ list.Good
+        : (t : Bool) → ltb i (record_count l) ≡ t → check_list l ≡ Ok tt
         → RecordAnswer l i room (cond t (line_into (record_text l i) room) (refusing refusal.NoSuchRecord))
     inside true e good =
         let there = ltb-true i (record_count l) e in
@@ -56,6 +56,6 @@ record_answer l i room = by (check_list l) refl
         (λ enough. RecordAnswer.written good there enough)
     inside false e good = RecordAnswer.not_in_it good (ltb-false i (record_count l) e)
 
-    by : (a : ListAnswer) → check_list l ≡ a → RecordAnswer l i room (record_line_of a l i room)
-    by list.Good e = inside (ltb i (record_count l)) refl e
-    by (list.Refused r) e = RecordAnswer.list_refused_lem r e
+    by : (a : Result (Unit {0}) ListRefusal) → check_list l ≡ a → RecordAnswer l i room (record_line_of a l i room)
+    by (Ok tt) e = inside (ltb i (record_count l)) refl e
+    by (Err r) e = RecordAnswer.list_refused_lem r e

@@ -1,4 +1,5 @@
 -- The line of a record of a list that was checked before: that which is written of the record in a list that is good.
+use Rattle.std.specs.Prelude.{Ok}
 use Prim.Native.Nat.{ℕ, ◌<◌, ◌≤◌}
 use mathlib.Core.Path.{◌≡◌, refl}
 use mathlib.Core.Bool.{Bool, true, false}
@@ -10,7 +11,6 @@ use Rattle.refusals.specs.declared.Refusal.TheVariants as refusal
 use Rattle.sigrecord.specs.Layout.{entries_good}
 use Rattle.sigrecord.specs.Record.{first_entry, entry_count}
 use Rattle.sigrecord.specs.WellFormed.{scalars_good}
-use Rattle.siglist.specs.declared.ListAnswer.TheVariants as list
 use Rattle.siglist.specs.List.{record_count, layout_count, list_fits, record_at, entries_from, entries_lie, layout_lies, record_good}
 use Rattle.siglist.specs.List.{check_list}
 use Rattle.siglist.proofs.FirstBad.{good_fits, each_good}
@@ -29,7 +29,7 @@ good_lies l i e =
     (and_right (scalars_good (record_at l i)) _ e)
 
 module _ (l : List ℕ) (i room : ℕ) where
-  pub listed_good : check_list l ≡ list.Good → i < record_count l → listed_line l i room ≡ good_line l i room
+  pub listed_good : check_list l ≡ Ok tt → i < record_count l → listed_line l i room ≡ good_line l i room
   unfolding listed_line
   listed_good e h = rw (good_fits l e, lt-ltb i (record_count l) h, good_lies l i (each_good l i e h))
 
@@ -38,7 +38,7 @@ module _ (l : List ℕ) (i room : ℕ) where
   listed_past h = rw (le-ltb i (record_count l) h, and_false (list_fits l))
 
   -- In a good list it is the record's line, whatever the index.
-  pub listed_record : check_list l ≡ list.Good → listed_line l i room ≡ record_line l i room
+  pub listed_record : check_list l ≡ Ok tt → listed_line l i room ≡ record_line l i room
   unfolding record_line
   listed_record e = by (ltb i (record_count l)) refl
     where

@@ -1,4 +1,5 @@
 -- The bounds are met: the longest lines, computed.
+use Rattle.std.specs.Prelude.{Ok}
 use Prim.Native.Nat.{ℕ, zero, suc, ◌<◌}
 use mathlib.Core.Path.{◌≡◌, refl, ap}
 use mathlib.Core.List.{◌++◌}
@@ -15,7 +16,6 @@ use Rattle.text.specs.Decimal.{width, decimal}
 use Rattle.sigrecord.specs.Layout.{entry_good, entries_good}
 use Rattle.sigrecord.specs.Record.{version_of, ttl_of, mss_of, scale_of, window_of, payload_of, signature_of}
 use Rattle.sigrecord.specs.WellFormed.{version_good, ttl_good, presence_good, window_good, payload_good, quirks_good, scalars_good}
-use Rattle.siglist.specs.declared.ListAnswer.TheVariants as list
 use Rattle.siglist.specs.List.{list_fits, layout_lies, record_good, records_from, check_list}
 use Rattle.grammar.specs.Spelling.{spelt}
 use Rattle.signature_line.specs.OneRecord.{entries_in, list_of_one}
@@ -25,7 +25,7 @@ use Rattle.written_line.specs.Longest.{longest_list, longest_observation, behind
 use Rattle.written_line.specs.Numbers.{ObservationHeld}
 use Rattle.written_line.specs.Signature.{entry_said, entries_said, chosen, fields_of, signature_seen}
 
-good_list_lem : check_list longest_list ≡ list.Good
+good_list_lem : check_list longest_list ≡ Ok tt
 unfolding check_list list_fits records_from record_good layout_lies entries_good entry_good all_below scalars_good version_good ttl_good
     presence_good window_good payload_good quirks_good is_empty difference seventeen from_quirks display_order with bit_of place_of be16
     be32 list_of_one entries_in

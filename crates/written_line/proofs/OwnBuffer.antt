@@ -1,4 +1,5 @@
 -- A line written into a buffer of its own: where it ends, that it stands there, and that there is none beside a refusal.
+use Rattle.std.specs.Prelude.{Result, Ok, Err}
 use Prim.Native.Nat.{ℕ, ◌+◌, ◌-◌, ◌≤◌}
 use mathlib.Core.Path.{◌≡◌, refl, sym, ◌∙◌, ap}
 use mathlib.Core.Bool.{Bool, true, false, cond, ◌&&◌}
@@ -15,17 +16,15 @@ use Rattle.refusals.specs.declared.Refusal.TheVariants as refusal
 use Rattle.observable.specs.declared.TcpObservation.{TcpObservation}
 use Rattle.sigrecord.specs.Record.{first_entry, entry_count}
 use Rattle.siglist.specs.List.{record_count, layout_count, list_fits, record_at, entries_lie}
-use Rattle.written_line.specs.declared.Wrote.{Wrote}
-use Rattle.written_line.specs.declared.Wrote.TheVariants as wrote
 use Rattle.written_line.specs.LineText.{record_text, observation_text}
 use Rattle.written_line.specs.Writing.{refusing, line_into, observation_line, good_line, listed_line}
 
-abbrev size_in : Wrote → ℕ
-size_in (wrote.Line n) = n
-size_in (wrote.Refused r) = 0
+abbrev size_in : Result ℕ Refusal → ℕ
+size_in (Ok n) = n
+size_in (Err r) = 0
 
 -- The number beside a line is its length, which finds room.
-pub record SizedLine (x : Lined Wrote) (n : ℕ) : Type 0 where
+pub record SizedLine (x : Lined (Result ℕ Refusal)) (n : ℕ) : Type 0 where
   size : size_in x.answer ≡ length x.line
   pub within : length x.line ≤ n
 
@@ -39,7 +38,7 @@ into_sized s n = by (ltb n (length s)) refl
   where
     by
         : (t : Bool) → ltb n (length s) ≡ t
-        → SizedLine (cond t (refusing refusal.BufferTooShort) (record { answer = wrote.Line (length s); line = s })) n
+        → SizedLine (cond t (refusing refusal.BufferTooShort) (record { answer = Ok (length s); line = s })) n
     by true e = refused_sized refusal.BufferTooShort n
     by false e = record { size = refl; within = ltb-false n (length s) e }
 
@@ -65,8 +64,8 @@ empty [] e = refl
 empty (b ∷ s) e = absurd (omega (arith, e))
 
 module _
-    (writing : ℕ → Lined Wrote) (room : ℕ) (sized : SizedLine (writing room) room) (buffer buffer' : List ℕ) (r : Wrote)
-    (whole : length buffer ≡ room) (writes : Writes buffer writing r buffer')
+    (writing : ℕ → Lined (Result ℕ Refusal)) (room : ℕ) (sized : SizedLine (writing room) room) (buffer buffer' : List ℕ)
+    (r : Result ℕ Refusal) (whole : length buffer ≡ room) (writes : Writes buffer writing r buffer')
   where
     abbrev Text : List ℕ
     Text = (writing room).line
@@ -77,7 +76,7 @@ module _
     size : size_in r ≡ length Text
     size = ap size_in (writes.0 ∙ ap (λ (n : ℕ). (writing n).answer) whole) ∙ sized.size
 
-    pub line_within : (n : ℕ) → r ≡ wrote.Line n → n ≤ length buffer'
+    pub line_within : (n : ℕ) → r ≡ Ok n → n ≤ length buffer'
     line_within n e =
         let same : n ≡ length Text = ap size_in (sym e) ∙ size in
         let kept : length buffer' ≡ length buffer =
@@ -85,11 +84,11 @@ module _
         omega (arith, sized.within)
 
     -- What was written is the line.
-    pub the_line : (n : ℕ) → r ≡ wrote.Line n → take (n - 0) buffer' ≡ Text
+    pub the_line : (n : ℕ) → r ≡ Ok n → take (n - 0) buffer' ≡ Text
     unfolding written
     the_line n e =
         let same : length Text ≡ n - 0 = omega (arith, sym size ∙ ap size_in e) in
         ap (take (n - 0)) stands ∙ take_at Text (drop (0 + length Text) buffer) (n - 0) same
 
-    pub no_line : (x : Refusal) → r ≡ wrote.Refused x → Text ≡ []
+    pub no_line : (x : Refusal) → r ≡ Err x → Text ≡ []
     no_line x e = empty Text (sym size ∙ ap size_in e)

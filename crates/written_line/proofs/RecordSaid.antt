@@ -1,4 +1,5 @@
 -- What is said of a good record's codes and numbers are these, and they are such as a signature holds.
+use Rattle.std.specs.Prelude.{Some, None}
 use Prim.Native.Nat.{ℕ, zero, suc, ◌%◌, ◌<◌}
 use mathlib.Core.Path.{◌≡◌, refl, sym, ◌∙◌}
 use mathlib.Core.Logic.{◌⊎◌, inl, inr, ⊎_elim}
@@ -7,8 +8,6 @@ use native.Mathlib.Omega.{arith}
 use lib.Dec.{eqb, leb}
 use borrow.Author.Tests.{eqb-true, leb-true, ne_eqb, lt-leb}
 use Rattle.basis.proofs.Tests.{and_left}
-use Rattle.tcp.specs.declared.Mss.TheVariants as mss
-use Rattle.tcp.specs.declared.Wscale.TheVariants as wscale
 use Rattle.ttl.specs.declared.Ttl.TheVariants as ttl
 use Rattle.ttl.specs.Ttl.{byte_of}
 use Rattle.sigrecord.specs.declared.WindowSize.TheVariants as window
@@ -107,7 +106,7 @@ pub mss_held : (present n : ℕ) → n < 65536 → MssHeld (mss_of present n)
 unfolding mss_of
 mss_held present n h = by (eqb present 0)
   where
-    by : (a : Bool) → MssHeld (cond a mss.Absent (mss.Present n))
+    by : (a : Bool) → MssHeld (cond a None (Some n))
     by true = tt
     by false = h
 
@@ -115,7 +114,7 @@ pub scale_held : (present n : ℕ) → n < 256 → ScaleHeld (scale_of present n
 unfolding scale_of
 scale_held present n h = by (eqb present 0)
   where
-    by : (a : Bool) → ScaleHeld (cond a wscale.Absent (wscale.Present n))
+    by : (a : Bool) → ScaleHeld (cond a None (Some n))
     by true = tt
     by false = h
 

@@ -1,4 +1,5 @@
 -- A signature is read back from the record that its line means.
+use Rattle.std.specs.Prelude.{Option, Some, None}
 use Prim.Native.Nat.{ℕ, ◌+◌, ◌*◌, ◌/◌, ◌%◌, ◌^◌, ◌<◌}
 use mathlib.Core.Path.{◌≡◌, refl}
 use mathlib.Core.Bool.{true}
@@ -7,10 +8,6 @@ use native.Mathlib.Omega.{arith}
 use Rattle.basis.specs.Bytes.{be16, be32}
 use Rattle.quirks.specs.Named.{display_order}
 use Rattle.quirks.specs.Quirks.{bits_of}
-use Rattle.tcp.specs.declared.Mss.{Mss}
-use Rattle.tcp.specs.declared.Mss.TheVariants as mss
-use Rattle.tcp.specs.declared.Wscale.{Wscale}
-use Rattle.tcp.specs.declared.Wscale.TheVariants as wscale
 use Rattle.ttl.specs.declared.Ttl.{Ttl}
 use Rattle.ttl.specs.declared.Ttl.TheVariants as ttl
 use Rattle.ttl.specs.Ttl.{byte_of}
@@ -51,15 +48,15 @@ two_back n = omega arith
 one_back : (n : ℕ) → n < 256 → two n % 256 ≡ n
 one_back n h = omega arith
 
-mss_back : (m : Mss) → mss_of (mss_said m).form (two (mss_said m).number) ≡ m
+mss_back : (m : Option ℕ) → mss_of (mss_said m).form (two (mss_said m).number) ≡ m
 unfolding mss_of
-mss_back mss.Absent = refl
-mss_back (mss.Present n) = rw (two_back n)
+mss_back None = refl
+mss_back (Some n) = rw (two_back n)
 
-scale_back : (s : Wscale) → scale_of (scale_said s).form (scale_said s).number ≡ s
+scale_back : (s : Option ℕ) → scale_of (scale_said s).form (scale_said s).number ≡ s
 unfolding scale_of
-scale_back wscale.Absent = refl
-scale_back (wscale.Present n) = refl
+scale_back None = refl
+scale_back (Some n) = refl
 
 window_back : (w : WindowSize) → WindowHeld w → window_of (window_said w).form (two (window_said w).number) ≡ w
 unfolding window_of

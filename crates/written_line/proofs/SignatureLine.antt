@@ -1,14 +1,11 @@
 -- The line of a signature with its layout says them.
+use Rattle.std.specs.Prelude.{Option, Some, None}
 use Prim.Native.Nat.{ℕ, ◌+◌, ◌<◌, ◌≤◌}
 use mathlib.Core.Path.{refl}
 use mathlib.Core.List.{List}
 use native.Mathlib.Omega.{arith}
 use lib.ListN.{length}
 use Rattle.quirks.specs.Named.{display_order}
-use Rattle.tcp.specs.declared.Mss.{Mss}
-use Rattle.tcp.specs.declared.Mss.TheVariants as mss
-use Rattle.tcp.specs.declared.Wscale.{Wscale}
-use Rattle.tcp.specs.declared.Wscale.TheVariants as wscale
 use Rattle.ttl.specs.declared.Ttl.{Ttl}
 use Rattle.ttl.specs.declared.Ttl.TheVariants as ttl
 use Rattle.ttl.specs.Ttl.{byte_of}
@@ -57,15 +54,15 @@ form_fits (ttl.Distance t d) h = (omega (arith, h.1), omega (arith, h.1), refl)
 form_fits (ttl.Guess t) h = refl
 form_fits (ttl.Bad t) h = refl
 
-mss_fits : (m : Mss) → MssHeld m → Fits words.mss (mss_said m)
+mss_fits : (m : Option ℕ) → MssHeld m → Fits words.mss (mss_said m)
 unfolding words.mss any
-mss_fits mss.Absent h = refl
-mss_fits (mss.Present n) h = (omega arith, omega arith, refl)
+mss_fits None h = refl
+mss_fits (Some n) h = (omega arith, omega arith, refl)
 
-scale_fits : (s : Wscale) → ScaleHeld s → Fits words.scale (scale_said s)
+scale_fits : (s : Option ℕ) → ScaleHeld s → Fits words.scale (scale_said s)
 unfolding words.scale any
-scale_fits wscale.Absent h = refl
-scale_fits (wscale.Present n) h = (omega arith, omega arith, refl)
+scale_fits None h = refl
+scale_fits (Some n) h = (omega arith, omega arith, refl)
 
 window_fits : (w : WindowSize) → WindowHeld w → Fits words.window (window_said w)
 unfolding words.window any

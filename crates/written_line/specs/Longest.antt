@@ -1,14 +1,11 @@
 -- The longest lines: of a record 434 bytes, of an observation, whose window is a plain number, 432.
-use Rattle.std.specs.Prelude.{◌≡◌, List, [], ◌∷◌, ◌++◌, ℕ, zero, suc, length, replicate}
+use Rattle.std.specs.Prelude.{◌≡◌, List, [], ◌∷◌, ◌++◌, ℕ, zero, suc, length, replicate, Some, None, Ok}
 use Rattle.basis.specs.Ascii.{ascii}
 use Rattle.quirks.specs.Named.{seventeen}
 use Rattle.tcp.specs.declared.IpVersion.TheVariants as version
-use Rattle.tcp.specs.declared.Mss.TheVariants as mss
 use Rattle.tcp.specs.declared.PayloadSize.TheVariants as payload
-use Rattle.tcp.specs.declared.Wscale.TheVariants as wscale
 use Rattle.ttl.specs.declared.Ttl.TheVariants as ttl
 use Rattle.observable.specs.declared.TcpObservation.{TcpObservation}
-use Rattle.siglist.specs.declared.ListAnswer.TheVariants as list
 use Rattle.siglist.specs.List.{check_list}
 use Rattle.signature_line.specs.LineValues.{record_of}
 use Rattle.signature_line.specs.OneRecord.{list_of_one}
@@ -30,14 +27,14 @@ longest_observation =
       version = version.V4;
       ittl = ttl.Distance 255 255;
       olen = 255;
-      mss = mss.Present 65535;
+      mss = Some 65535;
       wsize = 65535;
       tot_hdr = 0;
-      wscale = wscale.Present 255;
+      wscale = Some 255;
       olayout = record { kinds = replicate 40 0; bytes = replicate 40 255; count = 40 };
       quirks = seventeen;
       pclass = payload.NonZero;
-      peer_mss = mss.Absent;
+      peer_mss = None;
       tos = 0;
     }
 
@@ -54,7 +51,7 @@ behind_window =
     ++ ascii ":df,id+,id-,ecn,0+,flow,seq-,ack+,ack-,uptr+,urgf+,pushf+,ts1-,ts2+,opt+,exws,bad:+"
 
 pub record LongestLines : Type 0 where
-  pub good_list : check_list longest_list ≡ list.Good
+  pub good_list : check_list longest_list ≡ (Ok tt)
   pub record_line : record_text longest_list 0 ≡ ascii "4:255+255:255:65535:mss*255" ++ behind_window
   pub record_length : length (record_text longest_list 0) ≡ 434
   pub held : ObservationHeld longest_observation

@@ -1,10 +1,6 @@
 -- The numbers of a signature and of an observation are such as their types hold.
-use Rattle.std.specs.Prelude.{ℕ, ◌<◌, ◌≡◌, length}
+use Rattle.std.specs.Prelude.{ℕ, ◌<◌, ◌≡◌, length, Option, Some, None}
 use Rattle.basis.specs.Bytes.{byte_at}
-use Rattle.tcp.specs.declared.Mss.{Mss}
-use Rattle.tcp.specs.declared.Mss.TheVariants as mss
-use Rattle.tcp.specs.declared.Wscale.{Wscale}
-use Rattle.tcp.specs.declared.Wscale.TheVariants as wscale
 use Rattle.ttl.specs.declared.Ttl.{Ttl}
 use Rattle.ttl.specs.declared.Ttl.TheVariants as ttl
 use Rattle.observable.specs.declared.TcpObservation.{TcpObservation}
@@ -25,13 +21,13 @@ TtlHeld (ttl.Distance t d) = IsByte t × IsByte d
 TtlHeld (ttl.Guess t) = IsByte t
 TtlHeld (ttl.Bad t) = IsByte t
 
-abbrev pub MssHeld : Mss → Type 0
-MssHeld mss.Absent = Unit {0}
-MssHeld (mss.Present n) = IsWord n
+abbrev pub MssHeld : Option ℕ → Type 0
+MssHeld None = Unit {0}
+MssHeld (Some n) = IsWord n
 
-abbrev pub ScaleHeld : Wscale → Type 0
-ScaleHeld wscale.Absent = Unit {0}
-ScaleHeld (wscale.Present n) = IsByte n
+abbrev pub ScaleHeld : Option ℕ → Type 0
+ScaleHeld None = Unit {0}
+ScaleHeld (Some n) = IsByte n
 
 abbrev pub WindowHeld : WindowSize → Type 0
 WindowHeld window.Any = Unit {0}

@@ -1,10 +1,9 @@
 -- From a record to its line and back, and from a line to its record and back (document 02, Wish 7).
-use Rattle.std.specs.Prelude.{ℕ, ◌≤◌, ◌≡◌, List, length}
+use Rattle.std.specs.Prelude.{ℕ, ◌≤◌, ◌≡◌, List, length, Result, Ok}
 use Rattle.text.specs.Written.{Lined}
 use Rattle.observable.specs.declared.TcpObservation.{TcpObservation}
 use Rattle.sigrecord.specs.Record.{signature_of}
-use Rattle.written_line.specs.declared.Wrote.{Wrote}
-use Rattle.written_line.specs.declared.Wrote.TheVariants as wrote
+use Rattle.refusals.specs.declared.Refusal.{Refusal}
 use Rattle.signature_line.specs.Answer.{read_of}
 use Rattle.signature_line.specs.LineReader.{read_line}
 use Rattle.signature_line.specs.Meaning.{LineMeaning}
@@ -27,8 +26,8 @@ pub record ObservationRead (o : TcpObservation) : Type 0 where
   pub counted : meaning.layout.count ≡ o.olayout.count
 
 -- A line was written, and this one.
-abbrev pub whole_line : List ℕ → Lined Wrote
-whole_line s = record { answer = wrote.Line (length s); line = s }
+abbrev pub whole_line : List ℕ → Lined (Result ℕ Refusal)
+whole_line s = record { answer = Ok (length s); line = s }
 
 -- ", and a line in written form is reproduced byte for byte": read, and written from the list of the one record that was read, into any
 -- buffer that has room.

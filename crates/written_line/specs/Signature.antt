@@ -1,18 +1,10 @@
 -- What a line says of a signature and its layout, field by field, in the codes of a record (document 01, "The signature list"): what is
 -- written of a record, and of an observation (document 02, Wish 7).
-use Rattle.std.specs.Prelude.{ℕ, cond, List, [], ◌∷◌, eqb}
+use Rattle.std.specs.Prelude.{ℕ, cond, List, [], ◌∷◌, eqb, Option, Some, None}
 use Rattle.quirks.specs.declared.Quirk.{Quirk}
 use Rattle.quirks.specs.declared.QuirkSet.{QuirkSet}
 use Rattle.quirks.specs.Named.{display_order}
 use Rattle.quirks.specs.Quirks.{bit_of, contains}
-use Rattle.tcp.specs.declared.IpVersion.{IpVersion}
-use Rattle.tcp.specs.declared.IpVersion.TheVariants as seen
-use Rattle.tcp.specs.declared.Mss.{Mss}
-use Rattle.tcp.specs.declared.Mss.TheVariants as mss
-use Rattle.tcp.specs.declared.PayloadSize.{PayloadSize}
-use Rattle.tcp.specs.declared.PayloadSize.TheVariants as carried
-use Rattle.tcp.specs.declared.Wscale.{Wscale}
-use Rattle.tcp.specs.declared.Wscale.TheVariants as wscale
 use Rattle.ttl.specs.declared.Ttl.{Ttl}
 use Rattle.ttl.specs.declared.Ttl.TheVariants as ttl
 use Rattle.ttl.specs.Ttl.{byte_of}
@@ -24,6 +16,7 @@ use Rattle.sigrecord.specs.declared.SigVersion.{SigVersion}
 use Rattle.sigrecord.specs.declared.SigVersion.TheVariants as version
 use Rattle.sigrecord.specs.declared.WindowSize.{WindowSize}
 use Rattle.sigrecord.specs.declared.WindowSize.TheVariants as window
+pub use Rattle.sigrecord.specs.Seen.{version_seen, payload_seen}
 use Rattle.grammar.specs.Table.{Said, said}
 use Rattle.signature_line.specs.Meaning.{Fields}
 use Rattle.signature_line.specs.Words.{unnamed}
@@ -41,13 +34,13 @@ form_said (ttl.Guess t) = said 2 0
 form_said (ttl.Bad t) = said 3 0
 
 -- "an absent MSS or scale as `*`"
-abbrev pub mss_said : Mss → Said
-mss_said mss.Absent = said 0 0
-mss_said (mss.Present n) = said 1 n
+abbrev pub mss_said : Option ℕ → Said
+mss_said None = said 0 0
+mss_said (Some n) = said 1 n
 
-abbrev pub scale_said : Wscale → Said
-scale_said wscale.Absent = said 0 0
-scale_said (wscale.Present n) = said 1 n
+abbrev pub scale_said : Option ℕ → Said
+scale_said None = said 0 0
+scale_said (Some n) = said 1 n
 
 abbrev pub window_said : WindowSize → Said
 window_said window.Any = said 0 0
@@ -93,14 +86,6 @@ fields_of s entries =
     }
 
 -- ---- an observation
-
-abbrev pub version_seen : IpVersion → SigVersion
-version_seen seen.V4 = version.V4
-version_seen seen.V6 = version.V6
-
-abbrev pub payload_seen : PayloadSize → SigPayload
-payload_seen carried.Zero = payload.Zero
-payload_seen carried.NonZero = payload.NonZero
 
 -- An observation as a signature of its own: "its window as a plain number, its TTL in its own form".
 unfoldable pub signature_seen : TcpObservation → Signature

@@ -8,7 +8,7 @@ use Rattle.acceptance.proofs.Promised.{answered}
 pub promises : Promises
 promises =
     record {
-      behind_one = λ κs s at good byte. answered tt (unique.behind_one κs s at good byte) (λ m. m) refl;
+      behind_one = λ κs s from byte. answered tt (unique.behind_one κs s from byte) (λ m. m) refl;
       parse_ip_version_one = λ κs s from. answered tt (unique.parse_ip_version_one κs s from) (λ m. m) refl;
       parse_olen_one = λ κs s from. answered tt (unique.parse_olen_one κs s from) (λ m. m) refl;
       parse_ttl_one = λ κs s from. answered tt (unique.parse_ttl_one κs s from) (λ m. m) refl;

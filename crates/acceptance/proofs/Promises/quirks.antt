@@ -17,4 +17,5 @@ promises =
       add_if_one = λ self test quirk. answered tt (unique.add_if_one self test quirk) (λ m. m) refl;
       difference_one = λ self other. answered tt (unique.difference_one self other) (λ m. m) refl;
       named_sets_one = answered tt (unique.named_sets_one) (λ m. m) refl;
+      display_order_one = answered tt (unique.display_order_one) (λ m. m) refl;
     }

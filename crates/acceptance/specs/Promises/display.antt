@@ -1,11 +1,9 @@
 -- Demand 1, a line for each public function of display.
 -- tools/promises makes this file from the contracts, and the gate holds it to them.
 use Rattle.std.specs.Borrow.{MutBor}
-use Rattle.std.specs.Prelude.{ℕ, List, length}
+use Rattle.std.specs.Prelude.{ℕ, List, Option, length}
 use contract.Lifetimes.{Lfts}
 use Rattle.text.specs.Written.{left_with}
-use Rattle.tcp.specs.declared.Mss.{Mss}
-use Rattle.tcp.specs.declared.Wscale.{Wscale}
 use Rattle.quirks.specs.declared.Quirk.{Quirk}
 use Rattle.quirks.specs.Quirks.{bit_of}
 use Rattle.ttl.specs.declared.Ttl.{Ttl}
@@ -54,11 +52,11 @@ pub record Promises : Type 0 where
       → Answers ttl_length'.signature tt (ttl_length_reads.Pre tt) (ttl_length_reads.Post tt)
       (ttl, tt) (length (ttl_text (said 0 (byte_of ttl)) (form_said ttl)))
   pub mss_length_one
-      : (mss : Mss)
+      : (mss : Option ℕ)
       → Answers mss_length'.signature tt (mss_length_reads.Pre tt) (mss_length_reads.Post tt)
       (mss, tt) (length (spelt words.mss (mss_said mss)))
   pub wscale_length_one
-      : (wscale : Wscale)
+      : (wscale : Option ℕ)
       → Answers wscale_length'.signature tt (wscale_length_reads.Pre tt) (wscale_length_reads.Post tt)
       (wscale, tt) (length (spelt words.scale (scale_said wscale)))
   pub window_length_one
@@ -84,11 +82,11 @@ pub record Promises : Type 0 where
       (buffer, (at, (ttl, tt))) (λ bytes. (left_with buffer bytes, (at, (ttl, tt)))) buffer.now at
       (ttl_text (said 0 (byte_of ttl)) (form_said ttl))
   pub put_mss_one
-      : (κs : Lfts 1) (buffer : MutBor (List ℕ)) (at : ℕ) (mss : Mss)
+      : (κs : Lfts 1) (buffer : MutBor (List ℕ)) (at : ℕ) (mss : Option ℕ)
       → BufferAnswers put_mss'.signature κs (put_mss_reads.Pre κs) (put_mss_reads.Post κs)
       (buffer, (at, (mss, tt))) (λ bytes. (left_with buffer bytes, (at, (mss, tt)))) buffer.now at (spelt words.mss (mss_said mss))
   pub put_wscale_one
-      : (κs : Lfts 1) (buffer : MutBor (List ℕ)) (at : ℕ) (wscale : Wscale)
+      : (κs : Lfts 1) (buffer : MutBor (List ℕ)) (at : ℕ) (wscale : Option ℕ)
       → BufferAnswers put_wscale'.signature κs (put_wscale_reads.Pre κs) (put_wscale_reads.Post κs)
       (buffer, (at, (wscale, tt))) (λ bytes. (left_with buffer bytes, (at, (wscale, tt)))) buffer.now at
       (spelt words.scale (scale_said wscale))

@@ -1,10 +1,10 @@
 -- Demand 1, a line for each public function of distances.
 -- tools/promises makes this file from the contracts, and the gate holds it to them.
-use Rattle.std.specs.Prelude.{ℕ}
+use Rattle.std.specs.Prelude.{ℕ, Option}
 use Rattle.tcp.specs.declared.IpVersion.{IpVersion}
 use Rattle.tcp.specs.declared.PayloadSize.{PayloadSize}
 use Rattle.ttl.specs.declared.Ttl.{Ttl}
-use Rattle.window_size.specs.declared.Multiplier.{Multiplier}
+use Rattle.window_size.specs.declared.WindowMultiplier.{WindowMultiplier}
 use Rattle.sigrecord.specs.declared.WindowSize.{WindowSize}
 use Rattle.sigrecord.specs.Record.{payload_of, version_of}
 use Rattle.distances.specs.DistanceGates.{payload_matches, version_matches, window_matches}
@@ -35,7 +35,7 @@ pub record Promises : Type 0 where
       → Answers report_hop_distance'.signature tt (report_hop_distance_reads.Pre tt) (report_hop_distance_reads.Post tt)
       (observed, (signature, tt)) (reported_hops observed signature)
   pub window_size_matches_one
-      : (observed : ℕ) (signature : WindowSize) (multiplier : Multiplier)
+      : (observed : ℕ) (signature : WindowSize) (multiplier : Option WindowMultiplier)
       → Answers window_size_matches'.signature tt (window_size_matches_reads.Pre tt) (window_size_matches_reads.Post tt)
       (observed, (signature, (multiplier, tt))) (window_matches observed signature multiplier)
   pub payload_size_matches_one

@@ -1,11 +1,9 @@
 -- Demand 1, a line for each public function of matching.
 -- tools/promises makes this file from the contracts, and the gate holds it to them.
 use Rattle.std.specs.Borrow.{Bor}
-use Rattle.std.specs.Prelude.{ℕ, List}
+use Rattle.std.specs.Prelude.{ℕ, List, Option}
 use contract.Lifetimes.{Lfts}
 use Rattle.tcp.specs.declared.IpVersion.{IpVersion}
-use Rattle.tcp.specs.declared.Mss.{Mss}
-use Rattle.tcp.specs.declared.Wscale.{Wscale}
 use Rattle.quirks.specs.declared.QuirkSet.{QuirkSet}
 use Rattle.observable.specs.declared.TcpObservation.{TcpObservation}
 use Rattle.sigrecord.specs.declared.SigVersion.{SigVersion}
@@ -45,11 +43,11 @@ pub record Promises : Type 0 where
       → Answers olen_matches'.signature tt (olen_matches_reads.Pre tt) (olen_matches_reads.Post tt)
       (observed, (signature, tt)) (olen_matches observed signature)
   pub mss_matches_one
-      : (observed signature : Mss)
+      : (observed signature : Option ℕ)
       → Answers mss_matches'.signature tt (mss_matches_reads.Pre tt) (mss_matches_reads.Post tt)
       (observed, (signature, tt)) (mss_matches observed signature)
   pub wscale_matches_one
-      : (observed signature : Wscale)
+      : (observed signature : Option ℕ)
       → Answers wscale_matches'.signature tt (wscale_matches_reads.Pre tt) (wscale_matches_reads.Post tt)
       (observed, (signature, tt)) (scale_matches observed signature)
   pub olayout_matches_one
@@ -57,7 +55,7 @@ pub record Promises : Type 0 where
       → Answers olayout_matches'.signature κs (olayout_matches_reads.Pre κs) (olayout_matches_reads.Post κs)
       (kinds, (bytes, (count, (entries, (declared, tt))))) (good_layout_fits count kinds.now bytes.now declared entries.now)
   pub count_and_scale_match_one
-      : (κs : Lfts 1) (count : ℕ) (wscale : Wscale) (raw : Bor (List ℕ))
+      : (κs : Lfts 1) (count : ℕ) (wscale : Option ℕ) (raw : Bor (List ℕ))
       → Answers count_and_scale_match'.signature κs (count_and_scale_match_reads.Pre κs) (count_and_scale_match_reads.Post κs)
       (count, (wscale, (raw, tt))) (count_and_scale_match count wscale raw.now)
   pub other_gates_match_one

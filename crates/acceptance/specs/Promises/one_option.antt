@@ -1,10 +1,8 @@
 -- Demand 1, a line for each public function of one_option.
 -- tools/promises makes this file from the contracts, and the gate holds it to them.
 use Rattle.std.specs.Borrow.{Bor}
-use Rattle.std.specs.Prelude.{ℕ, Bool, List}
+use Rattle.std.specs.Prelude.{ℕ, Bool, List, Option}
 use contract.Lifetimes.{Lfts}
-use Rattle.tcp.specs.declared.Mss.{Mss}
-use Rattle.tcp.specs.declared.Wscale.{Wscale}
 use Rattle.quirks.specs.declared.QuirkSet.{QuirkSet}
 use Rattle.one_option.specs.Options.{step_of}
 use Rattle.one_option.specs.See.{later_mss, later_quirks, later_scale}
@@ -24,11 +22,11 @@ pub record Promises : Type 0 where
       → Answers option_step'.signature κs (option_step_reads.Pre κs) (option_step_reads.Post κs)
       (options, (at, tt)) (step_of options.now at)
   pub later_mss_one
-      : (κs : Lfts 1) (kind : ℕ) (own : Bor (List ℕ)) (mss : Mss)
+      : (κs : Lfts 1) (kind : ℕ) (own : Bor (List ℕ)) (mss : Option ℕ)
       → Answers later_mss'.signature κs (later_mss_reads.Pre κs) (later_mss_reads.Post κs)
       (kind, (own, (mss, tt))) (later_mss mss (record { kind = kind; own = own.now }))
   pub later_scale_one
-      : (κs : Lfts 1) (kind : ℕ) (own : Bor (List ℕ)) (wscale : Wscale)
+      : (κs : Lfts 1) (kind : ℕ) (own : Bor (List ℕ)) (wscale : Option ℕ)
       → Answers later_scale'.signature κs (later_scale_reads.Pre κs) (later_scale_reads.Post κs)
       (kind, (own, (wscale, tt))) (later_scale wscale (record { kind = kind; own = own.now }))
   pub later_quirks_one

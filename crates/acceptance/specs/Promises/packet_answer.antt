@@ -1,9 +1,8 @@
 -- Demand 1, a line for each public function of packet_answer.
 -- tools/promises makes this file from the contracts, and the gate holds it to them.
 use Rattle.std.specs.Borrow.{Bor}
-use Rattle.std.specs.Prelude.{ℕ, List}
+use Rattle.std.specs.Prelude.{ℕ, List, Option}
 use contract.Lifetimes.{Lfts}
-use Rattle.tcp.specs.declared.Mss.{Mss}
 use Rattle.flow.specs.declared.Mode.{Mode}
 use Rattle.packet_answer.specs.Packet.{answer_in, answer_of, peer_of}
 use Rattle.packet_answer.specs.contracts.answer_packet as answer_packet'
@@ -19,10 +18,10 @@ pub record Promises : Type 0 where
       : (number : ℕ)
       → Answers peer_of'.signature tt (peer_of_reads.Pre tt) (peer_of_reads.Post tt) (number, tt) (peer_of number)
   pub answer_packet_in_one
-      : (κs : Lfts 2) (packet : Bor (List ℕ)) (peer : Mss) (list : Bor (List ℕ)) (mode : Mode)
+      : (κs : Lfts 2) (packet : Bor (List ℕ)) (peer : Option ℕ) (list : Bor (List ℕ)) (mode : Mode)
       → Answers answer_packet_in'.signature κs (answer_packet_in_reads.Pre κs) (answer_packet_in_reads.Post κs)
       (packet, (peer, (list, (mode, tt)))) (answer_in mode packet.now peer list.now)
   pub answer_packet_one
-      : (κs : Lfts 2) (packet : Bor (List ℕ)) (peer : Mss) (list : Bor (List ℕ))
+      : (κs : Lfts 2) (packet : Bor (List ℕ)) (peer : Option ℕ) (list : Bor (List ℕ))
       → Answers answer_packet'.signature κs (answer_packet_reads.Pre κs) (answer_packet_reads.Post κs)
       (packet, (peer, (list, tt))) (answer_of packet.now peer list.now)

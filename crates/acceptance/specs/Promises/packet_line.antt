@@ -1,8 +1,9 @@
 -- Demand 1, a line for each public function of packet_line.
 -- tools/promises makes this file from the contracts, and the gate holds it to them.
 use Rattle.std.specs.Borrow.{Bor, MutBor}
-use Rattle.std.specs.Prelude.{ℕ, List}
+use Rattle.std.specs.Prelude.{ℕ, List, Result}
 use contract.Lifetimes.{Lfts}
+use Rattle.refusals.specs.declared.PacketRefusal.{PacketRefusal}
 use Rattle.text.specs.Written.{left_with}
 use Rattle.flow.specs.declared.Reading.{Reading}
 use Rattle.packet_answer.specs.declared.PacketAnswer.{PacketAnswer}
@@ -15,7 +16,8 @@ use Rattle.acceptance.specs.Promised.{Answers, BufferAnswers}
 
 pub record Promises : Type 0 where
   pub put_packet_one
-      : (κs : Lfts 1) (buffer : MutBor (List ℕ)) (at : ℕ) (answer : PacketAnswer) (reading : Reading)
+      : (κs : Lfts 1) (buffer : MutBor (List ℕ)) (at : ℕ) (answer : Result PacketAnswer PacketRefusal)
+      (reading : Result Reading PacketRefusal)
       → BufferAnswers put_packet'.signature κs (put_packet_reads.Pre κs) (put_packet_reads.Post κs)
       (buffer, (at, (answer, (reading, tt)))) (λ bytes. (left_with buffer bytes, (at, (answer, (reading, tt))))) buffer.now at
       (packet_line answer reading)

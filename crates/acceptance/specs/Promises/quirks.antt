@@ -3,7 +3,7 @@
 use Rattle.std.specs.Prelude.{ℕ, Bool}
 use Rattle.quirks.specs.declared.Quirk.{Quirk}
 use Rattle.quirks.specs.declared.QuirkSet.{QuirkSet}
-use Rattle.quirks.specs.Named.{named_sets}
+use Rattle.quirks.specs.Named.{display_order, named_sets}
 use Rattle.quirks.specs.Quirks.{add_if, bit_of, bits_of, contains, difference, is_empty, set_of, with}
 use Rattle.quirks.specs.contracts.Quirk.bit as bit'
 use Rattle.quirks.specs.contracts.QuirkSet.add_if as add_if'
@@ -13,6 +13,7 @@ use Rattle.quirks.specs.contracts.QuirkSet.difference as difference'
 use Rattle.quirks.specs.contracts.QuirkSet.from_bits as from_bits'
 use Rattle.quirks.specs.contracts.QuirkSet.insert as insert'
 use Rattle.quirks.specs.contracts.QuirkSet.is_empty as is_empty'
+use Rattle.quirks.specs.contracts.display_order as display_order'
 use Rattle.quirks.specs.contracts.named_sets as named_sets'
 use Rattle.quirks.proofs.Quirk.bit.Reads as bit_reads
 use Rattle.quirks.proofs.QuirkSet.add_if.Reads as add_if_reads
@@ -22,6 +23,7 @@ use Rattle.quirks.proofs.QuirkSet.difference.Reads as difference_reads
 use Rattle.quirks.proofs.QuirkSet.from_bits.Reads as from_bits_reads
 use Rattle.quirks.proofs.QuirkSet.insert.Reads as insert_reads
 use Rattle.quirks.proofs.QuirkSet.is_empty.Reads as is_empty_reads
+use Rattle.quirks.proofs.display_order.Reads as display_order_reads
 use Rattle.quirks.proofs.named_sets.Reads as named_sets_reads
 use Rattle.acceptance.specs.Promised.{Answers}
 
@@ -47,3 +49,4 @@ pub record Promises : Type 0 where
       : (self other : QuirkSet)
       → Answers difference'.signature tt (difference_reads.Pre tt) (difference_reads.Post tt) (self, (other, tt)) (difference self other)
   pub named_sets_one : Answers named_sets'.signature tt (named_sets_reads.Pre tt) (named_sets_reads.Post tt) tt named_sets
+  pub display_order_one : Answers display_order'.signature tt (display_order_reads.Pre tt) (display_order_reads.Post tt) tt display_order

@@ -1,8 +1,9 @@
 -- Demand 1, a line for each public function of report.
 -- tools/promises makes this file from the contracts, and the gate holds it to them.
 use Rattle.std.specs.Borrow.{Bor, MutBor}
-use Rattle.std.specs.Prelude.{ℕ, Bool, List, ◌++◌}
+use Rattle.std.specs.Prelude.{ℕ, Bool, List, Result, ◌++◌}
 use contract.Lifetimes.{Lfts}
+use Rattle.refusals.specs.declared.PacketRefusal.{PacketRefusal}
 use Rattle.text.specs.Decimal.{decimal, newline}
 use Rattle.text.specs.Written.{left_with}
 use Rattle.flow.specs.declared.Mode.{Mode}
@@ -48,6 +49,6 @@ pub record Promises : Type 0 where
       → BufferAnswers put_numbered'.signature κs (put_numbered_reads.Pre κs) (put_numbered_reads.Post κs)
       (page, (at, (word, (n, tt)))) (λ bytes. (left_with page bytes, (at, (word, (n, tt))))) page.now at (word.now ++ decimal n ++ newline)
   pub put_answer_one
-      : (κs : Lfts 1) (page : MutBor (List ℕ)) (at : ℕ) (answer : PacketAnswer)
+      : (κs : Lfts 1) (page : MutBor (List ℕ)) (at : ℕ) (answer : Result PacketAnswer PacketRefusal)
       → BufferAnswers put_answer'.signature κs (put_answer_reads.Pre κs) (put_answer_reads.Post κs)
       (page, (at, (answer, tt))) (λ bytes. (left_with page bytes, (at, (answer, tt)))) page.now at (answer_text answer)

@@ -1,12 +1,9 @@
 use mathlib.Core.Path.{◌≡◌}
-use Prim.Native.Nat.{◌+◌, ◌*◌, ◌-◌, ◌≤◌}
+use Prim.Native.Nat.{◌+◌, ◌*◌, ◌≤◌}
 use lib.ListN.{length}
 use Rattle.keeper_file.specs.FileText.{file_text}
 use Rattle.file_writer.proofs.Files.{lines_left}
 use Rattle.file_writer.proofs.file_length.Given as goal
 
 abbrev pub invariant-loop-i : goal.invariant-loop-i
-invariant-loop-i l = (l.i ≤ l.count) × (l.size ≤ 443 * l.i) × (l.size + length (lines_left l.list l.count l.i) ≡ length (file_text l.list))
-
-abbrev pub decreases-loop-i : goal.decreases-loop-i
-decreases-loop-i l = l.count - l.i
+invariant-loop-i l = (l.size ≤ 443 * l.i) × (l.size + length (lines_left l.list l.count l.i) ≡ length (file_text l.list))

@@ -11,7 +11,6 @@ pub loop-i-init : goal.loop-i-init
 loop-i-init c =
     let a = c.args in (
       search rules,
-      search rules,
       λ n b. subst (λ (s : List ℕ). Put a.buffer.now 0 s n b) (file_whole a.list.now a.count c.requires),
     )
 
@@ -21,8 +20,7 @@ loop-i-preserved c =
     let l = c.loop-i in
     let a = c.args in (
       search rules,
-      search rules,
-      λ n b h. l.invariant.2 n b
+      λ n b h. l.invariant.1 n b
           (put_turn a.list.now a.count l.i l.buffer line.new.buffer l.next b line.result n
           (λ k. omega (arith, c.type_inv.list k)) c.requires c.loop-i-test.true line.ensures h),
     )
@@ -31,4 +29,4 @@ pub returns : goal.returns
 returns c =
     let l = c.loop-i in
     let a = c.args in
-    l.invariant.2 _ _ (put_end a.list.now a.count l.i l.buffer l.next c.loop-i-test.false)
+    l.invariant.1 _ _ (put_end a.list.now a.count l.i l.buffer l.next c.loop-i-test.false)

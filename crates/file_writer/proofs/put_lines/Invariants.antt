@@ -1,6 +1,6 @@
 use mathlib.Core.Path.{◌≡◌}
 use mathlib.Core.List.{List}
-use Prim.Native.Nat.{ℕ, ◌-◌, ◌≤◌}
+use Prim.Native.Nat.{ℕ}
 use lib.ListN.{length}
 use Rattle.keeper_file.specs.FileText.{file_text}
 use Rattle.text.specs.Written.{Put}
@@ -8,9 +8,5 @@ use Rattle.file_writer.proofs.Files.{lines_left}
 use Rattle.file_writer.proofs.put_lines.Given as goal
 
 abbrev pub invariant-loop-i : goal.invariant-loop-i
-invariant-loop-i l = (l.i ≤ l.count)
-    × (length l.buffer ≡ length l.initial.buffer)
+invariant-loop-i l = (length l.buffer ≡ length l.initial.buffer)
     × ((n : ℕ) (b : List ℕ) → Put l.buffer l.next (lines_left l.list l.count l.i) n b → Put l.initial.buffer 0 (file_text l.list) n b)
-
-abbrev pub decreases-loop-i : goal.decreases-loop-i
-decreases-loop-i l = l.count - l.i

@@ -14,12 +14,12 @@ returns-in_default c =
 pub returns-then-areas-index : goal.returns-then-areas-index
 returns-then-areas-index c =
     let a = c.args in
-    let fit = header_areas a.list.now _ (sym c.read_header.ensures ∙ c.in-Fits.is) in
+    let fit = header_areas a.list.now _ (sym c.read_header.ensures ∙ c.in-Some.is) in
     rw (past_the_last a.list.now a.index (omega (arith, fit.records, c.if-areas-index.true))) (put_none _ _)
 
 pub returns : goal.returns
 returns c =
     let a = c.args in
-    let fit = header_areas a.list.now _ (sym c.read_header.ensures ∙ c.in-Fits.is) in
+    let fit = header_areas a.list.now _ (sym c.read_header.ensures ∙ c.in-Some.is) in
     shown_put a.list.now a.index _ _ _ _ _ _ _ _ _ _ fit c.if-areas-index.false c.record_at.ensures c.put_head-next.ensures
     c.put_listed-behind.ensures c.put_byte.ensures

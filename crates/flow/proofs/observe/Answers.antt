@@ -8,12 +8,12 @@ pub returns : goal.returns
 returns c =
     let a = c.args in
     simp (
-      c.tcp_observation.ensures,
+      c.observation.ensures,
       c.peer_taken.ensures,
       c.walk_options-walk.ensures,
       c.stop_of.ensures,
       c.shown_quirks-quirks.ensures,
       c.options_end-end.ensures,
-      part_raised 20 (options_end a.tcp.now) a.tcp.now,
+      part_raised 20 (options_end a.tcp.bytes.now) a.tcp.bytes.now,
     )
-    (observed_walk a.mode a.facts a.tcp.now a.syn _)
+    (observed_walk a.mode a.facts a.tcp.bytes.now a.syn _)

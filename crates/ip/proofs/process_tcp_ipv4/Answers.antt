@@ -1,7 +1,7 @@
 -- `ip::process_tcp_ipv4` meets its contract.
+use Rattle.std.specs.Prelude.{Ok}
 use Rattle.ip.proofs.Ip.{v4_short, v4_facts}
 use Rattle.ip.specs.Ip.{ipv4_facts, read_ipv4}
-use Rattle.ip.specs.declared.IpRead.TheVariants.{Facts}
 use mathlib.Core.Path.{◌≡◌, sym, ◌∙◌, ap}
 use Rattle.rfc.specs.Rfc791.{data_start, data_end}
 use Rattle.basis.proofs.Rules.{cases}
@@ -35,5 +35,5 @@ returns c =
     let p = c.args.packet.now in
     let whole = sym c.is_fragment.ensures ∙ c.if-is_fragment.false in
     let end : c.least-end.result ≡ data_end p = omega arith in
-    ap Facts (c.ipv4_facts.ensures ∙ ap (ipv4_facts p (data_start p)) end)
+    ap Ok (c.ipv4_facts.ensures ∙ ap (ipv4_facts p (data_start p)) end)
     ∙ sym (v4_facts p (omega arith) (omega arith) (omega arith) whole (omega arith))

@@ -1,7 +1,7 @@
 -- `ip::process_tcp_ipv6` meets its contract.
+use Rattle.std.specs.Prelude.{Ok}
 use Rattle.ip.proofs.Ip.{v6_short, v6_facts}
 use Rattle.ip.specs.Ip.{ipv6_facts, read_ipv6}
-use Rattle.ip.specs.declared.IpRead.TheVariants.{Facts}
 use mathlib.Core.Path.{◌≡◌, sym, ◌∙◌, ap}
 use Rattle.rfc.specs.Rfc8200.{payload_end}
 use Rattle.basis.proofs.Rules.{cases}
@@ -25,5 +25,5 @@ pub returns : goal.returns
 returns c =
     let p = c.args.packet.now in
     let end : c.least-end.result ≡ payload_end p = omega arith in
-    ap Facts (c.ipv6_facts.ensures ∙ ap (ipv6_facts p) end)
+    ap Ok (c.ipv6_facts.ensures ∙ ap (ipv6_facts p) end)
     ∙ sym (v6_facts p (omega arith) (omega arith) (omega arith))

@@ -1,83 +1,38 @@
 -- `keeper_line::kept_at` meets its contract.
-use Rattle.keeper_line.proofs.Turns.{nothing_at, feed_inside, starts_before, ends_within, passes, reads}
+use Rattle.keeper_line.proofs.Turns.{nothing_at, feed_inside, starts_before, ends_within, reads}
 use borrow.Author.Rules.{rules}
 use Rattle.keeper_line.proofs.kept_at.Goals as goal
+use Rattle.keeper_line.proofs.kept_at.Goals.{then-passed_over, else-passed_over}
 
 pub returns-then-file-at : goal.returns-then-file-at
-returns-then-file-at c = nothing_at _ _ c.if-file-at.true c.refused_at.result c.refused_at.ensures
+returns-then-file-at c = nothing_at _ _ c.if-file-at.true
 
-pub slice_bounds-passed_over-count : goal.slice_bounds-passed_over-count
-slice_bounds-passed_over-count c =
-    let e = c.text_end-end in
+pub slice_bounds-text-count : goal.slice_bounds-text-count
+slice_bounds-text-count c =
     let f = c.feed_from-feed in
-    let h = c.if-file-at.false in
-    starts_before _ _ h f.result e.result f.ensures e.ensures
+    starts_before _ _ c.if-file-at.false f.result c.text_end.result f.ensures c.text_end.ensures
 
-pub slice_bounds-passed_over-start : goal.slice_bounds-passed_over-start
-slice_bounds-passed_over-start c =
-    let e = c.text_end-end in
+pub slice_bounds-text-start : goal.slice_bounds-text-start
+slice_bounds-text-start c =
     let f = c.feed_from-feed in
-    let h = c.if-file-at.false in
-    starts_before _ _ h f.result e.result f.ensures e.ensures
+    starts_before _ _ c.if-file-at.false f.result c.text_end.result f.ensures c.text_end.ensures
 
-pub slice_bounds-passed_over-end : goal.slice_bounds-passed_over-end
-slice_bounds-passed_over-end c =
-    let e = c.text_end-end in
+pub slice_bounds-text-end : goal.slice_bounds-text-end
+slice_bounds-text-end c =
     let f = c.feed_from-feed in
-    let h = c.if-file-at.false in
-    ends_within _ _ h f.result e.result f.ensures e.ensures
+    ends_within _ _ c.if-file-at.false f.result c.text_end.result f.ensures c.text_end.ensures
 
 pub overflow_add-result : goal.overflow_add-result
 overflow_add-result c =
-    let e = c.text_end-end in
     let f = c.feed_from-feed in
-    let h = c.if-file-at.false in
-    let inside = feed_inside _ _ h f.result e.result f.ensures e.ensures in
+    let inside = feed_inside _ _ c.if-file-at.false f.result c.text_end.result f.ensures c.text_end.ensures in
     search rules
-
-pub returns-then-passed_over : goal.returns-then-passed_over
-returns-then-passed_over c =
-    let e = c.text_end-end in
-    let f = c.feed_from-feed in
-    let h = c.if-file-at.false in
-    let p = c.passed_over in
-    passes _ _ h f.result e.result f.ensures e.ensures p.result p.ensures c.if-passed_over.true
-    c.refused_at-then-passed_over.result c.refused_at-then-passed_over.ensures
-
-pub overflow_add-result-2 : goal.overflow_add-result-2
-overflow_add-result-2 c =
-    let e = c.text_end-end in
-    let f = c.feed_from-feed in
-    let h = c.if-file-at.false in
-    let inside = feed_inside _ _ h f.result e.result f.ensures e.ensures in
-    search rules
-
-pub slice_bounds-read_kept-count : goal.slice_bounds-read_kept-count
-slice_bounds-read_kept-count c =
-    let e = c.text_end-end in
-    let f = c.feed_from-feed in
-    let h = c.if-file-at.false in
-    starts_before _ _ h f.result e.result f.ensures e.ensures
-
-pub slice_bounds-read_kept-start : goal.slice_bounds-read_kept-start
-slice_bounds-read_kept-start c =
-    let e = c.text_end-end in
-    let f = c.feed_from-feed in
-    let h = c.if-file-at.false in
-    starts_before _ _ h f.result e.result f.ensures e.ensures
-
-pub slice_bounds-read_kept-end : goal.slice_bounds-read_kept-end
-slice_bounds-read_kept-end c =
-    let e = c.text_end-end in
-    let f = c.feed_from-feed in
-    let h = c.if-file-at.false in
-    ends_within _ _ h f.result e.result f.ensures e.ensures
 
 pub returns : goal.returns
 returns c =
-    let e = c.text_end-end in
     let f = c.feed_from-feed in
-    let h = c.if-file-at.false in
-    let p = c.passed_over in
-    reads _ _ h f.result e.result f.ensures e.ensures p.result p.ensures c.if-passed_over.false
-    c.read_kept.result c.read_kept.ensures
+    reads _ _ c.if-file-at.false f.result c.text_end.result f.ensures c.text_end.ensures c.if-passed_over.read
+    (elim c.if-passed_over.branch [
+      | then-passed_over w ↦ rw (w.read-is, ← c.passed_over.ensures, w.if-passed_over.true)
+      | else-passed_over w ↦ rw (w.read-is, ← c.passed_over.ensures, w.if-passed_over.false, w.read_kept.ensures)
+    ])

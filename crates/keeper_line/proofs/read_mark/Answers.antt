@@ -1,25 +1,15 @@
 -- `keeper_line::read_mark` meets its contract.
-use borrow.Author.Tests.{not-true, not-false}
-use mathlib.Core.Path.{◌∙◌}
+use mathlib.Core.Path.{sym, ◌∙◌}
+use Rattle.numerals.proofs.Made.{exit}
 use Rattle.keeper_line.proofs.Marks.{no_mark, half_a_mark, whole_mark}
 use Rattle.keeper_line.proofs.read_mark.Goals as goal
 
-pub returns-then-not-first : goal.returns-then-not-first
-returns-then-not-first c =
-    let g = c.behind-first in
-    no_mark _ _ g.result g.ensures (not-true g.result.good c.if-not-first.true)
+pub returns-in_default : goal.returns-in_default
+returns-in_default c = no_mark c.args.s.now c.args.at (sym c.in_default.ensures)
 
-pub returns-then-not-second : goal.returns-then-not-second
-returns-then-not-second c =
-    let blank = c.behind-second in
-    let g = c.behind-first in
-    c.no_piece.ensures
-    ∙ half_a_mark _ _ g.result g.ensures (not-false g.result.good c.if-not-first.false) blank.result blank.ensures
-    (not-true blank.result.good c.if-not-second.true)
+pub returns-in_err-end : goal.returns-in_err-end
+returns-in_err-end c =
+    let said = c.from_residual.ensures in exit said.1 ∙ half_a_mark c.args.s.now c.args.at (sym c.in-Ok.ensures) (sym c.in_err-end.ensures)
 
 pub returns : goal.returns
-returns c =
-    let blank = c.behind-second in
-    let g = c.behind-first in
-    whole_mark _ _ g.result g.ensures (not-false g.result.good c.if-not-first.false) blank.result blank.ensures
-    (not-false blank.result.good c.if-not-second.false)
+returns c = whole_mark c.args.s.now c.args.at (sym c.in-Ok.ensures) (sym c.in_ok-end.ensures)

@@ -1,25 +1,21 @@
--- `list_compiler::compile_list` meets its contract.
 use mathlib.Core.Path.{sym, ◌∙◌}
+use borrow.Author.Rules.{rules}
 use Rattle.list_compiler.proofs.Compiled.{bad_line, too_many, its_list}
 use Rattle.list_compiler.proofs.compile_list.Goals as goal
 
-pub write_list-requires : goal.write_list-requires
-write_list-requires c = sym c.tally.ensures ∙ c.in-Counts.is
+pub returns-in_err-first_bad : goal.returns-in_err-first_bad
+returns-in_err-first_bad c =
+    let refused = bad_line c.args.file.now c.args.buffer.now _ (sym c.first_bad.ensures ∙ c.in_err-first_bad.was) in
+    search rules
 
-pub returns-in-Bad : goal.returns-in-Bad
-returns-in-Bad c =
-    let file = c.args.file.now in
-    bad_line file _ _ _ (sym c.first_bad.ensures ∙ c.in-Bad.is)
+pub returns-in_err-counts : goal.returns-in_err-counts
+returns-in_err-counts c =
+    let good = sym c.first_bad.ensures ∙ c.in_ok-first_bad.was in
+    let refused = too_many c.args.file.now c.args.buffer.now good _ (sym c.tally.ensures ∙ c.in_err-counts.was) in
+    search rules
 
-pub returns-in-TooMany : goal.returns-in-TooMany
-returns-in-TooMany c =
-    let good = sym c.first_bad.ensures ∙ c.in-Good.is in
-    let file = c.args.file.now in
-    too_many file _ good _ _ (sym c.tally.ensures ∙ c.in-TooMany.is)
-
-pub returns-in-Counts : goal.returns-in-Counts
-returns-in-Counts c =
-    let good = sym c.first_bad.ensures ∙ c.in-Good.is in
-    let counted = sym c.tally.ensures ∙ c.in-Counts.is in
-    let file = c.args.file.now in
-    its_list file _ good _ _ counted _ _ c.write_list.ensures
+pub returns : goal.returns
+returns c =
+    let good = sym c.first_bad.ensures ∙ c.in_ok-first_bad.was in
+    let counted = sym c.tally.ensures ∙ c.in_ok-counts.was in
+    its_list c.args.file.now _ good _ counted _ _ c.write_list.ensures

@@ -4,5 +4,5 @@ use Rattle.mklist.proofs.compile.Goals as goal
 
 pub slice_bounds-write_all-end : goal.slice_bounds-write_all-end
 slice_bounds-write_all-end c =
-    let within = list_within _ _ _ _ _ c.compile_list.ensures c.in-List.is in
+    let within = list_within _ _ _ _ _ c.compile_list.ensures c.in-Ok.is in
     search rules

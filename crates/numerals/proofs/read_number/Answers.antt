@@ -1,68 +1,44 @@
 -- `numerals::read_number` meets its contract.
-use mathlib.Core.Path.{refl, ◌∙◌}
-use native.Mathlib.Omega.{arith}
+use mathlib.Core.Path.{◌≡◌, ◌∙◌}
 use Rattle.basis.specs.Bytes.{byte_at}
 use Rattle.numerals.proofs.NumberLaws.{turn, stop, finish, passed, failed, bounds}
 use borrow.Author.Rules.{rules}
 use Rattle.numerals.proofs.read_number.Goals as goal
 
-pub loop-i-init : goal.loop-i-init
-loop-i-init c = (omega arith, refl)
-
 pub returns-then-not-digit_fits : goal.returns-then-not-digit_fits
 returns-then-not-digit_fits c =
     let a = c.args in
-    let l = c.loop-i in
+    let l = c.loop-at in
     let t = c.digit_fits in
-    stop a.max l.n a.s.now l.i c.loop-i-test.true
-    (failed t.result a.max l.n (byte_at a.s.now l.i) t.ensures c.if-not-digit_fits.true)
-    ∙ l.invariant.1
+    stop a.max l.value a.s.now l.at c.loop-at-test.true
+    (failed t.result a.max l.value (byte_at a.s.now l.at) t.ensures c.if-not-digit_fits.true)
+    ∙ l.invariant.2
 
-pub overflow_mul-n : goal.overflow_mul-n
-overflow_mul-n c =
+pub overflow_sub-byte : goal.overflow_sub-byte
+overflow_sub-byte c =
     let a = c.args in
-    let l = c.loop-i in
+    let l = c.loop-at in
     let t = c.digit_fits in
-    let d = bounds t.result a.max l.n (byte_at a.s.now l.i) t.ensures c.if-not-digit_fits.false in
-    search rules
+    let d = bounds t.result a.max l.value (byte_at a.s.now l.at) t.ensures c.if-not-digit_fits.false in
+    d.0
 
-pub overflow_sub-n : goal.overflow_sub-n
-overflow_sub-n c =
+pub loop-at-preserved : goal.loop-at-preserved
+loop-at-preserved c =
     let a = c.args in
-    let l = c.loop-i in
+    let l = c.loop-at in
     let t = c.digit_fits in
-    let d = bounds t.result a.max l.n (byte_at a.s.now l.i) t.ensures c.if-not-digit_fits.false in
-    search rules
-
-pub overflow_cast-n : goal.overflow_cast-n
-overflow_cast-n c =
-    let a = c.args in
-    let l = c.loop-i in
-    let t = c.digit_fits in
-    let d = bounds t.result a.max l.n (byte_at a.s.now l.i) t.ensures c.if-not-digit_fits.false in
-    search rules
-
-pub overflow_add-n : goal.overflow_add-n
-overflow_add-n c =
-    let a = c.args in
-    let l = c.loop-i in
-    let t = c.digit_fits in
-    let d = bounds t.result a.max l.n (byte_at a.s.now l.i) t.ensures c.if-not-digit_fits.false in
-    search rules
-
-pub loop-i-preserved : goal.loop-i-preserved
-loop-i-preserved c =
-    let a = c.args in
-    let l = c.loop-i in
-    let t = c.digit_fits in
-    let d = bounds t.result a.max l.n (byte_at a.s.now l.i) t.ensures c.if-not-digit_fits.false in (
+    let d = bounds t.result a.max l.value (byte_at a.s.now l.at) t.ensures c.if-not-digit_fits.false in
+    rw c.from.ensures (
+      search rules,
       d.2,
-      turn a.max l.n a.s.now l.i c.loop-i-test.true
-          (passed t.result a.max l.n (byte_at a.s.now l.i) t.ensures c.if-not-digit_fits.false)
-          ∙ l.invariant.1,
+      turn a.max l.value a.s.now l.at c.loop-at-test.true
+          (passed t.result a.max l.value (byte_at a.s.now l.at) t.ensures c.if-not-digit_fits.false)
+          ∙ l.invariant.2,
     )
 
 pub returns : goal.returns
 returns c =
     let a = c.args in
-    finish a.max c.loop-i.n a.s.now c.loop-i.i (omega arith) ∙ c.loop-i.invariant.1
+    let l = c.loop-at in
+    let q : c.max.result ≡ l.at = search rules in
+    rw q (finish a.max l.value a.s.now l.at (search rules) ∙ l.invariant.2)

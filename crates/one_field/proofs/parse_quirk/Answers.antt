@@ -1,39 +1,30 @@
 -- `one_field::parse_quirk` meets its contract.
-use Prim.Native.Nat.{◌+◌}
-use mathlib.Core.Path.{refl, sym, ◌∙◌}
+use mathlib.Core.Path.{refl, sym}
 use native.Mathlib.Omega.{arith}
-use mathlib.Core.List.{[], ◌∷◌}
-use Rattle.basis.specs.Ascii.{ascii}
 use Rattle.quirks.specs.Quirks.{place_of, bit_of}
-use Rattle.grammar.specs.Table.{nothing, row}
 use Rattle.basis.proofs.Rules.{cases}
 use Rattle.grammar.specs.States.{start, after, done}
 use Rattle.signature_line.specs.Words.{quirk_word}
 use Rattle.one_field.proofs.PlaceLaws.{ends, stays, goes_on}
-use Rattle.one_field.proofs.BehindWord.{word_then}
 use Rattle.one_field.proofs.parse_quirk.Goals as goal
 
 pub returns-then-s-from : goal.returns-then-s-from
 unfolding quirk_word done
 returns-then-s-from c =
     let a = c.args in
-    c.no_piece.ensures ∙ sym (ends a.s.now a.from (start quirk_word) c.if-s-from.true)
+    sym (ends a.s.now a.from (start quirk_word) c.if-s-from.true)
 
 pub returns-in-100 : goal.returns-in-100
 unfolding quirk_word after bit_of place_of
 returns-in-100 c =
     let a = c.args in
-    goes_on a.s.now a.from (start quirk_word) 100 c.one_letter.ensures (omega arith) c.in-100.is refl refl
+    goes_on a.s.now a.from (start quirk_word) 100 c.read_word.ensures (omega arith) c.in-100.is refl refl
 
 pub returns-in-105 : goal.returns-in-105
 unfolding quirk_word after bit_of place_of
 returns-in-105 c =
     let a = c.args in
-    let w = c.one_letter-in-105 in
-    goes_on a.s.now a.from (start quirk_word) 105
-    (word_then a.s.now (a.from + 1) (ascii "d") (ascii "+") 4 nothing (row (ascii "-") 8 nothing ∷ [])
-    w.result w.ensures c.sign_behind.ensures)
-    (omega arith) c.in-105.is refl refl
+    goes_on a.s.now a.from (start quirk_word) 105 c.sign_behind.ensures (omega arith) c.in-105.is refl refl
 
 pub returns-in-101 : goal.returns-in-101
 unfolding quirk_word after bit_of place_of
@@ -45,29 +36,25 @@ pub returns-in-48 : goal.returns-in-48
 unfolding quirk_word after bit_of place_of
 returns-in-48 c =
     let a = c.args in
-    goes_on a.s.now a.from (start quirk_word) 48 c.one_letter-in-48.ensures (omega arith) c.in-48.is refl refl
+    goes_on a.s.now a.from (start quirk_word) 48 c.read_word-in-48.ensures (omega arith) c.in-48.is refl refl
 
 pub returns-in-102 : goal.returns-in-102
 unfolding quirk_word after bit_of place_of
 returns-in-102 c =
     let a = c.args in
-    goes_on a.s.now a.from (start quirk_word) 102 c.three_letters.ensures (omega arith) c.in-102.is refl refl
+    goes_on a.s.now a.from (start quirk_word) 102 c.read_word-in-102.ensures (omega arith) c.in-102.is refl refl
 
 pub returns-in-115 : goal.returns-in-115
 unfolding quirk_word after bit_of place_of
 returns-in-115 c =
     let a = c.args in
-    goes_on a.s.now a.from (start quirk_word) 115 c.three_letters-in-115.ensures (omega arith) c.in-115.is refl refl
+    goes_on a.s.now a.from (start quirk_word) 115 c.read_word-in-115.ensures (omega arith) c.in-115.is refl refl
 
 pub returns-in-97 : goal.returns-in-97
 unfolding quirk_word after bit_of place_of
 returns-in-97 c =
     let a = c.args in
-    let w = c.two_letters in
-    goes_on a.s.now a.from (start quirk_word) 97
-    (word_then a.s.now (a.from + 1) (ascii "ck") (ascii "+") 8192 nothing (row (ascii "-") 16384 nothing ∷ [])
-    w.result w.ensures c.sign_behind-in-97.ensures)
-    (omega arith) c.in-97.is refl refl
+    goes_on a.s.now a.from (start quirk_word) 97 c.sign_behind-in-97.ensures (omega arith) c.in-97.is refl refl
 
 pub returns-in-117 : goal.returns-in-117
 unfolding quirk_word after bit_of place_of
@@ -79,7 +66,7 @@ pub returns-in-112 : goal.returns-in-112
 unfolding quirk_word after bit_of place_of
 returns-in-112 c =
     let a = c.args in
-    goes_on a.s.now a.from (start quirk_word) 112 c.five_letters.ensures (omega arith) c.in-112.is refl refl
+    goes_on a.s.now a.from (start quirk_word) 112 c.read_word-in-112.ensures (omega arith) c.in-112.is refl refl
 
 pub returns-in-116 : goal.returns-in-116
 unfolding quirk_word after bit_of place_of
@@ -91,16 +78,16 @@ pub returns-in-111 : goal.returns-in-111
 unfolding quirk_word after bit_of place_of
 returns-in-111 c =
     let a = c.args in
-    goes_on a.s.now a.from (start quirk_word) 111 c.three_letters-in-111.ensures (omega arith) c.in-111.is refl refl
+    goes_on a.s.now a.from (start quirk_word) 111 c.read_word-in-111.ensures (omega arith) c.in-111.is refl refl
 
 pub returns-in-98 : goal.returns-in-98
 unfolding quirk_word after bit_of place_of
 returns-in-98 c =
     let a = c.args in
-    goes_on a.s.now a.from (start quirk_word) 98 c.two_letters-in-98.ensures (omega arith) c.in-98.is refl refl
+    goes_on a.s.now a.from (start quirk_word) 98 c.read_word-in-98.ensures (omega arith) c.in-98.is refl refl
 
 pub returns-in_default : goal.returns-in_default
 unfolding quirk_word after done
 returns-in_default c =
     let a = c.args in
-    c.no_piece-in_default.ensures ∙ sym (stays a.s.now a.from (start quirk_word) (omega arith) (search cases))
+    sym (stays a.s.now a.from (start quirk_word) (omega arith) (search cases))

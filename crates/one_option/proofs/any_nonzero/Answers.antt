@@ -1,22 +1,17 @@
 -- `one_option::any_nonzero` meets its contract.
-use mathlib.Core.Path.{sym, ◌∙◌}
-use native.Mathlib.Omega.{arith}
-use Rattle.basis.proofs.Bytes.{nonzero_here, zero_here, nonzero_end}
+use Rattle.std.proofs.Common.{refl, not, ◌||◌, ◌∙◌, rules, tests}
+use Rattle.std.proofs.lemmas.Iterator.{YieldsList-from_slice}
+use Rattle.std.proofs.lemmas.Iterator.Search.{any_from_yields_List}
+use Rattle.std.proofs.lemmas.List.Recursion.{same_from_clauses}
+use lib.Dec.{eqb}
+use Rattle.std.specs.List.{list_any}
+use Rattle.basis.specs.Bytes.{any_nonzero}
 use Rattle.one_option.proofs.any_nonzero.Goals as goal
 
-pub returns-then-s-i-ne0 : goal.returns-then-s-i-ne0
-returns-then-s-i-ne0 c =
-    let s = c.args.s.now in
-    let i = c.loop-i.i in
-    sym (sym c.loop-i.invariant.1 ∙ nonzero_here s i (omega arith) c.if-s-i-ne0.true)
-
-pub loop-i-preserved : goal.loop-i-preserved
-loop-i-preserved c =
-    let s = c.args.s.now in
-    let i = c.loop-i.i in
-    (omega arith, zero_here s i (omega arith) c.if-s-i-ne0.false ∙ c.loop-i.invariant.1)
-
 pub returns : goal.returns
+unfolding any_nonzero
 returns c =
     let s = c.args.s.now in
-    sym (sym c.loop-i.invariant.1 ∙ nonzero_end s c.loop-i.i (omega arith))
+    any_from_yields_List (λ b. not (eqb b 0)) _ _ _ c.any.ensures.ran (YieldsList-from_slice s cc)
+    (λ x b q k. search (rules, tests))
+    ∙ same_from_clauses (list_any (λ b. not (eqb b 0))) any_nonzero (λ b rest. not (eqb b 0) || rest) refl (λ _ _. refl) (λ _ _. refl) s

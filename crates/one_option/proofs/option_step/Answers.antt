@@ -2,7 +2,6 @@
 use mathlib.Core.Path.{◌≡◌, sym, ◌∙◌}
 use Rattle.basis.specs.Bytes.{byte_at}
 use Rattle.one_option.proofs.Options.{inside_nonzero, last_step, nop_step, sound_step, short_step, past_step}
-use borrow.Author.Rules.{rules}
 use Rattle.one_option.proofs.option_step.Goals as goal
 
 pub returns-then-kind-eq-EOL : goal.returns-then-kind-eq-EOL
@@ -11,12 +10,6 @@ returns-then-kind-eq-EOL c =
     let kind = c.byte_at-kind in
     c.sound_step.ensures
     ∙ last_step a.options.now a.at kind.result c.if-kind-eq-EOL.true (sym kind.ensures ∙ c.if-kind-eq-EOL.true)
-
-pub overflow_add-start : goal.overflow_add-start
-overflow_add-start c =
-    let a = c.args in
-    let inside = inside_nonzero a.options.now a.at (λ e. c.if-kind-eq-EOL.false (c.byte_at-kind.ensures ∙ e)) in
-    search rules
 
 pub returns-then-kind-eq-NOP : goal.returns-then-kind-eq-NOP
 returns-then-kind-eq-NOP c =
@@ -27,13 +20,6 @@ returns-then-kind-eq-NOP c =
     (nop_step a.options.now a.at (inside_nonzero a.options.now a.at some)
     (sym kind.ensures ∙ c.if-kind-eq-NOP.true))
 
-pub overflow_add-end : goal.overflow_add-end
-overflow_add-end c =
-    let a = c.args in
-    let kind = c.byte_at-kind in
-    let inside = inside_nonzero a.options.now a.at (λ e. c.if-kind-eq-EOL.false (kind.ensures ∙ e)) in
-    search rules
-
 pub returns-then-length-end : goal.returns-then-length-end
 returns-then-length-end c =
     let a = c.args in
@@ -43,13 +29,6 @@ returns-then-length-end c =
     rw (c.sound_step-then-length-end.ensures, kind.ensures, c.byte_at-length.ensures)
     (sound_step a.options.now a.at (inside_nonzero a.options.now a.at some) some other
     (rw (← c.byte_at-length.ensures) c.if-length-end.true))
-
-pub overflow_add-result : goal.overflow_add-result
-overflow_add-result c =
-    let a = c.args in
-    let kind = c.byte_at-kind in
-    let inside = inside_nonzero a.options.now a.at (λ e. c.if-kind-eq-EOL.false (kind.ensures ∙ e)) in
-    search rules
 
 pub returns-then-start-all : goal.returns-then-start-all
 returns-then-start-all c =

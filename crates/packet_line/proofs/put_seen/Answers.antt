@@ -6,13 +6,13 @@ use Rattle.packet_line.proofs.put_seen.Goals as goal
 
 pub slice_bounds-put_word-end : goal.slice_bounds-put_word-end
 slice_bounds-put_word-end c =
-    let within = seen_within _ _ _ _ (search rules) c.write_observation.ensures _ c.in-Line.is in
+    let within = seen_within _ _ _ _ (search rules) c.write_observation.ensures _ c.in-Ok.is in
     search rules
 
-pub returns-in-Line : goal.returns-in-Line
-returns-in-Line c =
-    rw (sym (seen_line_lem _ _ _ _ (search rules) c.write_observation.ensures _ c.in-Line.is)) c.put_word.ensures
+pub returns-in-Ok : goal.returns-in-Ok
+returns-in-Ok c =
+    rw (sym (seen_line_lem _ _ _ _ (search rules) c.write_observation.ensures _ c.in-Ok.is)) c.put_word.ensures
 
-pub returns-in-Refused : goal.returns-in-Refused
-returns-in-Refused c =
-    rw (none_seen _ _ _ _ (search rules) c.write_observation.ensures _ c.in-Refused.is) (put_none _ _)
+pub returns-in-Err : goal.returns-in-Err
+returns-in-Err c =
+    rw (none_seen _ _ _ _ (search rules) c.write_observation.ensures _ c.in-Err.is) (put_none _ _)

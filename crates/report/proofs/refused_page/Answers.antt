@@ -9,4 +9,4 @@ pub returns : goal.returns
 unfolding refused_line
 returns c =
     let p = numbered_put _ _ refused_word _ _ _ (search rules) c.put_numbered-filled.ensures in
-    rw (sym c.refusal_number.ensures) (rw (p.0 ∙ zero-add _), p.1)
+    rw (sym (c.from.ensures ∙ c.refusal_number.ensures)) (rw (p.0 ∙ zero-add _), p.1)

@@ -1,11 +1,15 @@
 -- `syn_options::first_place` meets its contract.
+use Rattle.std.specs.Prelude.{Option, Some, None}
+use Rattle.std.specs.Option.{option_or}
+use Prim.Native.Nat.{ℕ}
+use mathlib.Core.Path.{◌≡◌, refl}
 use Rattle.syn_options.specs.Stops.{first_known}
 use Rattle.syn_options.proofs.first_place.Goals as goal
 
-pub returns-in-None : goal.returns-in-None
+is_or : (known : Option ℕ) (at : ℕ) → option_or known (Some at) ≡ first_known known at
 unfolding first_known
-returns-in-None c = rw c.in-None.is
+is_or None at = refl
+is_or (Some n) at = refl
 
-pub returns-in-At : goal.returns-in-At
-unfolding first_known
-returns-in-At c = rw c.in-At.is
+pub returns : goal.returns
+returns c = rw (c.or.ensures, is_or c.args.known c.args.at)

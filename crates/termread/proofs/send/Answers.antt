@@ -3,4 +3,4 @@ use Rattle.termread.proofs.send.Goals as goal
 
 pub write_once-got-requires-clause-follows : goal.write_once-got-requires-clause-follows
 write_once-got-requires-clause-follows g c =
-    part_follows _ c.args.text.now c.args.taken c.loop-turn.from c.loop-turn.invariant.0 c.requires.follows
+    part_follows _ c.args.text.now c.args.taken c.loop.from c.loop.invariant.0 c.requires.follows

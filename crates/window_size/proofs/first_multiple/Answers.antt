@@ -6,22 +6,15 @@ use Rattle.window_size.proofs.Laws.{divides_nonzero, turn_hit, turn_miss, turns_
 use Rattle.window_size.proofs.first_multiple.Goals as goal
 
 pub nonzero_div-result : goal.nonzero_div-result
-nonzero_div-result c =
-    let nonzero = divides_nonzero _ _ (sym c.divides.ensures ∙ c.if-divides.true) in
-    omega arith
+nonzero_div-result c = let nonzero = divides_nonzero _ _ (sym c.if-divides.ensures) in omega arith
 
 pub returns-then-divides : goal.returns-then-divides
 returns-then-divides c =
-    sym
-    (sym c.loop-i.invariant.1
-    ∙ turn_hit _ _ c.loop-i.i (search rules) (sym c.divides.ensures ∙ c.if-divides.true))
+    sym (turn_hit _ _ c.loop-divisor.divisor-index (search rules) (sym c.if-divides.ensures)) ∙ c.loop-divisor.invariant
 
-pub loop-i-preserved : goal.loop-i-preserved
-loop-i-preserved c = (
-  search rules,
-  turn_miss _ _ c.loop-i.i (search rules) (sym c.divides.ensures ∙ c.if-divides.false)
-      ∙ c.loop-i.invariant.1,
-)
+pub loop-divisor-preserved : goal.loop-divisor-preserved
+loop-divisor-preserved c =
+    turn_miss _ _ c.loop-divisor.divisor-index (search rules) (sym c.if-divides.ensures) ∙ c.loop-divisor.invariant
 
 pub returns : goal.returns
-returns c = sym (sym c.loop-i.invariant.1 ∙ turns_end _ _ c.loop-i.i (search rules))
+returns c = sym (turns_end _ _ c.loop-divisor.divisor-index (search rules)) ∙ c.loop-divisor.invariant

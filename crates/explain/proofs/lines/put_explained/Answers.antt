@@ -5,7 +5,6 @@ use Rattle.explain.proofs.lines.put_explained.Goals as goal
 
 pub returns : goal.returns
 returns c =
-    let there = c.requires in
-    explained_put _ _ _ _ _ (c.record_at.ensures ∙ record_of_list _ _ _ there.fits there.inside)
+    explained_put _ _ _ _ _ (c.record_at.ensures ∙ record_of_list _ _ _ c.args.list.fits c.requires)
     c.row_of-row.ensures _ _ _ _ _ _ _ _ _ _ _ c.put_which-behind_which.ensures c.put_gates-behind_gates.ensures
     c.put_word-signature.ensures c.put_listed-behind_signature.ensures c.put_byte.ensures

@@ -9,4 +9,4 @@ returns c =
     (both _ _ _ _ _ _ _ _ c.put_word-number.ensures
     (both _ _ _ _ _ _ _ _ c.put_decimal-behind_number.ensures
     (both _ _ _ _ _ _ _ _ c.put_word-label.ensures
-    (both _ _ _ _ _ _ _ _ c.put_decimal-behind_label.ensures c.put_kind.ensures))))
+    (both _ _ _ _ _ _ _ _ c.put_decimal-behind_label.ensures c.put_if.ensures))))

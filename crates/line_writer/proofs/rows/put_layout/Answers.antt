@@ -14,7 +14,6 @@ pub loop-i-init : goal.loop-i-init
 loop-i-init c =
     let a = c.args in (
       search rules,
-      search rules,
       λ n b. subst (λ (s : List ℕ). Put a.buffer.now a.at s n b) (whole_row (spelt entry) (entries_said a.entries.now)),
     )
 
@@ -25,8 +24,7 @@ loop-i-preserved c =
     let e = c.args.entries.now in
     let l = c.loop-i in (
       search rules,
-      search rules,
-      λ n b h. l.invariant.2 n b
+      λ n b h. l.invariant.1 n b
           (layout_turn e l.buffer byte.new.buffer option.new.buffer b l.i l.between l.next byte.result option.result n
           c.loop-i-test.true byte.ensures option.ensures h),
     )
@@ -36,5 +34,5 @@ returns c =
     let closed = c.close_row in
     let e = c.args.entries.now in
     let l = c.loop-i in
-    l.invariant.2 _ _
+    l.invariant.1 _ _
     (layout_last e l.buffer closed.new.buffer l.i l.between l.next closed.result c.loop-i-test.false closed.ensures)

@@ -14,7 +14,6 @@ pub loop-i-init : goal.loop-i-init
 loop-i-init c =
     let a = c.args in (
       search rules,
-      search rules,
       λ n b. subst (λ (s : List ℕ). Put a.buffer.now a.at s n b)
           (all_entries a.layout.kinds a.layout.bytes a.layout.count),
     )
@@ -28,8 +27,7 @@ loop-i-preserved c =
     let kinds : length a.layout.kinds ≡ 40 = search rules in
     let bytes : length a.layout.bytes ≡ 40 = search rules in (
       search rules,
-      search rules,
-      λ n b h. l.invariant.2 n b
+      λ n b h. l.invariant.1 n b
           (one_entry a.layout.kinds a.layout.bytes a.layout.count l.i l.buffer kind.new.buffer byte.new.buffer b
           l.next kind.result byte.result n c.loop-i-test.true (omega (arith, kinds)) (omega (arith, bytes))
           kind.ensures byte.ensures h),
@@ -40,4 +38,4 @@ unfolding entries_in
 returns c =
     let l = c.loop-i in
     let y = c.args.layout in
-    l.invariant.2 _ _ (no_entry y.kinds y.bytes y.count l.i c.loop-i-test.false l.buffer l.next)
+    l.invariant.1 _ _ (no_entry y.kinds y.bytes y.count l.i c.loop-i-test.false l.buffer l.next)

@@ -1,7 +1,6 @@
--- `list_compiler::pieces::put_entries` meets its contract.
 use mathlib.Core.Path.{◌≡◌}
 use mathlib.Core.List.{List}
-use Prim.Native.Nat.{ℕ, ◌-◌, ◌≤◌}
+use Prim.Native.Nat.{ℕ}
 use lib.ListN.{length, take}
 use Rattle.text.specs.Written.{Put}
 use Rattle.signature_line.specs.OneRecord.{alternating}
@@ -9,11 +8,7 @@ use Rattle.list_compiler.proofs.Lists.{entries_from}
 use Rattle.list_compiler.proofs.pieces.put_entries.Given as goal
 
 abbrev pub invariant-loop-i : goal.invariant-loop-i
-invariant-loop-i l = (l.i ≤ l.count)
-    × (length l.buffer ≡ length l.initial.buffer)
+invariant-loop-i l = (length l.buffer ≡ length l.initial.buffer)
     × ((n : ℕ) (b : List ℕ)
-    → Put l.buffer l.next (entries_from l.kinds l.bytes l.count l.i) n b
-    → Put l.initial.buffer l.at (alternating (take l.count l.kinds) (take l.count l.bytes)) n b)
-
-abbrev pub decreases-loop-i : goal.decreases-loop-i
-decreases-loop-i l = l.count - l.i
+    → Put l.buffer l.next (entries_from l.layout.kinds l.layout.bytes l.layout.count l.i) n b
+    → Put l.initial.buffer l.at (alternating (take l.layout.count l.layout.kinds) (take l.layout.count l.layout.bytes)) n b)

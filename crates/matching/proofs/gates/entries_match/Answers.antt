@@ -1,22 +1,18 @@
 -- `matching::entries_match` meets its contract.
-use mathlib.Core.Path.{◌≡◌, sym, ◌∙◌}
-use native.Mathlib.Omega.{arith}
+use mathlib.Core.Path.{sym, ◌∙◌}
 use Rattle.basis.proofs.Tests.{and_false}
 use Rattle.sigrecord.proofs.Laws.{none_bad, one_more_good, one_bad}
 use Rattle.matching.specs.Gates.{entries_match}
 use Rattle.matching.proofs.Entries.{no_entry, entry_matches, kind_differs, byte_differs}
-use borrow.Author.Rules.{rules}
 use Rattle.matching.proofs.gates.entries_match.Goals as goal
 
 pub loop-i-init : goal.loop-i-init
-loop-i-init c = (search rules, no_entry _ _ _, none_bad _)
+loop-i-init c = record { same = no_entry _ _ _; good = none_bad _ }
 
 pub returns-then-bytes-i : goal.returns-then-bytes-i
 returns-then-bytes-i c =
     let a = c.args in
-    rw
-    (byte_differs a.kinds.now a.bytes.now a.entries.now a.count c.loop-i.i c.loop-i-test.true
-    c.if-bytes-i.true)
+    rw (byte_differs a.kinds.now a.bytes.now a.entries.now a.count c.loop-i.i c.loop-i-test.true c.if-bytes-i.true)
 
 pub returns-then-not-entry_good : goal.returns-then-not-entry_good
 returns-then-not-entry_good c =
@@ -28,22 +24,12 @@ returns-then-not-entry_good c =
 pub returns-then-kinds-i : goal.returns-then-kinds-i
 returns-then-kinds-i c =
     let a = c.args in
-    rw
-    (kind_differs a.kinds.now a.bytes.now a.entries.now a.count c.loop-i.i c.loop-i-test.true
-    c.if-kinds-i.true)
+    rw (kind_differs a.kinds.now a.bytes.now a.entries.now a.count c.loop-i.i c.loop-i-test.true c.if-kinds-i.true)
 
 pub loop-i-preserved : goal.loop-i-preserved
 loop-i-preserved c =
-    let a = c.args in
     let l = c.loop-i in
-    let same = c.if-bytes-i.false in
-    let good = sym c.entry_good.ensures ∙ c.if-not-entry_good.false in (
-      search rules,
-      entry_matches a.kinds.now a.bytes.now a.entries.now l.i c.if-kinds-i.false same l.invariant.1,
-      one_more_good a.entries.now l.i good l.invariant.2,
-    )
-
-pub returns : goal.returns
-returns c =
-    let end : c.loop-i.i ≡ c.args.count = omega arith in
-    rw (rw end at c.loop-i.invariant.1, rw end at c.loop-i.invariant.2)
+    record {
+      same = entry_matches _ _ _ l.i c.if-kinds-i.false c.if-bytes-i.false l.invariant.same;
+      good = one_more_good _ l.i (sym c.entry_good.ensures ∙ c.if-not-entry_good.false) l.invariant.good;
+    }

@@ -1,13 +1,13 @@
 -- `matching::entries_match` meets its contract.
 use mathlib.Core.Path.{◌≡◌}
 use mathlib.Core.Bool.{true}
-use Prim.Native.Nat.{◌≤◌, ◌-◌}
 use Rattle.sigrecord.specs.Layout.{entries_good}
 use Rattle.matching.specs.Gates.{entries_match}
 use Rattle.matching.proofs.gates.entries_match.Given as goal
 
 abbrev pub invariant-loop-i : goal.invariant-loop-i
-invariant-loop-i l = (l.i ≤ l.count) × (entries_match l.kinds l.bytes l.entries l.i ≡ true) × (entries_good l.entries l.i ≡ true)
-
-abbrev pub decreases-loop-i : goal.decreases-loop-i
-decreases-loop-i l = l.count - l.i
+invariant-loop-i l =
+    record {
+      same : entries_match l.kinds l.bytes l.entries l.i ≡ true;
+      good : entries_good l.entries l.i ≡ true;
+    }

@@ -17,6 +17,3 @@ returns-then-byte_at-eq3 c =
     let form = sym c.byte_at.ensures ∙ c.if-byte_at-eq3.true in
     let low = c.byte_at-then-byte_at-eq3 in
     simp (form, ← low.ensures, low_byte (byte_at raw 9) low.result (search rules), c.window_size_matches.ensures)
-
-pub returns : goal.returns
-returns c = simp (c.window_size_matches-2.ensures, c.window_of.ensures)

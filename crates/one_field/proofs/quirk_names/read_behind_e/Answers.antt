@@ -2,15 +2,8 @@
 use mathlib.Core.Path.{refl}
 use Rattle.basis.specs.Ascii.{ascii}
 use Rattle.quirks.specs.Quirks.{place_of, bit_of}
-use Rattle.one_field.proofs.LetterLaws.{within, either_one, either_other}
-use borrow.Author.Rules.{rules}
+use Rattle.one_field.proofs.LetterLaws.{either_one, either_other}
 use Rattle.one_field.proofs.quirk_names.read_behind_e.Goals as goal
-
-pub overflow_add-from : goal.overflow_add-from
-overflow_add-from c =
-    let a = c.args in
-    let h = within a.s.now a.from 99 c.stands.ensures c.if-stands.true in
-    search rules
 
 pub returns-then-stands : goal.returns-then-stands
 unfolding bit_of place_of
@@ -18,11 +11,11 @@ returns-then-stands c =
     let a = c.args in
     let k = c.stands.ensures in
     either_one a.s.now a.from 99 k (ascii "n") 1 120 (ascii "ws") 134217728 refl
-    c.one_letter.ensures c.if-stands.true
+    c.read_word.ensures c.if-stands.true
 
 pub returns : goal.returns
 unfolding bit_of place_of
 returns c =
     let a = c.args in
     either_other a.s.now a.from 99 c.stands.ensures (ascii "n") 1 120 (ascii "ws") 134217728
-    c.three_letters.ensures c.if-stands.false
+    c.read_word-2.ensures c.if-stands.false

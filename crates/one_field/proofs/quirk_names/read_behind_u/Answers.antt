@@ -2,15 +2,8 @@
 use mathlib.Core.Path.{refl}
 use Rattle.basis.specs.Ascii.{ascii}
 use Rattle.quirks.specs.Quirks.{place_of, bit_of}
-use Rattle.one_field.proofs.LetterLaws.{within, either_one, either_other}
-use borrow.Author.Rules.{rules}
+use Rattle.one_field.proofs.LetterLaws.{either_one, either_other}
 use Rattle.one_field.proofs.quirk_names.read_behind_u.Goals as goal
-
-pub overflow_add-from : goal.overflow_add-from
-overflow_add-from c =
-    let a = c.args in
-    let h = within a.s.now a.from 112 c.stands.ensures c.if-stands.true in
-    search rules
 
 pub returns-then-stands : goal.returns-then-stands
 unfolding bit_of place_of
@@ -18,7 +11,7 @@ returns-then-stands c =
     let a = c.args in
     let k = c.stands.ensures in
     either_one a.s.now a.from 112 k (ascii "tr+") 32768 114 (ascii "gf+") 65536 refl
-    c.three_letters.ensures c.if-stands.true
+    c.read_word.ensures c.if-stands.true
 
 pub returns : goal.returns
 unfolding bit_of place_of
@@ -26,4 +19,4 @@ returns c =
     let a = c.args in
     let k = c.stands.ensures in
     either_other a.s.now a.from 112 k (ascii "tr+") 32768 114 (ascii "gf+") 65536
-    c.four_letters.ensures c.if-stands.false
+    c.read_word-2.ensures c.if-stands.false

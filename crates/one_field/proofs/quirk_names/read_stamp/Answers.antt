@@ -1,13 +1,12 @@
 -- `one_field::quirk_names::read_stamp` meets its contract.
 use Prim.Native.Nat.{◌+◌}
-use mathlib.Core.Path.{refl, ◌∙◌}
+use mathlib.Core.Path.{refl}
 use mathlib.Core.List.{List, [], ◌∷◌}
 use Rattle.basis.specs.Ascii.{ascii}
 use Rattle.quirks.specs.Quirks.{place_of, bit_of}
 use Rattle.grammar.specs.Table.{nothing}
 use Rattle.grammar.specs.States.{Awaited, letters, after, done}
-use Rattle.one_field.proofs.LetterLaws.{within, letter_read, letter_missing, either_one, either_other}
-use borrow.Author.Rules.{rules}
+use Rattle.one_field.proofs.LetterLaws.{letter_read, letter_missing, either_one, either_other}
 use Rattle.one_field.proofs.quirk_names.read_stamp.Goals as goal
 
 abbrev stamps : List Awaited
@@ -18,21 +17,7 @@ unfolding after done bit_of place_of
 returns-then-not-stands c =
     let a = c.args in
     let k = c.stands in
-    c.no_piece.ensures
-    ∙ letter_missing a.s.now a.from 115 k.ensures stamps (c.if-not-stands.true) (λ b e. rw e) refl
-
-pub overflow_add-next : goal.overflow_add-next
-overflow_add-next c =
-    let a = c.args in
-    let k = c.stands in
-    let h = within a.s.now a.from 115 k.ensures (c.if-not-stands.false) in
-    search rules
-
-pub overflow_add-next-then-stands : goal.overflow_add-next-then-stands
-overflow_add-next-then-stands c =
-    let a = c.args in
-    let h = within a.s.now (a.from + 1) 49 c.stands-2.ensures c.if-stands.true in
-    search rules
+    letter_missing a.s.now a.from 115 k.ensures stamps (c.if-not-stands.true) (λ b e. rw e) refl
 
 pub returns-then-stands : goal.returns-then-stands
 unfolding after bit_of place_of
@@ -42,7 +27,7 @@ returns-then-stands c =
     let k = c.stands in
     letter_read a.s.now a.from 115 k.ensures stamps
     (either_one a.s.now (a.from + 1) 49 k2 (ascii "-") 16777216 50 (ascii "+") 33554432 refl
-    c.one_letter.ensures c.if-stands.true)
+    c.read_word.ensures c.if-stands.true)
     (c.if-not-stands.false) refl refl
 
 pub returns : goal.returns
@@ -53,5 +38,5 @@ returns c =
     let k = c.stands in
     letter_read a.s.now a.from 115 k.ensures stamps
     (either_other a.s.now (a.from + 1) 49 k2 (ascii "-") 16777216 50 (ascii "+") 33554432
-    c.two_letters.ensures c.if-stands.false)
+    c.read_word-2.ensures c.if-stands.false)
     (c.if-not-stands.false) refl refl

@@ -1,35 +1,34 @@
 -- `one_field::quirk_names::sign_behind` meets its contract.
-use mathlib.Core.Path.{refl, ◌∙◌}
+use mathlib.Core.Path.{refl, sym, ◌∙◌}
 use mathlib.Core.List.{[], ◌∷◌}
-use borrow.Author.Tests.{not-true, not-false}
-use Rattle.grammar.specs.Table.{nothing}
+use Rattle.basis.specs.Ascii.{ascii}
+use Rattle.grammar.specs.Table.{nothing, row}
 use Rattle.grammar.specs.States.{letters, after}
-use Rattle.one_field.proofs.LetterLaws.{within, letter_last, either_other}
-use borrow.Author.Rules.{rules}
+use Rattle.numerals.proofs.Made.{exit}
+use Rattle.one_field.proofs.BehindWord.{behind_word, no_word}
+use Rattle.one_field.proofs.LetterLaws.{letter_last, either_other}
 use Rattle.one_field.proofs.quirk_names.sign_behind.Goals as goal
 
-pub returns-then-not-word : goal.returns-then-not-word
-returns-then-not-word c = rw (not-true c.args.word.good c.if-not-word.true) c.no_piece.ensures
-
-pub overflow_add-at : goal.overflow_add-at
-overflow_add-at c =
+pub returns-in_err-at : goal.returns-in_err-at
+returns-in_err-at g c =
     let a = c.args in
-    let h = within a.s.now a.word.at 43 c.stands.ensures c.if-stands.true in
-    search rules
+    let e = c.in_err-at in
+    let said = c.from_residual.ensures in exit said.1
+    ∙ no_word a.s.now a.from a.word.now (ascii "+") a.plus nothing (row (ascii "-") a.minus nothing ∷ []) e.field-0.0 (sym e.ensures)
 
 pub returns-then-stands : goal.returns-then-stands
 unfolding after
-returns-then-stands c =
+returns-then-stands g c =
     let a = c.args in
-    let k = c.stands.ensures in
-    rw (not-false a.word.good c.if-not-word.false)
-    (c.whole.ensures
-    ∙ letter_last a.s.now a.word.at 43 k
-    (letters (43 ∷ []) a.plus nothing ∷ letters (45 ∷ []) a.minus nothing ∷ []) a.plus c.if-stands.true refl)
+    let w = c.in_ok-at in
+    let signs = letters (ascii "+") a.plus nothing ∷ letters (ascii "-") a.minus nothing ∷ [] in
+    rw c.whole.ensures
+    (letter_last a.s.now w.field-0.at 43 c.stands.ensures signs a.plus c.if-stands.true refl
+    ∙ behind_word a.s.now a.from a.word.now (ascii "+") a.plus nothing (row (ascii "-") a.minus nothing ∷ []) w.field-0 (sym w.ensures))
 
 pub returns : goal.returns
-returns c =
+returns g c =
     let a = c.args in
-    rw (not-false a.word.good c.if-not-word.false)
-    (either_other a.s.now a.word.at 43 c.stands.ensures [] a.plus 45 [] a.minus
-    c.one_letter.ensures c.if-stands.false)
+    let w = c.in_ok-at in
+    either_other a.s.now w.field-0.at 43 c.stands.ensures [] a.plus 45 [] a.minus c.read_word-2.ensures c.if-stands.false
+    ∙ behind_word a.s.now a.from a.word.now (ascii "+") a.plus nothing (row (ascii "-") a.minus nothing ∷ []) w.field-0 (sym w.ensures)

@@ -5,25 +5,18 @@ use Rattle.basis.specs.Ascii.{ascii}
 use Rattle.grammar.specs.Table.{nothing}
 use Rattle.grammar.specs.States.{Awaited, letters, fits, after, done}
 use Rattle.signature_line.specs.Words.{up_to255}
-use Rattle.one_field.proofs.LetterLaws.{within, letter_last, letter_other}
-use borrow.Author.Rules.{rules}
+use Rattle.one_field.proofs.LetterLaws.{letter_last, letter_other}
 use Rattle.one_field.proofs.words.read_plus.Goals as goal
 
 abbrev forms : List Awaited
 forms = letters [] 1 up_to255 ∷ letters (ascii "?") 2 nothing ∷ []
-
-pub overflow_add-from : goal.overflow_add-from
-overflow_add-from c =
-    let a = c.args in
-    let h = within a.s.now a.from 63 c.stands.ensures c.if-stands.true in
-    search rules
 
 pub returns-then-stands : goal.returns-then-stands
 unfolding after fits
 returns-then-stands c =
     let a = c.args in
     let k = c.stands.ensures in
-    c.whole.ensures ∙ letter_last a.s.now a.from 63 k forms 2 c.if-stands.true refl
+    rw c.whole.ensures (letter_last a.s.now a.from 63 k forms 2 c.if-stands.true refl)
 
 pub returns : goal.returns
 unfolding after done

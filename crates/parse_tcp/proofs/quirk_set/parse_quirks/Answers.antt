@@ -1,24 +1,13 @@
 -- `parse_tcp::quirk_set::parse_quirks` meets its contract.
-use mathlib.Core.Path.{◌∙◌}
-use Rattle.parse_tcp.proofs.QuirkLaws.{quirks_missing, quirks_none, quirks_some}
+use mathlib.Core.Path.{sym, ◌∙◌}
+use Rattle.parse_tcp.proofs.QuirkLaws.{quirks_some, quirks_none, quirks_bad}
 use Rattle.parse_tcp.proofs.quirk_set.parse_quirks.Goals as goal
 
-pub returns-then-not-from : goal.returns-then-not-from
-returns-then-not-from c =
-    let a = c.args in
-    c.quirks_piece.ensures ∙ quirks_missing a.s.now a.from c.if-not-from.true
+pub returns-in-Ok : goal.returns-in-Ok
+returns-in-Ok c = c.more_names.ensures ∙ quirks_some c.args.s.now c.args.from (sym c.in-Ok.ensures)
 
-pub returns-then-first : goal.returns-then-first
-returns-then-first c =
-    let a = c.args in
-    let e = c.parse_quirk-first in
-    c.more_names.ensures
-    ∙ quirks_some a.s.now a.from c.if-not-from.false e.result e.ensures c.if-first.true
+pub returns-in-Err : goal.returns-in-Err
+returns-in-Err c = quirks_none c.args.s.now c.args.from (sym c.in-Err.ensures) c.if-bad-from.true
 
-pub returns : goal.returns
-returns c =
-    let a = c.args in
-    let e = c.parse_quirk-first in
-    c.quirks_piece-2.ensures
-    ∙ quirks_none a.s.now a.from c.if-not-from.false e.result e.ensures
-    c.if-first.false
+pub returns-in-Err-2 : goal.returns-in-Err-2
+returns-in-Err-2 c = quirks_bad c.args.s.now c.args.from (sym c.in-Err.ensures) c.if-bad-from.false

@@ -11,10 +11,10 @@ returns-then-not-record_holds c =
     let holds = c.record_holds in
     let a = c.args in
     let pre = c.requires in
-    let same = c.record_at-raw.ensures ∙ record_of_list a.list.now a.areas a.i pre.0 pre.1 in
+    let same = c.record_at-raw.ensures ∙ record_of_list a.list.bytes.now a.list.areas a.i a.list.fits pre.0 in
     sym
-    (none_there a.observed a.kinds.now a.bytes.now a.list.now a.i
-    (not_held _ _ _ _ _ _ pre.0 pre.1 pre.2
+    (none_there a.observed a.layout.now.kinds a.layout.now.bytes a.list.bytes.now a.i
+    (not_held _ _ _ _ _ _ a.list.fits pre.0 pre.1
     (rw (← same, ← holds.ensures) (c.if-not-record_holds.true))))
 
 pub returns : goal.returns
@@ -23,9 +23,9 @@ returns c =
     let holds = c.record_holds in
     let a = c.args in
     let pre = c.requires in
-    let same = c.record_at-raw.ensures ∙ record_of_list a.list.now a.areas a.i pre.0 pre.1 in
+    let same = c.record_at-raw.ensures ∙ record_of_list a.list.bytes.now a.list.areas a.i a.list.fits pre.0 in
     rw (
-      tolerated a.observed a.kinds.now a.bytes.now a.list.now a.areas a.i pre.0 pre.1 pre.2
+      tolerated a.observed a.layout.now.kinds a.layout.now.bytes a.list.bytes.now a.list.areas a.i a.list.fits pre.0 pre.1
           (rw (← same, ← holds.ensures) (c.if-not-record_holds.false)),
       ← same,
       ← c.tolerance-fit.ensures,

@@ -10,16 +10,16 @@ pub loop-i-init : goal.loop-i-init
 loop-i-init c =
     let a = c.args in
     let test = count_and_scale_match a.count a.wscale in
-    let pre = c.requires in (search rules, search rules, pre.0.records_at, pre.0.records_fit, none_yet test _ _)
+    (search rules, c.requires, none_yet test _ _)
 
 pub returns-then-alike_at : goal.returns-then-alike_at
 returns-then-alike_at c =
     let l = c.loop-i in
     let a = c.args in
     let test = count_and_scale_match a.count a.wscale in
-    let list = a.list.now in
-    let at = a.areas.records_offset + 24 * l.i in
-    here test _ _ _ l.i l.invariant.0 (search rules) l.invariant.4
+    let list = a.list.bytes.now in
+    let at = a.list.areas.records_offset + 24 * l.i in
+    here test _ _ _ l.i l.invariant.0 (search rules) l.invariant.2
     (of_record test list at l.i (omega arith) c.alike_at.ensures c.if-alike_at.true)
 
 pub returns-then-alike_at-2 : goal.returns-then-alike_at-2
@@ -27,10 +27,10 @@ returns-then-alike_at-2 c =
     let l = c.loop-i in
     let a = c.args in
     let test = count_and_scale_match a.count a.wscale in
-    let list = a.list.now in
-    let at = a.areas.records_offset + 24 * l.i in
+    let list = a.list.bytes.now in
+    let at = a.list.areas.records_offset + 24 * l.i in
     here test _ _ _ (l.i + 1) (search rules) (search rules)
-    (one_more test _ _ l.i l.invariant.4
+    (one_more test _ _ l.i l.invariant.2
     (of_record test list at l.i (omega arith) c.alike_at.ensures c.if-alike_at.false))
     (of_record test list (at + 24) (l.i + 1) (omega arith) c.alike_at-in-loop-i.ensures c.if-alike_at-2.true)
 
@@ -39,10 +39,10 @@ returns-then-alike_at-3 c =
     let l = c.loop-i in
     let a = c.args in
     let test = count_and_scale_match a.count a.wscale in
-    let list = a.list.now in
-    let at = a.areas.records_offset + 24 * l.i in
+    let list = a.list.bytes.now in
+    let at = a.list.areas.records_offset + 24 * l.i in
     here test _ _ _ (l.i + 2) (search rules) (search rules)
-    (two_more test _ _ l.i l.invariant.4
+    (two_more test _ _ l.i l.invariant.2
     (of_record test list at l.i (omega arith) c.alike_at.ensures c.if-alike_at.false)
     (of_record test list (at + 24) (l.i + 1) (omega arith) c.alike_at-in-loop-i.ensures c.if-alike_at-2.false))
     (of_record test list (at + 48) (l.i + 2) (omega arith) c.alike_at-in-loop-i-2.ensures c.if-alike_at-3.true)
@@ -52,10 +52,10 @@ returns-then-alike_at-4 c =
     let l = c.loop-i in
     let a = c.args in
     let test = count_and_scale_match a.count a.wscale in
-    let list = a.list.now in
-    let at = a.areas.records_offset + 24 * l.i in
+    let list = a.list.bytes.now in
+    let at = a.list.areas.records_offset + 24 * l.i in
     here test _ _ _ (l.i + 3) (search rules) (search rules)
-    (three_more test _ _ l.i l.invariant.4
+    (three_more test _ _ l.i l.invariant.2
     (of_record test list at l.i (omega arith) c.alike_at.ensures c.if-alike_at.false)
     (of_record test list (at + 24) (l.i + 1) (omega arith) c.alike_at-in-loop-i.ensures c.if-alike_at-2.false)
     (of_record test list (at + 48) (l.i + 2) (omega arith) c.alike_at-in-loop-i-2.ensures c.if-alike_at-3.false))
@@ -66,13 +66,11 @@ loop-i-preserved c =
     let l = c.loop-i in
     let a = c.args in
     let test = count_and_scale_match a.count a.wscale in
-    let list = a.list.now in
-    let at = a.areas.records_offset + 24 * l.i in (
+    let list = a.list.bytes.now in
+    let at = a.list.areas.records_offset + 24 * l.i in (
       search rules,
       search rules,
-      l.invariant.2,
-      l.invariant.3,
-      four_more test _ _ l.i l.invariant.4
+      four_more test _ _ l.i l.invariant.2
           (of_record test list at l.i (omega arith) c.alike_at.ensures c.if-alike_at.false)
           (of_record test list (at + 24) (l.i + 1) (omega arith) c.alike_at-in-loop-i.ensures c.if-alike_at-2.false)
           (of_record test list (at + 48) (l.i + 2) (omega arith) c.alike_at-in-loop-i-2.ensures c.if-alike_at-3.false)
@@ -87,9 +85,9 @@ returns-then-alike_at-5 c =
     let l = c.loop-i-2 in
     let a = c.args in
     let test = count_and_scale_match a.count a.wscale in
-    let list = a.list.now in
-    let at = a.areas.records_offset + 24 * l.i in
-    here test _ _ _ l.i l.invariant.0 (search rules) l.invariant.4
+    let list = a.list.bytes.now in
+    let at = a.list.areas.records_offset + 24 * l.i in
+    here test _ _ _ l.i l.invariant.0 (search rules) l.invariant.2
     (of_record test list at l.i (omega arith) c.alike_at-in-loop-i-2-2.ensures c.if-alike_at-5.true)
 
 pub loop-i-2-preserved : goal.loop-i-2-preserved
@@ -97,13 +95,11 @@ loop-i-2-preserved c =
     let l = c.loop-i-2 in
     let a = c.args in
     let test = count_and_scale_match a.count a.wscale in
-    let list = a.list.now in
-    let at = a.areas.records_offset + 24 * l.i in (
+    let list = a.list.bytes.now in
+    let at = a.list.areas.records_offset + 24 * l.i in (
       search rules,
       search rules,
-      l.invariant.2,
-      l.invariant.3,
-      one_more test _ _ l.i l.invariant.4
+      one_more test _ _ l.i l.invariant.2
           (of_record test list at l.i (omega arith) c.alike_at-in-loop-i-2-2.ensures c.if-alike_at-5.false),
     )
 
@@ -111,4 +107,4 @@ pub returns : goal.returns
 returns c =
     let l = c.loop-i-2 in
     let a = c.args in
-    at_end (count_and_scale_match a.count a.wscale) _ _ _ l.i l.invariant.0 (omega (arith, l.invariant.1)) l.invariant.4
+    at_end (count_and_scale_match a.count a.wscale) _ _ _ l.i l.invariant.0 (omega (arith, l.invariant.1)) l.invariant.2

@@ -5,7 +5,7 @@ use Prim.Native.Nat.{◌-◌, ◌≤◌}
 use Rattle.search.proofs.finding.next_candidate.Given as goal
 
 abbrev pub invariant-loop-i : goal.invariant-loop-i
-invariant-loop-i l = (l.from ≤ l.i) × (l.i ≤ l.areas.records) × FailTo (passes l.observed) l.list l.from l.i
+invariant-loop-i l = (l.from ≤ l.i) × (l.i ≤ l.list.areas.records) × FailTo (passes l.observed) l.list.bytes.now l.from l.i
 
 abbrev pub decreases-loop-i : goal.decreases-loop-i
-decreases-loop-i l = l.areas.records - l.i
+decreases-loop-i l = l.list.areas.records - l.i

@@ -1,7 +1,0 @@
--- `counted::counted_observe` meets its contract.
-use Rattle.counted.specs.Counted.{counted_reading_in}
-use Rattle.counted.proofs.counted_observe.Goals as goal
-
-pub returns : goal.returns
-unfolding counted_reading_in
-returns c = simp (← c.peer_of.ensures, ← c.read_packet_in.ensures, ← c.plain_packet.ensures)

@@ -1,0 +1,8 @@
+use Rattle.text.proofs.Writing.{put_within}
+use borrow.Author.Rules.{rules}
+use Rattle.explain.proofs.gates.Compared.write_explained.Goals as goal
+
+pub slice_bounds-write_all-end : goal.slice_bounds-write_all-end
+slice_bounds-write_all-end c =
+    let within = put_within _ _ _ 0 _ (search rules) c.put_explained-filled.ensures in
+    search rules

@@ -1,7 +1,0 @@
-use mathlib.Core.Path.{◌∙◌, ap}
-use Rattle.explain.specs.Gating.{row_of, fails}
-use Rattle.explain.proofs.nearest.failing_at.Goals as goal
-
-pub returns : goal.returns
-returns c =
-    c.failing.ensures ∙ ap fails (c.row_of-row.ensures ∙ ap row_of c.gates_at.ensures)

@@ -1,8 +1,0 @@
-use Rattle.text.proofs.Writing.{put_within}
-use borrow.Author.Rules.{rules}
-use Rattle.explain.proofs.write_numbered.Goals as goal
-
-pub slice_bounds-write_all-end : goal.slice_bounds-write_all-end
-slice_bounds-write_all-end c =
-    let within = put_within _ _ _ 0 _ (search rules) c.put_numbered-filled.ensures in
-    search rules

@@ -1,7 +1,0 @@
-use Rattle.refusals.proofs.refusal_number.Goals as goal
-
-pub returns-in-Packet : goal.returns-in-Packet
-returns-in-Packet c = rw (c.in-Packet.is, c.packet_number.ensures)
-
-pub returns-in-List : goal.returns-in-List
-returns-in-List c = rw (c.in-List.is, c.list_number.ensures)
