@@ -65,7 +65,7 @@ pub record MultiplierTheorem : Type 0 where
 
 -- ---- the observation
 
--- What holds of every reading; beside a refusal and "nothing" stands the empty observation, of which it holds too.
+-- What holds of every reading; of a refusal and "nothing" `observation_read` gives the empty observation, of which it holds too.
 pub record TheObservation (p : List ℕ) (peer : Option ℕ) : Type 0 where
   -- "The reader never gives Guess."
   pub no_guess : (t : ℕ) → (observation_read (read_packet p peer)).ittl ≡ ttl.Guess t → ⊥

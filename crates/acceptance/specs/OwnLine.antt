@@ -22,8 +22,8 @@ pub record FitsItself (o : TcpObservation) : Type 0 where
       : search_list o (list_of_one meaning)
       ≡ Ok (record { found = found.Exact (record { label = 0; number = 0; generic = false }); examined = 1 })
 
--- In every mode, for every packet of bytes, whatever the peer's MSS. Beside a refusal and "nothing" stands the empty observation, of which
--- it holds too.
+-- In every mode, for every packet of bytes, whatever the peer's MSS. Of a refusal and "nothing" `observation_read` gives the empty
+-- observation, of which it holds too.
 pub record OwnLine : Type 0 where
   pub observed : (mode : Mode) (p : List ℕ) (peer : Option ℕ) → AllBytes p → Observed (observation_read (read_in mode p peer))
   pub fits : (mode : Mode) (p : List ℕ) (peer : Option ℕ) → AllBytes p → FitsItself (observation_read (read_in mode p peer))

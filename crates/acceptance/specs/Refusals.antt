@@ -96,7 +96,7 @@ pub data FlagsByte (p : List ℕ) : ℕ → Type 0 where
   of4 : v4.version p ≡ 4 → FlagsByte p (tcp.control (part4 p))
   of6 : v4.version p ≡ 6 → FlagsByte p (tcp.control (part6 p))
 
--- "Also returns": nothing, but for 7 the flags byte. Beside a refusal stands the one fixed empty observation, whatever the packet.
+-- "Also returns": nothing, but for 7 the flags byte. A refusal is an `Err`: no observation stands beside it.
 pub data Refused (p : List ℕ) : PacketRefusal → Type 0 where
   nothing_more : {r : PacketRefusal} → (packet_number r ≡ 7 → ⊥) → Refused p r
   flags_byte : {f : ℕ} → FlagsByte p f → Refused p (refusal.InvalidTcpFlags f)
@@ -106,7 +106,7 @@ pub record Gives (mode : Mode) (p : List ℕ) (peer : Option ℕ) : Type 0 where
   pub reading : read_in mode p peer ≡ Err why
   pub also : Refused p why
 
--- "Valid flags whose masked type is neither SYN nor SYN+ACK answer 'nothing', which is not a refusal"; nothing stands beside it either.
+-- "Valid flags whose masked type is neither SYN nor SYN+ACK answer 'nothing', which is not a refusal".
 pub data Answered (p : List ℕ) : Result Reading PacketRefusal → Type 0 where
   syn : {f : ℕ} {o : TcpObservation} → FlagsByte p f → masked_type f ≡ 2 → Answered p (Ok (reading.Opening kind.Syn o))
   syn_ack
