@@ -129,9 +129,12 @@ def function_at(file, head):
     heads = " ".join(type_ for _, type_ in f.parameters)
     f.lifetimes = len(named) + len(re.findall(r"&(?!')", heads))
     at = end + 1
-    told = re.compile(r"\s*->\s*(.*?)\s*(?=\s(?:ensures|requires)\b|\{)", re.S).match(text, at)
+    told = re.compile(r"\s*->\s*(.*?)\s*(?=\s(?:where|ensures|requires)\b|\{)", re.S).match(text, at)
     if told:
         f.result, at = told.group(1).replace("Self", f.owner), told.end()
+    bounds = re.compile(r"\s*where\b.*?(?=\s(?:ensures|requires)\b|\{)", re.S).match(text, at)
+    if bounds:
+        at = bounds.end()
     while CLAUSE.match(text, at):
         clause = CLAUSE.match(text, at)
         end = balanced(text, clause.end() - 1)
@@ -145,10 +148,15 @@ def functions(crate):
     return [function_at(file, head) for file in files(crate) for head in HEAD.finditer(file.text)]
 
 
-def check_clauses(f):
-    """A public function has one `ensures`, and asks nothing of its caller."""
+def check_asks(f):
+    """A public function asks nothing of its caller."""
     if any(kind == "requires" for kind, _ in f.clauses):
         raise Unfit("it has a `requires`")
+
+
+def check_clauses(f):
+    """It has one `ensures`, and asks nothing."""
+    check_asks(f)
     if len(f.clauses) != 1:
         raise Unfit(f"it has {len(f.clauses)} `ensures`")
     f.contract = f.clauses[0][1]

@@ -31,6 +31,12 @@ pub type Answered = Result<PacketAnswer, PacketRefusal>;
 
 pub type Read = Result<Reading, PacketRefusal>;
 
+// What a program adds below a packet's line. (A trait, and no closure: of a closure each function here would ask, by a `requires`, that it
+// may be called.)
+pub trait Below {
+    fn write(&self, list: CheckedList, answer: Answered, reading: Read) -> Result<(), Cut>;
+}
+
 // The most bytes of a bundle.
 const MOST: usize = 65535;
 
@@ -38,11 +44,12 @@ const MOST: usize = 65535;
 const LINE: usize = 452;
 
 // The packets' lines, below each what the program adds.
-fn write_packets<F>(stdout: Stdout, bundle: &[u8], list: CheckedList, below: F) -> Result<(), Cut>
-where
-    F: Fn(CheckedList, Answered, Read) -> Result<(), Cut>,
-    requires { F.IsAlwaysCallable below }
-{
+fn write_packets<B: Below>(
+    stdout: Stdout,
+    bundle: &[u8],
+    list: CheckedList,
+    below: &B,
+) -> Result<(), Cut> {
     let mut line = [0u8; LINE];
     let mut at = be16_at(bundle, 2) as usize;
     for _ in 0..be16_at(bundle, 0) {
@@ -52,7 +59,7 @@ where
         let reading = reading_at(bundle, at, end);
         let filled = put_packet(&mut line, 0, answer, reading);
         write_all(stdout, &line[0..filled])?;
-        below(list, answer, reading)?;
+        below.write(list, answer, reading)?;
         at = end;
     }
     Ok(())
@@ -80,11 +87,8 @@ fn list_of<'a>(bundle: &'a [u8]) -> &'a [u8]
 }
 
 // The lines of a bundle that passed its check.
-fn write_good<F>(stdout: Stdout, bundle: &[u8], below: F) -> Result<(), Cut>
-where
-    F: Fn(CheckedList, Answered, Read) -> Result<(), Cut>,
-    requires good { check_bundle bundle.now ≡ Ok tt }
-    requires callable { F.IsAlwaysCallable below }
+fn write_good<B: Below>(stdout: Stdout, bundle: &[u8], below: &B) -> Result<(), Cut>
+    requires { check_bundle bundle.now ≡ Ok tt }
 {
     let bytes = list_of(bundle);
     let Some(areas) = read_header(bytes) else {
@@ -96,11 +100,7 @@ where
 }
 
 // The lines of any bundle. What the program adds is handed a list that passed its check, a packet's answer, and its reading.
-fn write_bundle<F>(stdout: Stdout, bundle: &[u8], below: F) -> Result<(), Cut>
-where
-    F: Fn(CheckedList, Answered, Read) -> Result<(), Cut>,
-    requires { F.IsAlwaysCallable below }
-{
+fn write_bundle<B: Below>(stdout: Stdout, bundle: &[u8], below: &B) -> Result<(), Cut> {
     match check_bundle(bundle) {
         Ok(()) => write_good(stdout, bundle, below),
         Err(refusal) => write_refused(stdout, refusal.into()),
@@ -108,11 +108,13 @@ where
 }
 
 // What a program of this name does.
-pub fn answer_bundle<F>(stdin: Stdin, stdout: Stdout, stderr: Stderr, name: &[u8], below: F)
-where
-    F: Fn(CheckedList, Answered, Read) -> Result<(), Cut>,
-    requires { F.IsAlwaysCallable below }
-{
+pub fn answer_bundle<B: Below>(
+    stdin: Stdin,
+    stdout: Stdout,
+    stderr: Stderr,
+    name: &[u8],
+    below: &B,
+) {
     let mut buffer = [0u8; MOST];
     let count = read_full(stdin, &mut buffer);
     match ends_as(stdin, count == MOST) {

@@ -1,7 +1,7 @@
 // A word of a line: letters, and behind them a number or nothing.
 ghost use Rattle.std.specs.Prelude.{◌≤◌, length};
 
-use text::{decimal_length, put_decimal, put_word};
+use text::{decimal_length, put_byte, put_decimal};
 
 #[derive(Clone, Copy)]
 pub(crate) struct Word {
@@ -36,10 +36,14 @@ impl Word {
         }
     }
 
+    // Letter by letter: by `put_word`, tried, each word is a call of memcpy (docs/DESIGN-PASS.md, "Speed").
     pub(crate) fn put(self, buffer: &mut [u8], at: usize) -> usize
         ensures { Put buffer.old at (word_text self) result buffer.new }
     {
-        let behind = put_word(buffer, at, self.letters);
+        let mut behind = at;
+        for &letter in self.letters {
+            behind = put_byte(buffer, behind, letter);
+        }
         match self.number {
             None => behind,
             Some(n) => put_decimal(buffer, behind, n),

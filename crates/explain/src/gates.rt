@@ -136,7 +136,11 @@ pub(crate) fn row_of(gates: Gates) -> [Said; 9]
 pub(crate) fn failing(row: &[Said; 9]) -> usize
     ensures { result ≡ fails row.now }
 {
-    row.iter()
-        .filter(|said| matches!(said, Said::Fails))
-        .count()
+    let mut fields = 0;
+    for said in row {
+        if matches!(said, Said::Fails) {
+            fields += 1;
+        }
+    }
+    fields
 }

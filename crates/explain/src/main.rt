@@ -3,12 +3,26 @@
 // with the fewest fields that fail, each with which fields hold, which are tolerated and which fail.
 #![tactic(auto)]
 
-use bundle_lines::answer_bundle;
+use bundle_lines::{Answered, Below, CheckedList, Read, answer_bundle};
 use nearest::write_below;
+use std::io::Stdout;
+use streams::Cut;
 
 mod gates;
 mod lines;
 mod nearest;
+
+// Which records are nearest, and why: below each packet's line.
+#[derive(Drop)]
+struct Explained {
+    stdout: Stdout,
+}
+
+impl Below for Explained {
+    fn write(&self, list: CheckedList, answer: Answered, reading: Read) -> Result<(), Cut> {
+        write_below(self.stdout, list, answer, reading)
+    }
+}
 
 fn main(rt: HostRuntime) {
     let stdout = rt.stdout();
@@ -17,6 +31,6 @@ fn main(rt: HostRuntime) {
         stdout,
         rt.stderr(),
         b"explain",
-        |passed, answer, reading| { write_below(stdout, passed, answer, reading) },
+        &Explained { stdout },
     );
 }

@@ -94,7 +94,8 @@ pub fn mss_matches(observed: Option<u16>, signature: Option<u16>) -> bool
 pub fn wscale_matches(observed: Option<u8>, signature: Option<u8>) -> bool
     ensures { result ≡ scale_matches observed signature }
 {
-    fits_declared(observed, signature)
+    // A `return`, so that a wrong answer can be tried of the MSS alone (must-fail/absent_mss_fits.edit).
+    return fits_declared(observed, signature);
 }
 
 // The layout gate: the count, then each kind and byte up to it. Entries that no well-formed record has match nothing, so that a

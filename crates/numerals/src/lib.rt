@@ -18,7 +18,7 @@ pub struct Piece {
     pub number: u32,
 }
 
-// Nothing is meant up to this place: what a part that is refused gives, by name. (A public function that the index names.)
+// Nothing is meant up to this place: what a part that is refused gives.
 pub fn no_piece(at: usize) -> Result<Piece, BadLine>
     ensures { result ≡ no_piece at }
 {
@@ -66,7 +66,7 @@ pub fn read_numeral(s: &[u8], from: usize, max: u16, form: u32) -> Result<Piece,
 {
     let number = read_number(s, from, u32::from(max));
     if number.at == from {
-        return Err(BadLine { offset: from });
+        return no_piece(from);
     }
     Ok(Piece {
         at: number.at,
@@ -89,10 +89,10 @@ pub fn read_unnamed(s: &[u8], from: usize) -> Result<Piece, BadLine>
 {
     let number = read_number(s, from, 255);
     if number.at == from {
-        return Err(BadLine { offset: from });
+        return no_piece(from);
     }
     if !is_unnamed(number.value) {
-        return Err(BadLine { offset: number.at });
+        return no_piece(number.at);
     }
     Ok(Piece {
         at: number.at,

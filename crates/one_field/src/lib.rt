@@ -7,7 +7,7 @@ ghost use Rattle.signature_line.specs.Words.{version, bare_byte, mss, window, sc
 ghost use Rattle.one_field.specs.Places.{whole_piece, starred, behind_at, next_at, piece_at, field_at, ttl_at, ttl_field_at};
 
 use letters::{read_word, stands};
-use numerals::{Piece, read_numeral, read_unnamed};
+use numerals::{Piece, no_piece, read_numeral, read_unnamed};
 use quirk_names::{read_behind_e, read_behind_u, read_stamp, sign_behind};
 use quirks::bits;
 use signature_line::BadLine;
@@ -157,7 +157,7 @@ pub fn parse_tcp_option(s: &[u8], from: usize) -> Result<Piece, BadLine>
     ensures { result ≡ piece_at entry s.now from }
 {
     if s.len() <= from {
-        return Err(BadLine { offset: from });
+        return no_piece(from);
     }
     let next = from + 1;
     match s[from] {
@@ -168,7 +168,7 @@ pub fn parse_tcp_option(s: &[u8], from: usize) -> Result<Piece, BadLine>
         b't' => read_word(s, next, b"s", 8),
         b'e' => number_behind(s, next, b"ol+", 0),
         b'?' => read_unnamed(s, next),
-        _ => Err(BadLine { offset: from }),
+        _ => no_piece(from),
     }
 }
 
@@ -177,7 +177,7 @@ pub fn parse_quirk(s: &[u8], from: usize) -> Result<Piece, BadLine>
     ensures { result ≡ piece_at quirk_word s.now from }
 {
     if s.len() <= from {
-        return Err(BadLine { offset: from });
+        return no_piece(from);
     }
     let next = from + 1;
     match s[from] {
@@ -193,7 +193,7 @@ pub fn parse_quirk(s: &[u8], from: usize) -> Result<Piece, BadLine>
         b't' => read_stamp(s, next),
         b'o' => read_word(s, next, b"pt+", bits::TRAILINIG_NON_ZERO),
         b'b' => read_word(s, next, b"ad", bits::OPT_BAD),
-        _ => Err(BadLine { offset: from }),
+        _ => no_piece(from),
     }
 }
 

@@ -4,7 +4,7 @@ ghost use Rattle.one_field.specs.Places.{behind_e, behind_u, stamp_at, sign_behi
 
 use crate::letters::{read_word, stands};
 use crate::whole;
-use numerals::Piece;
+use numerals::{Piece, no_piece};
 use quirks::bits;
 use signature_line::BadLine;
 
@@ -50,7 +50,7 @@ pub(crate) fn read_stamp(s: &[u8], from: usize) -> Result<Piece, BadLine>
     ensures { result ≡ stamp_at s.now from }
 {
     if !stands(s, from, b's') {
-        return Err(BadLine { offset: from });
+        return no_piece(from);
     }
     let next = from + 1;
     if stands(s, next, b'1') {

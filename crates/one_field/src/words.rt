@@ -5,7 +5,7 @@ ghost use Rattle.one_field.specs.Places.{piece_at, number_behind, behind_s, plus
 
 use crate::letters::{read_word, stands};
 use crate::whole;
-use numerals::{Piece, read_numeral};
+use numerals::{Piece, no_piece, read_numeral};
 use signature_line::BadLine;
 
 // A number up to 255, behind a word.
@@ -59,12 +59,12 @@ pub(crate) fn read_multiple(s: &[u8], from: usize) -> Result<Piece, BadLine>
     ensures { result ≡ multiple_at s.now from }
 {
     if s.len() <= from {
-        return Err(BadLine { offset: from });
+        return no_piece(from);
     }
     let next = from + 1;
     match s[from] {
         b's' => number_behind(s, next, b"s*", 3),
         b't' => number_behind(s, next, b"u*", 4),
-        _ => Err(BadLine { offset: from }),
+        _ => no_piece(from),
     }
 }

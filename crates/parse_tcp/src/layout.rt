@@ -80,7 +80,7 @@ pub(crate) fn parse_olayout(s: &[u8], from: usize) -> Result<LayoutPiece, BadLin
     match parse_tcp_option(s, from) {
         Ok(first) => more_entries(s, first),
         Err(bad) if bad.offset == from => Ok(LayoutPiece {
-            at: from,
+            at: bad.offset,
             layout: Layout {
                 kinds: [0; 40],
                 bytes: [0; 40],

@@ -76,7 +76,7 @@ fn read_fields(line: &[u8]) -> Result<LineFields, BadLine>
     })
 }
 
-// Refusal 13: its offset, and nothing beside. (A public function that the index names.)
+// Refusal 13: its offset, and nothing beside.
 pub fn refused_at(at: usize) -> Result<SignatureRead, BadLine>
     ensures { result ≡ refused_at at }
 {
@@ -88,7 +88,7 @@ pub fn parse_tcp_signature(line: &[u8]) -> Result<SignatureRead, BadLine>
     ensures { result ≡ read_line line.now }
 {
     if LONGEST < line.len() {
-        return Err(BadLine { offset: LONGEST });
+        return refused_at(LONGEST);
     }
     let fields = read_fields(line)?;
     if fields.at != line.len() {

@@ -2,14 +2,17 @@
 // prints, and behind each packet's answer its raw line, or `-` where nothing was seen (document 02, Wish 7), and nothing below it.
 #![tactic(auto)]
 
-use bundle_lines::answer_bundle;
+use bundle_lines::{Answered, Below, CheckedList, Read, answer_bundle};
+use streams::Cut;
+
+struct Nothing;
+
+impl Below for Nothing {
+    fn write(&self, _list: CheckedList, _answer: Answered, _reading: Read) -> Result<(), Cut> {
+        Ok(())
+    }
+}
 
 fn main(rt: HostRuntime) {
-    answer_bundle(
-        rt.stdin(),
-        rt.stdout(),
-        rt.stderr(),
-        b"rawlines",
-        |_, _, _| Ok(()),
-    );
+    answer_bundle(rt.stdin(), rt.stdout(), rt.stderr(), b"rawlines", &Nothing);
 }

@@ -6,8 +6,8 @@ use native.Mathlib.Decide.{dec_le}
 use native.Mathlib.Omega.{arith}
 use native.Mathlib.Numerals.{add-one}
 use native.Mathlib.Nat.{add_assoc, add-zero, sub-zero, zero-sub, suc-sub-suc}
-use lib.ListN.{length, take, drop, set, length-append, length-drop, length-take, take-append-drop}
-use lib.Seq.{append_snoc, set_split, take_all, take_at, take-nil, drop_at, drop-drop, length-take-le}
+use lib.ListN.{length, take, drop, get_or, set, length-append, length-drop, length-take, take-append-drop}
+use lib.Seq.{append_snoc, set_split, paste, paste-suc, take_all, take_at, take-nil, drop_at, drop-drop, length-take-le}
 use borrow.Rule.Slice.PartMut.{put_mid}
 use Rattle.text.specs.Written.{written, room, PutAll, Put}
 
@@ -71,6 +71,21 @@ pub put_all
     → PutAll buffer at text next buffer'
 put_all buffer buffer' text at next h = subst (λ (s : List ℕ). PutAll buffer at s next buffer') (fits buffer text at h)
 
+pub all_put
+    : (buffer buffer' text : List ℕ) (at next : ℕ)
+    → length text ≤ length buffer - at
+    → PutAll buffer at text next buffer'
+    → Put buffer at text next buffer'
+all_put buffer buffer' text at next h = subst (λ (s : List ℕ). PutAll buffer at s next buffer') (sym (fits buffer text at h))
+
+pub part_put
+    : (buffer buffer' text : List ℕ) (at next left : ℕ)
+    → left ≡ length buffer - at
+    → PutAll buffer at (take (left - 0) text) next buffer'
+    → Put buffer at text next buffer'
+unfolding room
+part_put buffer buffer' text at next left e = subst (λ (k : ℕ). PutAll buffer at (take k text) next buffer') (sub-zero left ∙ e)
+
 room_length : (buffer text : List ℕ) (at : ℕ) → length (room buffer at text) ≤ length buffer - at
 unfolding room
 room_length buffer text at = omega (arith, length-take (length buffer - at) text)
@@ -93,6 +108,22 @@ put_part buffer word copied at size e part =
       omega (arith, length-take (length buffer - at) word),
       rw (same, drop-drop (at + size - at) at buffer, end) (sym (append_assoc (take at buffer) text (drop (at + length text) buffer))),
     )
+
+-- ---- a copy in a loop
+pub copy_turn
+    : (buffer₀ buffer word : List ℕ) (at i : ℕ)
+    → at + i < length buffer₀
+    → i < length word
+    → buffer ≡ paste buffer₀ at word i
+    → set buffer (at + i) (get_or word i 0) ≡ paste buffer₀ at word (i + 1)
+copy_turn buffer₀ buffer word at i inside more e =
+    ap (λ (b : List ℕ). set b (at + i) (get_or word i 0)) e
+    ∙ paste-suc buffer₀ at word i 0 inside more
+    ∙ ap (paste buffer₀ at word) (sym (add-one i))
+
+pub copied : (buffer word : List ℕ) (at i : ℕ) → i ≡ length word → paste buffer at word i ≡ written buffer at word
+unfolding written
+copied buffer word at i all = rw (all, take_all (length word) word (omega arith))
 
 -- ---- a text that finds room, and another behind it
 

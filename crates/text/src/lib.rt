@@ -3,9 +3,9 @@
 // and gives every contract a clause more, `self.new.buffer.ghost_name ≡ self.old.buffer.ghost_name`, where each has one equation now.
 #![tactic(auto)]
 
-ghost use Rattle.std.specs.Prelude.{◌≡◌, [], ◌∷◌, ◌+◌, ◌%◌, length};
+ghost use Rattle.std.specs.Prelude.{◌≡◌, [], ◌∷◌, ◌+◌, ◌-◌, ◌%◌, ◌≤◌, length};
 ghost use Rattle.text.specs.Decimal.{decimal};
-ghost use Rattle.text.specs.Written.{Put};
+ghost use Rattle.text.specs.Written.{PutAll, Put};
 
 pub fn put_byte(buffer: &mut [u8], at: usize, byte: u8) -> usize
     ensures { Put buffer.old at (byte ∷ []) result buffer.new }
@@ -17,16 +17,27 @@ pub fn put_byte(buffer: &mut [u8], at: usize, byte: u8) -> usize
     at + 1
 }
 
-// As much of a word as finds room.
+// A word that finds room.
+fn copy(buffer: &mut [u8], at: usize, word: &[u8]) -> usize
+    requires { length word.now ≤ length buffer.old - at }
+    ensures { PutAll buffer.old at word.now result buffer.new }
+{
+    for i in 0..word.len() {
+        buffer[at + i] = word[i];
+    }
+    at + word.len()
+}
+
+// As much of a word as finds room. A word that finds it goes a way of its own, on which its length is what the caller gave: one that is
+// known there is put by a store or two, where `copy_from_slice` of the lesser length is a call of memmove (docs/DESIGN-PASS.md, "Speed").
 pub fn put_word(buffer: &mut [u8], at: usize, word: &[u8]) -> usize
     ensures { Put buffer.old at word.now result buffer.new }
 {
-    let Some(left) = buffer.len().checked_sub(at) else {
-        return at;
-    };
-    let size = left.min(word.len());
-    buffer[at..at + size].copy_from_slice(&word[0..size]);
-    at + size
+    let left = buffer.len().saturating_sub(at);
+    if left < word.len() {
+        return copy(buffer, at, &word[0..left]);
+    }
+    copy(buffer, at, word)
 }
 
 fn digit(n: u16) -> u8

@@ -10,4 +10,4 @@ invariant_of-list g c =
 pub invariant_of-write_packets : goal.invariant_of-write_packets
 invariant_of-write_packets g c =
     let bytes = c.list_of-bytes in
-    record { good = rw bytes.ensures (good_list_lem _ c.requires.good) }
+    record { good = rw bytes.ensures (good_list_lem _ c.requires) }

@@ -3,4 +3,4 @@ use lib.ListN.{length}
 use Rattle.bundle_lines.proofs.write_packets.Given as goal
 
 abbrev pub invariant-loop : goal.invariant-loop
-invariant-loop g l = goal.F-IsAlwaysCallable g l.below × (length l.line ≡ 452)
+invariant-loop g l = length l.line ≡ 452

@@ -8,14 +8,15 @@ pub returns-then-number-from : goal.returns-then-number-from
 returns-then-number-from c =
     let a = c.args in
     let n = c.read_number-number in
-    gave_none 6 255 unnamed a.s.now a.from n.result n.ensures c.if-number-from.true
+    c.no_piece.ensures ∙ gave_none 6 255 unnamed a.s.now a.from n.result n.ensures c.if-number-from.true
 
 pub returns-then-not-is_unnamed : goal.returns-then-not-is_unnamed
 returns-then-not-is_unnamed c =
     let a = c.args in
     let n = c.read_number-number in
     let t = c.is_unnamed in
-    gave_unwanted 6 255 unnamed a.s.now a.from n.result n.ensures c.if-number-from.false
+    c.no_piece-then-not-is_unnamed.ensures
+    ∙ gave_unwanted 6 255 unnamed a.s.now a.from n.result n.ensures c.if-number-from.false
     (sym t.ensures ∙ c.if-not-is_unnamed.true)
 
 pub returns : goal.returns

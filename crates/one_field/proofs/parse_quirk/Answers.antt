@@ -1,5 +1,5 @@
 -- `one_field::parse_quirk` meets its contract.
-use mathlib.Core.Path.{refl, sym}
+use mathlib.Core.Path.{refl, sym, ◌∙◌}
 use native.Mathlib.Omega.{arith}
 use Rattle.quirks.specs.Quirks.{place_of, bit_of}
 use Rattle.basis.proofs.Rules.{cases}
@@ -12,7 +12,7 @@ pub returns-then-s-from : goal.returns-then-s-from
 unfolding quirk_word done
 returns-then-s-from c =
     let a = c.args in
-    sym (ends a.s.now a.from (start quirk_word) c.if-s-from.true)
+    c.no_piece.ensures ∙ sym (ends a.s.now a.from (start quirk_word) c.if-s-from.true)
 
 pub returns-in-100 : goal.returns-in-100
 unfolding quirk_word after bit_of place_of
@@ -90,4 +90,4 @@ pub returns-in_default : goal.returns-in_default
 unfolding quirk_word after done
 returns-in_default c =
     let a = c.args in
-    sym (stays a.s.now a.from (start quirk_word) (omega arith) (search cases))
+    c.no_piece-in_default.ensures ∙ sym (stays a.s.now a.from (start quirk_word) (omega arith) (search cases))

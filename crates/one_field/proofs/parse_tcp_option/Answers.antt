@@ -1,5 +1,5 @@
 -- `one_field::parse_tcp_option` meets its contract.
-use mathlib.Core.Path.{refl, sym}
+use mathlib.Core.Path.{refl, sym, ◌∙◌}
 use native.Mathlib.Omega.{arith}
 use Rattle.basis.proofs.Rules.{cases}
 use Rattle.grammar.specs.States.{start, after, done}
@@ -11,7 +11,7 @@ pub returns-then-s-from : goal.returns-then-s-from
 unfolding entry done
 returns-then-s-from c =
     let a = c.args in
-    sym (ends a.s.now a.from (start entry) c.if-s-from.true)
+    c.no_piece.ensures ∙ sym (ends a.s.now a.from (start entry) c.if-s-from.true)
 
 pub returns-in-110 : goal.returns-in-110
 unfolding entry after
@@ -59,4 +59,4 @@ pub returns-in_default : goal.returns-in_default
 unfolding entry after done
 returns-in_default c =
     let a = c.args in
-    sym (stays a.s.now a.from (start entry) (omega arith) (search cases))
+    c.no_piece-in_default.ensures ∙ sym (stays a.s.now a.from (start entry) (omega arith) (search cases))

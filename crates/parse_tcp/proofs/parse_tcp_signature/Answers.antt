@@ -7,7 +7,7 @@ use Rattle.parse_tcp.proofs.WholeLine.{gave_bad, gave_early, gave_whole}
 use Rattle.parse_tcp.proofs.parse_tcp_signature.Goals as goal
 
 pub returns-then-line-gt-LONGEST : goal.returns-then-line-gt-LONGEST
-returns-then-line-gt-LONGEST c = sym (long c.args.line.now c.if-line-gt-LONGEST.true)
+returns-then-line-gt-LONGEST c = c.refused_at.ensures ∙ sym (long c.args.line.now c.if-line-gt-LONGEST.true)
 
 pub returns-in_err-fields : goal.returns-in_err-fields
 returns-in_err-fields c =

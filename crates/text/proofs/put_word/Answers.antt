@@ -1,10 +1,10 @@
 -- `text::put_word` meets its contract.
-use native.Mathlib.Omega.{arith}
-use Rattle.text.proofs.Writing.{put_nothing, put_part}
+use Rattle.text.proofs.Writing.{all_put, part_put}
+use borrow.Author.Rules.{rules}
 use Rattle.text.proofs.put_word.Goals as goal
 
-pub returns-in_default : goal.returns-in_default
-returns-in_default c = put_nothing _ _ _ (omega (arith, c.in_default.ensures))
+pub returns-then-left-word : goal.returns-then-left-word
+returns-then-left-word c = part_put _ _ _ _ _ _ c.saturating_sub-left.ensures c.copy.ensures
 
 pub returns : goal.returns
-returns c = put_part _ _ _ _ _ (omega (arith, c.in-Some.ensures, c.min-size.ensures)) c.copy_from_slice.ensures.after
+returns c = all_put _ _ _ _ _ (search rules) c.copy-2.ensures

@@ -1,6 +1,6 @@
 -- `one_field::quirk_names::read_stamp` meets its contract.
 use Prim.Native.Nat.{◌+◌}
-use mathlib.Core.Path.{refl}
+use mathlib.Core.Path.{refl, ◌∙◌}
 use mathlib.Core.List.{List, [], ◌∷◌}
 use Rattle.basis.specs.Ascii.{ascii}
 use Rattle.quirks.specs.Quirks.{place_of, bit_of}
@@ -17,7 +17,7 @@ unfolding after done bit_of place_of
 returns-then-not-stands c =
     let a = c.args in
     let k = c.stands in
-    letter_missing a.s.now a.from 115 k.ensures stamps (c.if-not-stands.true) (λ b e. rw e) refl
+    c.no_piece.ensures ∙ letter_missing a.s.now a.from 115 k.ensures stamps (c.if-not-stands.true) (λ b e. rw e) refl
 
 pub returns-then-stands : goal.returns-then-stands
 unfolding after bit_of place_of

@@ -1,5 +1,5 @@
 -- `one_field::words::read_multiple` meets its contract.
-use mathlib.Core.Path.{refl, sym}
+use mathlib.Core.Path.{refl, sym, ◌∙◌}
 use native.Mathlib.Omega.{arith}
 use mathlib.Core.List.{List, [], ◌∷◌}
 use Rattle.basis.proofs.Rules.{cases}
@@ -16,7 +16,7 @@ pub returns-then-s-from : goal.returns-then-s-from
 unfolding done
 returns-then-s-from c =
     let a = c.args in
-    sym (ends a.s.now a.from multiples c.if-s-from.true)
+    c.no_piece.ensures ∙ sym (ends a.s.now a.from multiples c.if-s-from.true)
 
 pub returns-in-115 : goal.returns-in-115
 unfolding after
@@ -34,4 +34,4 @@ pub returns-in_default : goal.returns-in_default
 unfolding after done
 returns-in_default c =
     let a = c.args in
-    sym (stays a.s.now a.from multiples (omega arith) (search cases))
+    c.no_piece-in_default.ensures ∙ sym (stays a.s.now a.from multiples (omega arith) (search cases))

@@ -7,7 +7,7 @@ pub returns-in-Ok : goal.returns-in-Ok
 returns-in-Ok c = c.more_entries.ensures ∙ layout_some c.args.s.now c.args.from (sym c.in-Ok.ensures)
 
 pub returns-in-Err : goal.returns-in-Err
-returns-in-Err c = layout_none c.args.s.now c.args.from (sym c.in-Err.ensures) c.if-bad-from.true
+returns-in-Err c = rw c.if-bad-from.true (layout_none c.args.s.now c.args.from (sym c.in-Err.ensures) c.if-bad-from.true)
 
 pub returns-in-Err-2 : goal.returns-in-Err-2
 returns-in-Err-2 c = layout_bad c.args.s.now c.args.from (sym c.in-Err.ensures) c.if-bad-from.false
